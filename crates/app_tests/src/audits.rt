@@ -309,7 +309,7 @@ static USAGE: [Step; 1] = [Step::Usage(&[
     &["audit", "a.toml", "a.toml"],
     &["audit", "", "r"],
     &["audit", "a.toml", "b.bin"],
-    // Words that are equal behind leading `./`.
+    // Words that are equal after leading `./`.
     &["audit", "a.toml", "./a.toml"],
     &["audit", "./a.toml", "././a.toml"],
     &["audit", "a.toml", "./b.bin"],
@@ -353,7 +353,7 @@ fn saves_under_word(rt: &impl Abort, alloc: Global, report: &str) -> Result<(), 
     saves_under(rt, alloc, &mut shelf, report)
 }
 
-/// A word of which nothing is left behind `./` clashes with no other, and only leading `./` are taken off. A report is saved under its word.
+/// A word of which nothing is left after `./` clashes with no other, and only leading `./` are taken off. A report is saved under its word.
 #[test]
 fn reports_are_saved_under_their_words(rt: HostRuntime) -> Result<(), Fail> {
     for report in REPORT_WORDS {

@@ -177,7 +177,7 @@ static BYTES: [Check; 22] = [
     ("hex1", ":a !a 13", "", "hex 3 3"),
     ("hex1", ":a 00 :a", "", "hex 4 2"),
     ("hex1", "00 &q", "", "hex 5 1"),
-    // at the base 2^32 - 1 its address still fits, behind a byte it does not
+    // at the base 2^32 - 1 its address still fits, after a byte it does not
     ("hex1", ":a &a", "", "differs 0"),
     ("hex1", "00 :a &a", "", "hex 6 2"),
     ("hex2", "61 :b 62", "ab\0", "differs 2"),

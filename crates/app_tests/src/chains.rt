@@ -367,7 +367,7 @@ fn a_source_of_what_a_stage_made_gives_and_takes_nothing(rt: HostRuntime) -> Res
     Ok(())
 }
 
-/// What is wrong with the second audit, by a file that is set behind both audits, and what `chain` says of it.
+/// What is wrong with the second audit, by a file that is set after both audits, and what `chain` says of it.
 type Fault = (&'static str, &'static [u8], Status, &'static str);
 
 static FAULTS: [Fault; 8] = [
@@ -421,7 +421,7 @@ static FAULTS: [Fault; 8] = [
     ),
 ];
 
-/// Sets a file behind both audits, and runs `chain`.
+/// Sets a file after both audits, and runs `chain`.
 fn faulty(
     rt: &impl Abort,
     alloc: Global,
@@ -641,7 +641,7 @@ fn a_chain_has_at_most_sixty_four_audits(rt: HostRuntime) -> Result<(), Fail> {
     Ok(())
 }
 
-/// What stands before 64 lines, what behind them, and what is said.
+/// What stands before 64 lines, what after them, and what is said.
 type Ends = (&'static str, &'static str, &'static str);
 
 static TOO_MANY: [Ends; 3] = [
@@ -687,7 +687,7 @@ static LOADS: [&str; 13] = [
     "b.bin",
 ];
 
-/// The load of this number fails, behind the ten of both audits.
+/// The load of this number fails, after the ten of both audits.
 fn names_load(
     rt: &impl Abort,
     alloc: Global,

@@ -9,7 +9,7 @@ use std::alloc::Global;
 use std::process::Abort;
 use std::test::Fail;
 
-/// Behind the five loads of `part` the loads of `delta-start` are loads 6 to 11.
+/// After the five loads of `part` the loads of `delta-start` are loads 6 to 11.
 static START_LOADS: [(u64, &str); 6] = [
     (6, "shelf fault a.toml\n"),
     (7, "shelf fault s\n"),
@@ -19,7 +19,7 @@ static START_LOADS: [(u64, &str); 6] = [
     (11, "shelf fault b.bin\n"),
 ];
 
-/// The load of a number fails in a piece, behind so many saves, and the same call again goes on.
+/// The load of a number fails in a piece, after so many saves, and the same call again goes on.
 fn load_passes(
     rt: &impl Abort,
     alloc: Global,
@@ -87,7 +87,7 @@ fn faults_of_delta_start_are_said_and_pass(rt: HostRuntime) -> Result<(), Fail> 
     Ok(())
 }
 
-/// Behind these the loads of `delta-resume` are loads 12 to 18.
+/// After these the loads of `delta-resume` are loads 12 to 18.
 static RESUME_LOADS: [(u64, &str); 7] = [
     (12, "shelf fault a.toml\n"),
     (13, "shelf fault s\n"),

@@ -38,7 +38,7 @@ pub(crate) fn pieces(
     Ok(())
 }
 
-/// A shelf whose audit paused behind 32 steps.
+/// A shelf whose audit paused after 32 steps.
 pub(crate) fn based(alloc: Global) -> Result<MemShelf, OutOfMemory> {
     let mut shelf = audit_shelf(alloc, "", "")?;
     match ends(alloc, &mut shelf, &["part", "a.toml", "s", "r", "32"])? {
@@ -47,7 +47,7 @@ pub(crate) fn based(alloc: Global) -> Result<MemShelf, OutOfMemory> {
     }
 }
 
-/// The same with the difference behind 13 further steps.
+/// The same with the difference after 13 further steps.
 pub(crate) fn differing(alloc: Global) -> Result<MemShelf, OutOfMemory> {
     let mut shelf = based(alloc)?;
     match ends(
@@ -121,7 +121,7 @@ fn all_differences(
     says(rt, alloc, shelf, &["verify", "a.toml", "r"], yes)
 }
 
-/// Behind 13 steps of the second stage no page differs from its start; behind 31 one does, the stack's page of number 3FFFFFE.
+/// After 13 steps of the second stage no page differs from its start; after 31 one does, the stack's page of number 3FFFFFE.
 #[test]
 fn differences_come_to_the_report(rt: HostRuntime) -> Result<(), Fail> {
     let mut shelf = based(rt.alloc())?;
@@ -139,7 +139,7 @@ static PIECES: [&[Piece]; 5] = [
         ("part", "1", Status::Paused, "paused one 1\n"),
         ("delta-start", "281474976710656", Status::Yes, EQUAL),
     ],
-    // Past the end of a stage, and a stage behind the base's.
+    // Past the end of a stage, and a stage after the base's.
     &[
         ("part", "1", Status::Paused, "paused one 1\n"),
         ("delta-start", "30", Status::Paused, "paused one 31\n"),
@@ -317,7 +317,7 @@ static PATCHES: [Alteration; 12] = [
     (7, b"1", "save refused 5\n"),
     (8, b"\0", "save refused 6\n"),
     (39, b"\0", "save refused 6\n"),
-    // Another base is said before a wrong field behind it.
+    // Another base is said before a wrong field after it.
     (39, b"\0\x02", "save refused 6\n"),
     // The base has one stage, which is kept.
     (40, b"\x02", "save refused 5\n"),
@@ -401,7 +401,7 @@ static OTHER_BASES: [Piece; 4] = [
     ("delta-resume", "1", Status::Paused, "paused two 14\n"),
 ];
 
-/// A base behind 45 steps in place of the one behind 32.
+/// A base after 45 steps in place of the one after 32.
 #[test]
 fn a_difference_from_another_save_is_refused(rt: HostRuntime) -> Result<(), Fail> {
     let mut shelf = differing(rt.alloc())?;
@@ -544,7 +544,7 @@ static OPENINGS: [Opening; 9] = [
         "recipe refused 1\n",
         1,
     ),
-    // The base, the patch or the report is an input, which is judged behind the recipe.
+    // The base, the patch or the report is an input, which is judged after the recipe.
     (
         &["a.bin", "b.bin", "copy.elf", "r", "1"],
         Status::RecipeRefused,
@@ -569,7 +569,7 @@ static OPENINGS: [Opening; 9] = [
         "usage\n",
         1,
     ),
-    // So it is behind leading `./`.
+    // So it is after leading `./`.
     (
         &["a.toml", "./b.bin", "p", "r", "1"],
         Status::Usage,

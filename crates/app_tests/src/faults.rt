@@ -5,7 +5,7 @@ use crate::audits::{REPORT, audit_shelf};
 use crate::scenes::holds;
 use ddc_app::Status;
 use ddc_base::{Bytes, MemShelf, MemSink, OutOfMemory};
-use meaning::Assembly;
+use wheeler::Assembly;
 use prompt::MemPrompt;
 use std::alloc::Global;
 use std::process::Abort;
@@ -369,7 +369,7 @@ fn failed_put_passes(rt: &impl Abort, alloc: Global, call: &Call) -> Result<(), 
     passes(rt, alloc, &mut shelf, call)
 }
 
-/// The first put fails behind half of its piece; the same call on the same shelf, output and input then has its good answer.
+/// The first put fails after half of its piece; the same call on the same shelf, output and input then has its good answer.
 #[test]
 fn a_failed_put_passes(rt: HostRuntime) -> Result<(), Fail> {
     for call in &GOOD {

@@ -10,7 +10,7 @@ use std::alloc::Global;
 use std::process::Abort;
 use std::test::Fail;
 
-/// It writes the three bytes behind its first one to stream 2, and exits with 12 in its step 9.
+/// It writes the three bytes after its first one to stream 2, and exits with 12 in its step 9.
 const FAILS: &str = "13052000b7050100938515001306300093080004730000001305c0009308d00573000000";
 
 /// What is changed in the recipe, STAGE, FILE, the status and the text, and what is saved then.
@@ -222,7 +222,7 @@ fn shelf_of(alloc: Global, change: (&str, &str)) -> Result<MemShelf, OutOfMemory
     Ok(shelf)
 }
 
-/// Runs a row's command, and compares what is held under OUT behind it.
+/// Runs a row's command, and compares what is held under OUT after it.
 fn leaves(
     rt: &impl Abort,
     alloc: Global,

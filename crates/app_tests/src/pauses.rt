@@ -226,7 +226,7 @@ fn pieces_come_to_what_the_audit_does(rt: HostRuntime) -> Result<(), Fail> {
     Ok(())
 }
 
-/// A shelf with the audit that paused behind so many steps.
+/// A shelf with the audit that paused after so many steps.
 fn paused(alloc: Global, steps: &str) -> Result<MemShelf, OutOfMemory> {
     let mut shelf = audit_shelf(alloc, "", "")?;
     match ends(alloc, &mut shelf, &["part", "a.toml", "s", "r", steps])? {
@@ -437,7 +437,7 @@ static OPENINGS: [Opening; 9] = [
         "usage\n",
         1,
     ),
-    // So it is behind leading `./`; and words are judged before anything is loaded.
+    // So it is after leading `./`; and words are judged before anything is loaded.
     (
         &["a.toml", "./b.bin", "r", "1"],
         Status::Usage,
@@ -504,7 +504,7 @@ static ABSENT: [Step; 4] = [
     ),
 ];
 
-/// An input that is not there is said before a save that is none, and behind a save that is not there.
+/// An input that is not there is said before a save that is none, and after a save that is not there.
 #[test]
 fn saves_are_loaded_before_inputs(rt: HostRuntime) -> Result<(), Fail> {
     over(&rt, rt.alloc(), ("\"a.bin\"", "\"none\""), &ABSENT)?;
@@ -586,7 +586,7 @@ fn faults_of_part_are_said_and_pass(rt: HostRuntime) -> Result<(), Fail> {
     Ok(())
 }
 
-/// Behind the five loads of `part` the recipe is load 6, the save load 7, and the inputs are loads 8 to 11.
+/// After the five loads of `part` the recipe is load 6, the save load 7, and the inputs are loads 8 to 11.
 static RESUME_LOADS: [(u64, &str); 6] = [
     (6, "shelf fault a.toml\n"),
     (7, "shelf fault s\n"),

@@ -43,7 +43,7 @@ fn cut_load_passes(rt: &impl Abort, alloc: Global, load: (u64, &str)) -> Result<
     load_passes(rt, alloc, &mut shelf, load)
 }
 
-/// Whether the states before one of a number, from 1, stand as in the whole cut, and none behind it.
+/// Whether the states before one of a number, from 1, stand as in the whole cut, and none after it.
 fn stand_before(shelf: &MemShelf, whole: &MemShelf, save: u64) -> bool {
     let names = ["c.0", "c.1", "c.2", "c.3"];
     names.iter().zip(1u64..5).all(|(name, number)| stands_before(
@@ -99,7 +99,7 @@ fn faults_of_cut_are_said_and_pass(rt: HostRuntime) -> Result<(), Fail> {
     Ok(())
 }
 
-/// Behind the five loads of `cut` come those of `ends`, and the two states.
+/// After the five loads of `cut` come those of `ends`, and the two states.
 static ENDS_LOADS: [(u64, &str); 7] = [
     (6, "shelf fault a.toml\n"),
     (7, "shelf fault copy.elf\n"),

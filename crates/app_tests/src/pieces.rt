@@ -116,7 +116,7 @@ fn ends_are_those_of_the_report(rt: HostRuntime) -> Result<(), Fail> {
 /// Where `c.2` is altered, to which bytes, and what is printed of `c.1` and it.
 type Alteration = (usize, &'static [u8], Status, &'static str);
 
-/// Two runs of pages stand at 297, and three pages behind their count at 317, the program's bytes at 325. The files begin at 12,621: `in` with its
+/// Two runs of pages stand at 297, and three pages after their count at 317, the program's bytes at 325. The files begin at 12,621: `in` with its
 /// content at 12,637, `out` with its number at 12,640. The fourth of five descriptors has its cursor at 12,681, and the second stream its length at 12,712.
 static ALTERATIONS: [Alteration; 14] = [
     (0, b"d", Status::Yes, "segment yes 10\n"),

@@ -221,7 +221,7 @@ static CHANGES: [Change; 14] = [
         "\ncompare three bin equal 3\nend\n",
         "refuted header 0\n",
     ),
-    // a compare line is judged behind the stages
+    // a compare line is judged after the stages
     ("stage three 32", "stage three 31", "refuted run 3\n"),
     ("made 3 ba78", "made 3 ba79", "refuted files 2\n"),
     // of form 1 a report of one comparison is read, and refuted by its form

@@ -325,7 +325,7 @@ fn loads_that_fail_are_named(rt: HostRuntime) -> Result<(), Fail> {
     Ok(())
 }
 
-/// Behind the four loads of `kaem` each load of `kaem-verify` fails.
+/// After the four loads of `kaem` each load of `kaem-verify` fails.
 static VERIFY_LOADS: [(u64, &str); 5] = [
     (5, "shelf fault s\n"),
     (6, "shelf fault l\n"),
@@ -386,7 +386,7 @@ static UNHEARD: [Step; 4] = [
     Step::Holds("r", REPORT),
 ];
 
-/// A put that fails comes behind the save.
+/// A put that fails comes after the save.
 #[test]
 fn a_put_that_fails_leaves_the_report(rt: HostRuntime) -> Result<(), Fail> {
     over_script(&rt, rt.alloc(), &UNHEARD)?;

@@ -92,7 +92,7 @@ fn judged(
 
 /// From this line on so many are replaced by a text; what is then said.
 static CHANGES: &[(u64, u64, &str, &str)] = &[
-    // the digest of the script, and what comes behind it
+    // the digest of the script, and what comes after it
     (2, 1, "script *\n", "refuted header 0\n"),
     (2, 2, "script *\nfile 61 0 *\n", "refuted header 0\n"),
     // the files of the list: their names, lengths and digests, their order and their count
@@ -252,7 +252,7 @@ fn each_line_counts_once(rt: HostRuntime) -> Result<(), Fail> {
     Ok(())
 }
 
-/// Files that are changed behind the report, each by its name and content, and what is then said.
+/// Files that are changed after the report, each by its name and content, and what is then said.
 type Changed = (&'static str, &'static [u8], Status, &'static str);
 
 static FILES: &[Changed] = &[

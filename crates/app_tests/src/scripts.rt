@@ -244,7 +244,7 @@ static ENDS: &[End] = &[
         Status::Yes,
         "done 3 steps 44\n",
     ),
-    // a name that no file has, at the beginning and behind commands
+    // a name that no file has, at the beginning and after commands
     (
         b"out\n",
         "9",
@@ -282,7 +282,7 @@ static ENDS: &[End] = &[
         Status::RunFailed,
         "run failed 3 start elf 1 step 0\n",
     ),
-    // other ends, and nothing behind them
+    // other ends, and nothing after them
     (
         b"seven.elf\nout",
         "9",
@@ -390,7 +390,7 @@ fn many(alloc: Global, piece: &[u8], count: u64, end: &[u8]) -> Result<Bytes, Ou
     Ok(text)
 }
 
-/// A piece, how often it stands, what stands behind it, the status and the text.
+/// A piece, how often it stands, what stands after it, the status and the text.
 type Limit = (&'static [u8], u64, &'static [u8], Status, &'static str);
 
 static SCRIPT_LIMITS: &[Limit] = &[

@@ -6,7 +6,7 @@ use crate::scenes::are_calls;
 use crate::worked::EXIT;
 use ddc_app::Status;
 use ddc_base::{Bytes, MemShelf, MemSink, OutOfMemory};
-use meaning::Assembly;
+use wheeler::Assembly;
 use prompt::MemPrompt;
 use std::alloc::Global;
 use std::process::Abort;
@@ -184,9 +184,9 @@ fn stages_are_stepped_through(rt: HostRuntime) -> Result<(), Fail> {
     Ok(())
 }
 
-/// Behind `quit` no line is asked for.
+/// After `quit` no line is asked for.
 #[test]
-fn nothing_is_read_behind_the_end(rt: HostRuntime) -> Result<(), Fail> {
+fn nothing_is_read_after_the_end(rt: HostRuntime) -> Result<(), Fail> {
     let reply = "at 0 0000000000010078 addi x10, x0, -100\n";
     talks(
         &rt,
@@ -349,7 +349,7 @@ fn failed_put(
     talks_over(rt, alloc, ("", ""), &talk)
 }
 
-/// Each put of the worked session fails in turn, behind half of its reply; the lines so far are taken, and no further one.
+/// Each put of the worked session fails in turn, after half of its reply; the lines so far are taken, and no further one.
 #[test]
 fn a_failed_put_ends_the_session(rt: HostRuntime) -> Result<(), Fail> {
     for (failing, said, left) in FAILED_PUTS {
@@ -541,7 +541,7 @@ fn talks_alone(
     talks_over(rt, alloc, change, &talk)
 }
 
-/// What is behind the stage's start is not looked at: its own check, its limit, the comparison.
+/// What is after the stage's start is not looked at: its own check, its limit, the comparison.
 #[test]
 fn a_stage_is_stepped_through_alone(rt: HostRuntime) -> Result<(), Fail> {
     for (old, new, replies) in ALONE {

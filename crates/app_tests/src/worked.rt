@@ -2,7 +2,7 @@
 
 use ddc_app::Status;
 use ddc_base::{Bytes, MemShelf, MemSink, OutOfMemory, read_hex};
-use meaning::Assembly;
+use wheeler::Assembly;
 use prompt::MemPrompt;
 use std::alloc::Global;
 

@@ -7,24 +7,24 @@ use Rattle.std.proofs.lemmas.Bool.{and_parts, eqb-true}
 use Rattle.std.proofs.lemmas.List.Elements.{All-cons, All-head, All-nil, All-push, All-tail}
 use Rattle.std.proofs.lemmas.Slice.Eq.{bytes_eq-Decides}
 use Rattle.ddc_base.specs.declared.languages.Language.TheVariants.{Hex0, Hex1, Hex2, M1}
-use Rattle.recipe.specs.declared.contents.Said.{Said}
+use Rattle.recipe.specs.declared.contents.RecipeContents.{RecipeContents}
 use Rattle.recipe.specs.declared.parts.Content.TheVariants as content_of
 use Rattle.recipe.specs.declared.parts.Source.{Source}
 use Rattle.recipe.specs.declared.parts.SourceLanguage.{SourceLanguage}
 use Rattle.recipe.specs.declared.parts.SourceLanguage.TheVariants.{Defined, Other}
 use Rattle.recipe.specs.Lookups.{content_named, input_at, source_named, source_of, stage_at}
-use Rattle.wheeler.specs.Contents.{SourceText, bytes_named, content, defined, text_of}
+use Rattle.audit_rules.specs.Contents.{SourceText, bytes_named, content, defined, text_of}
 use Rattle.verifier.specs.Faults.{same_language}
-use Rattle.meaning.specs.AllContents.{all_contents, text_by}
-use Rattle.meaning.specs.AllContents as full
-use Rattle.meaning.specs.Assumptions.{Holds}
-use Rattle.meaning.specs.Follows.{audited_binary}
-use Rattle.meaning.specs.Listed.{BinaryImplements, ConcludesListed, ListedHold, lines_listed}
-use Rattle.meaning.specs.Meaning.{Compiles as Compiling, Implements as IsProgram, Prescribes}
-use Rattle.meaning.specs.declared.assumption.Assumption.{Assumption}
-use Rattle.meaning.specs.declared.assumption.Assumption.TheVariants.{Implements, Compiles}
-use Rattle.meaning.proofs.Argument.{All-back, All-front}
-use Rattle.meaning.proofs.Naming.{get-split}
+use Rattle.wheeler.specs.AllContents.{all_contents, text_by}
+use Rattle.wheeler.specs.AllContents as full
+use Rattle.wheeler.specs.Assumptions.{Holds}
+use Rattle.wheeler.specs.Follows.{audited_binary}
+use Rattle.wheeler.specs.Listed.{BinaryImplements, ConcludesListed, ListedHold, lines_listed}
+use Rattle.wheeler.specs.Meaning.{Compiles as Compiling, Implements as IsProgram, Prescribes}
+use Rattle.wheeler.specs.declared.assumption.Assumption.{Assumption}
+use Rattle.wheeler.specs.declared.assumption.Assumption.TheVariants.{Implements, Compiles}
+use Rattle.wheeler.proofs.Argument.{All-back, All-front}
+use Rattle.wheeler.proofs.Naming.{get-split}
 use Rattle.audit_chain.specs.declared.link.Link.{Link}
 use Rattle.audit_chain.specs.Chain.{input_bytes, given_contents, given_text, gives, is_given, names_input, is_struck, is_same_text, chain_line, remaining_after, same_files, same_text, text_of_stage, given_text_named, unstruck}
 use Rattle.audit_chain.specs.Composed.{EachConcludes, HoldsIn, IsTrueAudit, RemainingHold}
@@ -60,7 +60,7 @@ same-text a b is =
 -- ---- what inputs alone say is said with all contents
 
 -- an input stands for its own bytes, whatever was made
-input-content : (recipe : Said) (inputs some others : List (List ℕ)) (name : List ℕ) → names_input recipe name ≡ true
+input-content : (recipe : RecipeContents) (inputs some others : List (List ℕ)) (name : List ℕ) → names_input recipe name ≡ true
     → content recipe (record { inputs = inputs; artefacts = some }) name ≡ content recipe (record { inputs = inputs; artefacts = others }) name
 unfolding content content_named
 input-content recipe inputs some others name is = by (input_at recipe.inputs name) is where

@@ -2,14 +2,14 @@
 -- people.
 use Rattle.std.specs.Prelude.{ℕ, ◌+◌, ◌==◌, Bool, true, false, ◌&&◌, not, bytes_eq, if◌then◌else◌, Option, None, Some, is_some, option_and_then, List, [], ◌∷◌, ◌++◌, length, map, filter}
 use Rattle.std.specs.List.{list_all, list_any}
-use Rattle.recipe.specs.declared.contents.Said.{Said}
+use Rattle.recipe.specs.declared.contents.RecipeContents.{RecipeContents}
 use Rattle.recipe.specs.declared.parts.Source.{Source}
 use Rattle.recipe.specs.Lookups.{input_at, source_named, source_of}
-use Rattle.wheeler.specs.Contents.{Contents, SourceText, content, defined, text_of}
+use Rattle.audit_rules.specs.Contents.{Contents, SourceText, content, defined, text_of}
 use Rattle.verifier.specs.Faults.{same_language}
-use Rattle.meaning.specs.Listed.{lines_listed}
-use Rattle.meaning.specs.declared.assumption.Assumption.{Assumption}
-use Rattle.meaning.specs.declared.assumption.Assumption.TheVariants.{Implements, Compiles}
+use Rattle.wheeler.specs.Listed.{lines_listed}
+use Rattle.wheeler.specs.declared.assumption.Assumption.{Assumption}
+use Rattle.wheeler.specs.declared.assumption.Assumption.TheVariants.{Implements, Compiles}
 use Rattle.audit_chain.specs.declared.link.Link.{Link}
 use Rattle.audit_chain.specs.declared.link.ChainLine.{ChainLine}
 
@@ -22,7 +22,7 @@ given_contents link = record { inputs = link.inputs; artefacts = [] }
 abbrev pub input_bytes : Link → List ℕ → List ℕ
 input_bytes link name = content link.recipe (given_contents link) name
 
-abbrev pub names_input : Said → List ℕ → Bool
+abbrev pub names_input : RecipeContents → List ℕ → Bool
 names_input recipe name = is_some (input_at recipe.inputs name)
 
 -- the text of a source all of whose files are inputs

@@ -2,13 +2,13 @@
 use Rattle.std.specs.Prelude.{◌≡◌, ◌-◌, true, None, IfSome, List, All, slice_get}
 use Rattle.recipe.specs.Kept.{IsRecipe}
 use Rattle.report.specs.declared.types.Report.{Report}
-use Rattle.wheeler.specs.Bench.{all_equal}
-use Rattle.wheeler.specs.Valid.{IsInputs}
+use Rattle.audit_rules.specs.Bench.{all_equal}
+use Rattle.audit_rules.specs.Valid.{IsInputs}
 use Rattle.verifier.specs.Faults.{first_fault}
-use Rattle.meaning.specs.AllContents.{all_contents}
-use Rattle.meaning.specs.Assumptions.{Holds}
-use Rattle.meaning.specs.Listed.{ConcludesListed}
-use Rattle.meaning.specs.Meaning.{Compiles, Prescribes}
+use Rattle.wheeler.specs.AllContents.{all_contents}
+use Rattle.wheeler.specs.Assumptions.{Holds}
+use Rattle.wheeler.specs.Listed.{ConcludesListed}
+use Rattle.wheeler.specs.Meaning.{Compiles, Prescribes}
 use Rattle.audit_chain.specs.Chain.{remaining}
 use Rattle.audit_chain.specs.declared.link.Link.{Link}
 use Rattle.audit_chain.specs.declared.link.ChainLine.{ChainLine}

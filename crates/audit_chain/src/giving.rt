@@ -5,12 +5,12 @@ ghost use Rattle.recipe.specs.Lookups.{input_at};
 ghost use Rattle.std.specs.List.{list_all, list_any};
 ghost use Rattle.std.specs.Prelude.{◌≡◌, [], get_or, map, option_map};
 ghost use Rattle.verifier.specs.Faults.{same_language};
-ghost use Rattle.wheeler.specs.Contents.{defined, text_of};
+ghost use Rattle.audit_rules.specs.Contents.{defined, text_of};
 
 use crate::link::Link;
 use ddc_base::languages::Language;
 use ddc_base::{Bytes, Name};
-use meaning::Assumption;
+use wheeler::Assumption;
 use recipe::{Content, Input, Recipe, Source, SourceLanguage};
 
 /// Whether one of the earlier audits shows a line of an audit.
@@ -124,7 +124,7 @@ fn place_of(inputs: &[Input], name: &Name) -> Option<usize>
 }
 
 /// The bytes of the input of a name; none where it is no input's.
-#[tactic(auto, unfolding(wheeler::specs::Contents::content))]
+#[tactic(auto, unfolding(audit_rules::specs::Contents::content))]
 fn input_bytes<'a>(link: &'a Link, name: &Name) -> &'a [u8]
     ensures { result.now ≡ input_bytes link.now name.now }
 {
@@ -146,7 +146,7 @@ fn at(all: &[Bytes], index: usize) -> &[u8]
 }
 
 /// Whether sources of two audits have one text.
-#[tactic(auto, unfolding(crate::specs::Chain::same_text, wheeler::specs::Contents::text_of))]
+#[tactic(auto, unfolding(crate::specs::Chain::same_text, audit_rules::specs::Contents::text_of))]
 fn same_text(first: &Link, one: &Source, second: &Link, other: &Source) -> bool
     ensures { result ≡ same_text (text_of first.now.recipe (given_contents first.now) one.now)
         (text_of second.now.recipe (given_contents second.now) other.now) }

@@ -4,8 +4,8 @@ ghost use Rattle.audit_chain.specs.Composed.{EachConcludes, IsTrueAudit, Remaini
 ghost use Rattle.audit_chain.specs.declared.link.Link.{Link};
 ghost use Rattle.std.specs.Prelude.{All, List};
 
-use meaning::Meaning;
-use meaning::laws::an_equal_bench_concludes;
+use wheeler::Meaning;
+use wheeler::laws::an_equal_bench_concludes;
 use verifier::laws::one_report;
 
 /// Whatever sources mean: of audits in a row, each of which has a true report and comparisons that are all equal, if every line that remains of

@@ -1,5 +1,5 @@
 use ddc_base::ListOf;
-use meaning::Assumption;
+use wheeler::Assumption;
 use recipe::{Inputs, Recipe};
 
 /// An audit: a recipe, and the contents of its inputs in the recipe's order.

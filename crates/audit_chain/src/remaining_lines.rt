@@ -6,12 +6,12 @@ ghost use Rattle.std.specs.Prelude.{◌≡◌, ◌+◌, ◌++◌, ◌∷◌, ◌
 use crate::giving::is_struck;
 use crate::link::{ChainLine, ChainLines, ChainLinks, Link};
 use ddc_base::{ListOf, OutOfMemory};
-use meaning::{Assumption, assumptions_with_compared};
+use wheeler::{Assumption, assumptions_with_compared};
 use std::alloc::Global;
 
 /// What remains to be believed of audits in a row: the lines of each, with its number from 1, that none of the earlier audits shows.
 ///
-/// The lines of an audit are those of `meaning::assumptions`, with each compared stage counted as the program of an unchecked stage.
+/// The lines of an audit are those of `wheeler::assumptions`, with each compared stage counted as the program of an unchecked stage.
 pub fn remaining(alloc: Global, links: &ChainLinks) -> Result<ChainLines, OutOfMemory>
     requires { length links.now < 2 ^ 32 }
     ensures { IfOk result (λ lines. lines ≡ remaining links.now) }
@@ -19,7 +19,7 @@ pub fn remaining(alloc: Global, links: &ChainLinks) -> Result<ChainLines, OutOfM
     remaining_of(alloc, links.as_slice())
 }
 
-/// The same of audits that are lent.
+/// The same of audits that are borrowed.
 fn remaining_of(alloc: Global, links: &[Link]) -> Result<ChainLines, OutOfMemory>
     requires { length links.now < 2 ^ 32 }
     ensures { IfOk result (λ lines. lines ≡ remaining links.now) }

@@ -2,14 +2,14 @@
 use Rattle.std.proofs.Common.{◌≡◌, ◌∙◌, ℕ, Bool, true, false, Option, None, Result, Ok, Err, List, [], length, drop, take, le_refl, sym, ap, subst}
 use Rattle.std.specs.Prelude.{if◌then◌else◌}
 use Rattle.std.proofs.lemmas.List.{drop_all}
-use Rattle.recipe.specs.declared.contents.Said.{Said}
+use Rattle.recipe.specs.declared.contents.RecipeContents.{RecipeContents}
 use Rattle.report.specs.declared.types.Report.{Report}
-use Rattle.wheeler.specs.Bench.{all_equal, bench, bench_from, bench_report}
-use Rattle.wheeler.specs.declared.answer.Answer.{Answer as Outcome}
-use Rattle.wheeler.specs.declared.answer.Answer.TheVariants.{Completes, Fails}
-use Rattle.wheeler.specs.declared.answer.Finished.{Finished}
-use Rattle.audit_run.specs.Earlier.{done_in_order, goes_on_behind}
-use Rattle.audit_run.specs.declared.earlier.Undone.{Undone}
+use Rattle.audit_rules.specs.Bench.{all_equal, bench, bench_from, bench_report}
+use Rattle.audit_rules.specs.declared.answer.AuditAnswer.{AuditAnswer as Outcome}
+use Rattle.audit_rules.specs.declared.answer.AuditAnswer.TheVariants.{Completes, Fails}
+use Rattle.audit_rules.specs.declared.answer.Finished.{Finished}
+use Rattle.audit_run.specs.Earlier.{done_in_order, goes_on_after}
+use Rattle.audit_run.specs.declared.earlier.Unfinished.{Unfinished}
 use Rattle.verifier.specs.Verdicts.{Judges, verdict_of}
 use Rattle.verifier.specs.declared.part.Part.{Part}
 use Rattle.verifier.specs.declared.part.Verdict.{Verdict}
@@ -21,35 +21,35 @@ use Rattle.command_plan.specs.Plan.{Plan, answers}
 use Rattle.command_plan.specs.Steps.{Says}
 use Rattle.recipe_plan.specs.Reports.{compared_status}
 use Rattle.recipe_plan.specs.Texts.{compared_lines}
-use Rattle.recipe_plan.specs.NotDone.{undone}
+use Rattle.recipe_plan.specs.NotDone.{unfinished}
 use Rattle.audit_commands.specs.Demo.{demo_compared, demo_inputs, demo_line, demonstrated, steps_of_all}
 
-module _ (recipe : Said) (inputs : List (List ℕ)) (count : ℕ) (all : count ≡ length recipe.stages)
-    (law : bench recipe inputs ≡ goes_on_behind recipe inputs (drop count recipe.stages) (done_in_order recipe inputs [] (take count recipe.stages))) where
+module _ (recipe : RecipeContents) (inputs : List (List ℕ)) (count : ℕ) (all : count ≡ length recipe.stages)
+    (law : bench recipe inputs ≡ goes_on_after recipe inputs (drop count recipe.stages) (done_in_order recipe inputs [] (take count recipe.stages))) where
   -- all stages are done
-  pub whole : (done : List Finished) → ◌≡◌ {A = Result (List Finished) Undone} (Ok done) (done_in_order recipe inputs [] (take count recipe.stages))
+  pub whole : (done : List Finished) → ◌≡◌ {A = Result (List Finished) Unfinished} (Ok done) (done_in_order recipe inputs [] (take count recipe.stages))
       → bench recipe inputs ≡ Completes (bench_report recipe inputs done)
   whole done is =
       let none : drop count recipe.stages ≡ [] = ap (λ n. drop n recipe.stages) all ∙ drop_all (length recipe.stages) recipe.stages (le_refl (length recipe.stages)) in
-      law ∙ ap (goes_on_behind recipe inputs (drop count recipe.stages)) (sym is) ∙ ap (bench_from recipe inputs done) none
+      law ∙ ap (goes_on_after recipe inputs (drop count recipe.stages)) (sym is) ∙ ap (bench_from recipe inputs done) none
 
   -- one is not
-  pub stopped : (not_done : Undone) → ◌≡◌ {A = Result (List Finished) Undone} (Err not_done) (done_in_order recipe inputs [] (take count recipe.stages))
+  pub stopped : (not_done : Unfinished) → ◌≡◌ {A = Result (List Finished) Unfinished} (Err not_done) (done_in_order recipe inputs [] (take count recipe.stages))
       → bench recipe inputs ≡ Fails not_done.stage not_done.fault
-  stopped not_done is = law ∙ ap (goes_on_behind recipe inputs (drop count recipe.stages)) (sym is)
+  stopped not_done is = law ∙ ap (goes_on_after recipe inputs (drop count recipe.stages)) (sym is)
 
-pub says_completed : (size : ℕ) (recipe : Said) (outcome : Outcome) (report : Report) (result : Result Answer Stop) → outcome ≡ Completes report
+pub says_completed : (size : ℕ) (recipe : RecipeContents) (outcome : Outcome) (report : Report) (result : Result Answer Stop) → outcome ≡ Completes report
     → Says (demo_compared size report) result → Says (demonstrated size recipe outcome) result
 says_completed size recipe outcome report result is said = subst (λ o. Says (demonstrated size recipe o) result) (sym is) said
 
-pub says_stopped : (size : ℕ) (recipe : Said) (outcome : Outcome) (not_done : Undone) (result : Result Answer Stop) → outcome ≡ Fails not_done.stage not_done.fault
-    → Says (undone recipe not_done.stage not_done.fault) result → Says (demonstrated size recipe outcome) result
+pub says_stopped : (size : ℕ) (recipe : RecipeContents) (outcome : Outcome) (not_done : Unfinished) (result : Result Answer Stop) → outcome ≡ Fails not_done.stage not_done.fault
+    → Says (unfinished recipe not_done.stage not_done.fault) result → Says (demonstrated size recipe outcome) result
 says_stopped size recipe outcome not_done result is said = subst (λ o. Says (demonstrated size recipe o) result) (sym is) said
 
--- files that are lent are the files
-pub of_files : (size : ℕ) (recipe : Said) (lent program held source made : List ℕ) (result : Result Answer Stop) → lent ≡ program → held ≡ source
-    → Says (demonstrated size recipe (bench recipe (demo_inputs recipe lent held made))) result → Says (demonstrated size recipe (bench recipe (demo_inputs recipe program source made))) result
-of_files size recipe lent program held source made result same alike said =
+-- files that are borrowed are the files
+pub of_files : (size : ℕ) (recipe : RecipeContents) (borrowed program held source made : List ℕ) (result : Result Answer Stop) → borrowed ≡ program → held ≡ source
+    → Says (demonstrated size recipe (bench recipe (demo_inputs recipe borrowed held made))) result → Says (demonstrated size recipe (bench recipe (demo_inputs recipe program source made))) result
+of_files size recipe borrowed program held source made result same alike said =
     subst (λ bytes. Says (demonstrated size recipe (bench recipe (demo_inputs recipe program bytes made))) result) alike
     (subst (λ bytes. Says (demonstrated size recipe (bench recipe (demo_inputs recipe bytes held made))) result) same said)
 

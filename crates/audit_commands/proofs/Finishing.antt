@@ -1,9 +1,9 @@
 -- Where an audit came to that went on.
 use Rattle.std.proofs.Common.{◌≡◌, ℕ, List, Option, None, Some, Result, ap, sym, subst, ◌∙◌}
 use Rattle.std.proofs.lemmas.Option.{same_Some}
-use Rattle.recipe.specs.declared.contents.Said.{Said}
-use Rattle.wheeler.specs.declared.answer.Answer.{Answer as Outcome}
-use Rattle.wheeler.specs.Positions.{Position, Standing, On, Over, forward_from, position}
+use Rattle.recipe.specs.declared.contents.RecipeContents.{RecipeContents}
+use Rattle.audit_rules.specs.declared.answer.AuditAnswer.{AuditAnswer as Outcome}
+use Rattle.audit_rules.specs.Positions.{Position, Standing, On, Over, forward_from, position}
 use Rattle.audit_run.specs.Saved.{IsOn}
 use Rattle.audit_run.specs.Seen as seen
 use Rattle.audit_run.specs.Seen.{AuditState, finished_answer}
@@ -22,7 +22,7 @@ module _ (now : Option Standing) where
       let no : None ≡ Some answer = none ∙ ap finished_answer is in
       absurd cc
 
-  module _ (recipe : Said) (text : Position → List ℕ) (name report : List ℕ) (old new : ShelfState) (result : Result Answer Stop) where
+  module _ (recipe : RecipeContents) (text : Position → List ℕ) (name report : List ℕ) (old new : ShelfState) (result : Result Answer Stop) where
     pub pauses : (stands : Standing) → now ≡ Some stands → None ≡ finished_answer now → ((p : Position) → now ≡ Some (On p) → Performs (paused recipe text name p) old new result)
         → Performs (came_to recipe text name report stands) old new result
     pauses (On p) is none performs = performs p is
@@ -41,7 +41,7 @@ module _ (now : Option Standing) where
         subst (λ a. Performs (audited recipe report a) old new result) (same_Some answer other both) performs
 
 -- where an audit that begins comes to
-pub begun : (recipe : Said) (inputs : List (List ℕ)) (audit : AuditState) (save report : List ℕ) (steps : ℕ) (old new : ShelfState) (result : Result Answer Stop)
+pub begun : (recipe : RecipeContents) (inputs : List (List ℕ)) (audit : AuditState) (save report : List ℕ) (steps : ℕ) (old new : ShelfState) (result : Result Answer Stop)
     → audit ≡ record { recipe = recipe; inputs = inputs; stands = None }
     → Performs (came_to audit.recipe (whole_save audit.recipe audit.inputs) save report (forward_from audit.recipe audit.inputs (seen.standing audit) steps)) old new result
     → Performs (came_to recipe (whole_save recipe inputs) save report (position recipe inputs steps)) old new result

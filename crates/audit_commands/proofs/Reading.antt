@@ -1,7 +1,7 @@
 -- What a text is as a save is what was read of it, where memory was not wanting.
 use Rattle.std.proofs.Common.{◌≢◌, ℕ, List, Ok, Err}
 use Rattle.ddc_base.specs.Outside.{ShelfState}
-use Rattle.recipe.specs.declared.contents.Said.{Said}
+use Rattle.recipe.specs.declared.contents.RecipeContents.{RecipeContents}
 use Rattle.audit_run.specs.declared.save.reading.SaveRefusal.{SaveRefusal}
 use Rattle.audit_run.specs.declared.save.reading.SaveRefusal.TheVariants.{Form, OtherRecipe, State, OutOfMemory}
 use Rattle.audit_run.proofs.SaveLemmas.Answered.{is_answer}
@@ -18,7 +18,7 @@ use Rattle.audit_commands.specs.Inside.Refusing.{Refuses}
 use Rattle.audit_commands.specs.Pause.{needs_position, read_as}
 use Rattle.audit_commands.specs.PauseTexts.{save_refused_line}
 
-module _ (recipe : Said) (inputs : List (List ℕ)) (text : List ℕ) (shelf : ShelfState) where
+module _ (recipe : RecipeContents) (inputs : List (List ℕ)) (text : List ℕ) (shelf : ShelfState) where
   -- the plan of a save that is read, as one over audits
   abbrev pub needs_audit : (AuditState → Plan) → Plan
   needs_audit next = needs_position recipe inputs text (λ p. next (standing_at recipe inputs p))

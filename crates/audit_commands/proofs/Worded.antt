@@ -5,9 +5,9 @@ use Rattle.command_plan.specs.Plan.{Plan}
 use Rattle.command_plan.specs.Words.{are_three_files, are_two_files, as_steps, as_three_files, or_usage, usage}
 use Rattle.audit_commands.specs.Audit.{audit_files, audit_plan}
 use Rattle.audit_commands.specs.Delta.{are_four_files, delta_resume_files, delta_resume_plan, delta_start_files, delta_start_plan}
-use Rattle.audit_commands.specs.Inside.Words.{as_four_files, beside_of, beside_words, report_of, report_words, whole_of, whole_words}
+use Rattle.audit_commands.specs.Inside.Words.{as_four_files, relative_of, relative_words, report_of, report_words, whole_of, whole_words}
 use Rattle.audit_commands.specs.Pause.{part_files, part_plan, resume_files, resume_plan}
-use Rattle.audit_commands.specs.declared.words.BesideWords.{BesideWords}
+use Rattle.audit_commands.specs.declared.words.RelativeWords.{RelativeWords}
 use Rattle.audit_commands.specs.declared.words.PieceWords.{PieceWords}
 use Rattle.audit_commands.specs.declared.words.ReportWords.{ReportWords}
 
@@ -95,21 +95,21 @@ module _ (recipe base patch report : List ℕ) where
           ∙ ap (λ (f : List ℕ × List ℕ × List ℕ). Some (recipe, base, f.1, report)) (is_on second (recipe, patch, report) c is_second).1
           ∙ ap (λ b. four_of true true b) on ∙ both (are_two_files base patch)
 
-abbrev pub over_beside : (List ℕ → List ℕ → List ℕ → List ℕ → ℕ → Plan) → BesideWords → Plan
-over_beside files w = files w.recipe w.base w.piece.save w.piece.report w.piece.steps
+abbrev pub over_relative : (List ℕ → List ℕ → List ℕ → List ℕ → ℕ → Plan) → RelativeWords → Plan
+over_relative files w = files w.recipe w.base w.piece.save w.piece.report w.piece.steps
 
 four : (files : List ℕ → List ℕ → List ℕ → List ℕ → ℕ → Plan) (recipe base patch report : List ℕ) (apart : Bool) (steps : Option ℕ)
     → or_usage steps (λ count. if apart then files recipe base patch report count else usage)
-    ≡ or_usage (beside_of (if apart then Some (recipe, base, patch, report) else None) steps) (over_beside files)
+    ≡ or_usage (relative_of (if apart then Some (recipe, base, patch, report) else None) steps) (over_relative files)
 four files recipe base patch report true (Some count) = refl
 four files recipe base patch report false (Some count) = refl
 four files recipe base patch report true None = refl
 four files recipe base patch report false None = refl
 
-pub delta_starts : (words : List (List ℕ)) → delta_start_plan words ≡ or_usage (beside_words words) (over_beside delta_start_files)
+pub delta_starts : (words : List (List ℕ)) → delta_start_plan words ≡ or_usage (relative_words words) (over_relative delta_start_files)
 delta_starts (recipe ∷ base ∷ patch ∷ report ∷ steps ∷ []) = four delta_start_files recipe base patch report (are_four_files recipe base patch report) (as_steps steps)
 delta_starts _ = refl
 
-pub delta_resumes : (words : List (List ℕ)) → delta_resume_plan words ≡ or_usage (beside_words words) (over_beside delta_resume_files)
+pub delta_resumes : (words : List (List ℕ)) → delta_resume_plan words ≡ or_usage (relative_words words) (over_relative delta_resume_files)
 delta_resumes (recipe ∷ base ∷ patch ∷ report ∷ steps ∷ []) = four delta_resume_files recipe base patch report (are_four_files recipe base patch report) (as_steps steps)
 delta_resumes _ = refl

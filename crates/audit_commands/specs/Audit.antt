@@ -1,18 +1,18 @@
 -- `audit RECIPE REPORT`: the stages of a recipe are run, and their report is saved. docs/reference/command-line.md and
 -- docs/reference/audit.md say the same for people.
 use Rattle.std.specs.Prelude.{ℕ, List, [], ◌∷◌, if◌then◌else◌}
-use Rattle.recipe.specs.declared.contents.Said.{Said}
+use Rattle.recipe.specs.declared.contents.RecipeContents.{RecipeContents}
 use Rattle.report.specs.Reports.{report_text}
 use Rattle.report.specs.declared.types.Report.{Report}
-use Rattle.wheeler.specs.Bench.{bench}
-use Rattle.wheeler.specs.declared.answer.Answer.{Answer}
-use Rattle.wheeler.specs.declared.answer.Answer.TheVariants.{Completes, Fails}
+use Rattle.audit_rules.specs.Bench.{bench}
+use Rattle.audit_rules.specs.declared.answer.AuditAnswer.{AuditAnswer}
+use Rattle.audit_rules.specs.declared.answer.AuditAnswer.TheVariants.{Completes, Fails}
 use Rattle.command_plan.specs.Words.{are_two_files, usage}
 use Rattle.command_plan.specs.Plan.{Plan, answers, sets}
 use Rattle.recipe_plan.specs.Recipes.{needs_apart, needs_inputs, needs_recipe}
 use Rattle.recipe_plan.specs.Reports.{compared_status}
 use Rattle.recipe_plan.specs.Texts.{compared_lines}
-use Rattle.recipe_plan.specs.NotDone.{undone}
+use Rattle.recipe_plan.specs.NotDone.{unfinished}
 
 -- a report is saved, and its comparisons are said
 unfoldable pub completed : List ℕ → Report → Plan
@@ -20,9 +20,9 @@ completed out report =
     sets out (report_text report) (answers (compared_status report.compare) (compared_lines report.compare))
 
 -- what an audit comes to
-abbrev pub audited : Said → List ℕ → Answer → Plan
+abbrev pub audited : RecipeContents → List ℕ → AuditAnswer → Plan
 audited recipe out (Completes report) = completed out report
-audited recipe out (Fails number fault) = undone recipe number fault
+audited recipe out (Fails number fault) = unfinished recipe number fault
 
 -- the recipe, a report that is none of its inputs, the inputs, and then the audit
 unfoldable pub audit_files : List ℕ → List ℕ → Plan

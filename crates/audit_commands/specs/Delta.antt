@@ -2,8 +2,8 @@
 -- where a whole save says that it stands, or from where that save and a delta say it, and what differs from the whole save is kept.
 -- docs/reference/command-line.md and docs/reference/delta.md say the same for people.
 use Rattle.std.specs.Prelude.{ℕ, Bool, ◌&&◌, Result, List, [], ◌∷◌, if◌then◌else◌}
-use Rattle.recipe.specs.declared.contents.Said.{Said}
-use Rattle.wheeler.specs.Positions.{Position, forward}
+use Rattle.recipe.specs.declared.contents.RecipeContents.{RecipeContents}
+use Rattle.audit_rules.specs.Positions.{Position, forward}
 use Rattle.audit_run.specs.Delta.Deltas.{delta_text_of}
 use Rattle.audit_run.specs.Delta.Judged.{judged_from}
 use Rattle.audit_run.specs.Save.Saves.{save_of}
@@ -18,8 +18,8 @@ use Rattle.audit_commands.specs.PauseTexts.{delta_refused_line}
 -- ---- `delta-start`
 
 -- the position that BASE says, and then the audit from there: what differs from that position is kept
-abbrev pub starts_beside : Said → List (List ℕ) → List ℕ → List ℕ → List ℕ → ℕ → Plan
-starts_beside recipe inputs text patch report steps =
+abbrev pub starts_relative : RecipeContents → List (List ℕ) → List ℕ → List ℕ → List ℕ → ℕ → Plan
+starts_relative recipe inputs text patch report steps =
     needs_position recipe inputs text (λ base.
     came_to recipe (delta_text_of recipe inputs base) patch report (forward recipe inputs base steps))
 
@@ -33,27 +33,27 @@ delta_start_files recipe base patch report steps =
     needs_apart said patch (λ _.
     needs base 4_294_967_296 (λ text.
     needs_inputs said (λ inputs.
-    starts_beside said inputs text patch report steps))))))
+    starts_relative said inputs text patch report steps))))))
 
 -- ---- `delta-resume`
 
 -- what a text is as a delta against a base: the one result that the rules of deltas allow, which is never want of memory
-unfoldable pub read_beside : Said → List (List ℕ) → Position → List ℕ → Result Position DeltaRefusal
-read_beside recipe inputs base text = judged_from recipe (save_of recipe inputs base) text
+unfoldable pub read_relative : RecipeContents → List (List ℕ) → Position → List ℕ → Result Position DeltaRefusal
+read_relative recipe inputs base text = judged_from recipe (save_of recipe inputs base) text
 
 -- the position that a delta says, reached or not; or the delta is refused
-abbrev pub needs_position_beside : Said → List (List ℕ) → Position → List ℕ → (Position → Plan) → Plan
-needs_position_beside recipe inputs base text next =
-    unless_refused (read_beside recipe inputs base text) (λ refusal. answers SaveRefused (delta_refused_line refusal)) next
+abbrev pub needs_position_relative : RecipeContents → List (List ℕ) → Position → List ℕ → (Position → Plan) → Plan
+needs_position_relative recipe inputs base text next =
+    unless_refused (read_relative recipe inputs base text) (λ refusal. answers SaveRefused (delta_refused_line refusal)) next
 
 -- the position that BASE and PATCH say, and then the audit from there: what differs from the position of BASE is kept
-abbrev pub resumes_beside : Said → List (List ℕ) → List ℕ → List ℕ → List ℕ → List ℕ → ℕ → Plan
-resumes_beside recipe inputs text delta patch report steps =
+abbrev pub resumes_relative : RecipeContents → List (List ℕ) → List ℕ → List ℕ → List ℕ → List ℕ → ℕ → Plan
+resumes_relative recipe inputs text delta patch report steps =
     needs_position recipe inputs text (λ base.
-    needs_position_beside recipe inputs base delta (λ p.
+    needs_position_relative recipe inputs base delta (λ p.
     came_to recipe (delta_text_of recipe inputs base) patch report (forward recipe inputs p steps)))
 
--- the same, with the patch loaded behind the base, of as many bytes at most
+-- the same, with the patch loaded after the base, of as many bytes at most
 unfoldable pub delta_resume_files : List ℕ → List ℕ → List ℕ → List ℕ → ℕ → Plan
 delta_resume_files recipe base patch report steps =
     needs_recipe recipe (λ said.
@@ -63,7 +63,7 @@ delta_resume_files recipe base patch report steps =
     needs base 4_294_967_296 (λ text.
     needs patch 4_294_967_296 (λ delta.
     needs_inputs said (λ inputs.
-    resumes_beside said inputs text delta patch report steps)))))))
+    resumes_relative said inputs text delta patch report steps)))))))
 
 -- ---- the words
 

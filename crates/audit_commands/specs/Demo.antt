@@ -2,19 +2,19 @@
 use Rattle.std.specs.Prelude.{ℕ, zero, suc, ◌+◌, ◌*◌, ◌/◌, ◌%◌, ◌&&◌, Option, None, Some, List, [], ◌∷◌, ◌++◌, bytes_eq, codes, decimal, map, nat_le, sum_by, if◌then◌else◌}
 use Rattle.ddc_base.specs.Decimals.{as_decimal}
 use Rattle.ddc_base.specs.Lines.{line}
-use Rattle.recipe.specs.declared.contents.Said.{Said}
+use Rattle.recipe.specs.declared.contents.RecipeContents.{RecipeContents}
 use Rattle.recipe.specs.declared.parts.Input.{Input}
 use Rattle.report.specs.declared.types.Report.{Report}
 use Rattle.report.specs.declared.types.StageLine.{StageLine}
-use Rattle.wheeler.specs.Bench.{all_equal, bench}
-use Rattle.wheeler.specs.declared.answer.Answer.{Answer}
-use Rattle.wheeler.specs.declared.answer.Answer.TheVariants.{Completes, Fails}
+use Rattle.audit_rules.specs.Bench.{all_equal, bench}
+use Rattle.audit_rules.specs.declared.answer.AuditAnswer.{AuditAnswer}
+use Rattle.audit_rules.specs.declared.answer.AuditAnswer.TheVariants.{Completes, Fails}
 use Rattle.command_plan.specs.declared.status.Status.TheVariants as status
 use Rattle.command_plan.specs.Words.{or_usage, usage}
 use Rattle.command_plan.specs.Plan.{Plan, answers, needs}
 use Rattle.recipe_plan.specs.Recipes.{reads_recipe}
 use Rattle.recipe_plan.specs.Texts.{compared_lines}
-use Rattle.recipe_plan.specs.NotDone.{undone}
+use Rattle.recipe_plan.specs.NotDone.{unfinished}
 
 -- N: a number from 1 to 16,777,216
 abbrev pub within_demo : Option ℕ → Option ℕ
@@ -41,7 +41,7 @@ abbrev pub demo_input : List ℕ → List ℕ → List ℕ → List ℕ → List
 demo_input program source made path =
     if bytes_eq path (codes "copy.elf") then program else (if bytes_eq path (codes "copy.hex0") then source else made)
 
-abbrev pub demo_inputs : Said → List ℕ → List ℕ → List ℕ → List (List ℕ)
+abbrev pub demo_inputs : RecipeContents → List ℕ → List ℕ → List ℕ → List (List ℕ)
 demo_inputs recipe program source made = map (λ (input : Input). demo_input program source made input.path) recipe.inputs
 
 -- an audit of so many bytes took these steps, and its artefact is equal
@@ -58,9 +58,9 @@ demo_compared size report =
     if all_equal report.compare then answers status.Yes (demo_line size (steps_of_all report))
     else answers status.Differs (compared_lines report.compare)
 
-abbrev pub demonstrated : ℕ → Said → Answer → Plan
+abbrev pub demonstrated : ℕ → RecipeContents → AuditAnswer → Plan
 demonstrated size recipe (Completes report) = demo_compared size report
-demonstrated size recipe (Fails number fault) = undone recipe number fault
+demonstrated size recipe (Fails number fault) = unfinished recipe number fault
 
 -- the two files, the recipe, and then the audit
 unfoldable pub demo_files : ℕ → Plan

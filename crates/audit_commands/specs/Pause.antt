@@ -1,9 +1,9 @@
 -- `part RECIPE SAVE REPORT STEPS` and `resume RECIPE SAVE REPORT STEPS`: an audit goes on by at most so many steps, from its beginning or from
 -- where a save says that it stands. docs/reference/command-line.md and docs/reference/save.md say the same for people.
 use Rattle.std.specs.Prelude.{ℕ, ◌+◌, Result, List, [], ◌∷◌, length, if◌then◌else◌}
-use Rattle.recipe.specs.declared.contents.Said.{Said}
-use Rattle.wheeler.specs.Positions.{Position, Standing, On, Over, forward, position}
-use Rattle.save_text.specs.Spelled.{text_of_save}
+use Rattle.recipe.specs.declared.contents.RecipeContents.{RecipeContents}
+use Rattle.audit_rules.specs.Positions.{Position, Standing, On, Over, forward, position}
+use Rattle.save_format.specs.Spelled.{text_of_save}
 use Rattle.audit_run.specs.Save.Judged.{judged}
 use Rattle.audit_run.specs.Save.Saves.{save_of}
 use Rattle.audit_run.specs.declared.save.reading.SaveRefusal.{SaveRefusal}
@@ -18,16 +18,16 @@ use Rattle.audit_commands.specs.PauseTexts.{paused_line, save_refused_line}
 -- ---- where an audit came to
 
 -- what these commands keep of a position: its whole save
-abbrev pub whole_save : Said → List (List ℕ) → Position → List ℕ
+abbrev pub whole_save : RecipeContents → List (List ℕ) → Position → List ℕ
 whole_save recipe inputs p = text_of_save (save_of recipe inputs p)
 
 -- it stands at a position: what is kept of it is set, and the present stage is said, with the steps that were taken in it
-unfoldable pub paused : Said → (Position → List ℕ) → List ℕ → Position → Plan
+unfoldable pub paused : RecipeContents → (Position → List ℕ) → List ℕ → Position → Plan
 paused recipe kept name p =
     sets name (kept p) (answers Paused (paused_line (stage_name recipe.stages (length p.done + 1)) p.at.steps))
 
 -- it is over, which is told as `audit` tells it, or it stands at a position
-abbrev pub came_to : Said → (Position → List ℕ) → List ℕ → List ℕ → Standing → Plan
+abbrev pub came_to : RecipeContents → (Position → List ℕ) → List ℕ → List ℕ → Standing → Plan
 came_to recipe kept name report (Over answer) = audited recipe report answer
 came_to recipe kept name report (On p) = paused recipe kept name p
 
@@ -45,11 +45,11 @@ part_files recipe save report steps =
 -- ---- `resume`
 
 -- what a text is as a save of a recipe and its inputs: the one result that the rules of saves allow, which is never want of memory
-unfoldable pub read_as : Said → List (List ℕ) → List ℕ → Result Position SaveRefusal
+unfoldable pub read_as : RecipeContents → List (List ℕ) → List ℕ → Result Position SaveRefusal
 read_as recipe inputs text = judged recipe inputs text
 
 -- the position that a save says, reached or not; or the save is refused
-abbrev pub needs_position : Said → List (List ℕ) → List ℕ → (Position → Plan) → Plan
+abbrev pub needs_position : RecipeContents → List (List ℕ) → List ℕ → (Position → Plan) → Plan
 needs_position recipe inputs text next =
     unless_refused (read_as recipe inputs text) (λ refusal. answers SaveRefused (save_refused_line refusal)) next
 

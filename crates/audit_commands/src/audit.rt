@@ -2,8 +2,8 @@
 
 ghost use Rattle.std.specs.Prelude.{◌≡◌, map, IfOk};
 ghost use Rattle.report.specs.Reports.{IsReport};
-ghost use Rattle.wheeler.specs.Bench.{bench};
-ghost use Rattle.wheeler.specs.Valid.{IsAuditAnswer, IsInputs};
+ghost use Rattle.audit_rules.specs.Bench.{bench};
+ghost use Rattle.audit_rules.specs.Valid.{IsAuditAnswer, IsInputs};
 ghost use Rattle.command_plan.specs.Performs.{Performs};
 ghost use Rattle.recipe_plan.specs.Recipes.{needs_apart, needs_inputs};
 ghost use Rattle.recipe_plan.specs.Reports.{compared_status};
@@ -16,7 +16,7 @@ use command_plan::{Answer, FileName, Stop, keep, usage};
 use ddc_base::{Bytes, OutOfMemory, Shelf};
 use recipe::Recipe;
 use recipe_plan::texts::compared_lines;
-use recipe_plan::{apart, compared_status, fetch_inputs, fetch_recipe, undone};
+use recipe_plan::{apart, compared_status, fetch_inputs, fetch_recipe, unfinished};
 use report::{CompareLine, Report};
 use std::alloc::Global;
 
@@ -73,15 +73,15 @@ pub fn tell<S: Shelf>(
     alloc: Global,
     shelf: &mut S,
     recipe: &Recipe,
-    answer: &wheeler::Answer,
+    answer: &audit_rules::AuditAnswer,
     report: &FileName<'_>,
 ) -> Result<Answer, Stop>
     requires { IsAuditAnswer answer.now }
     ensures { Performs (audited recipe.now report.now answer.now) (S.state shelf.old) (S.state shelf.new) result }
 {
     match answer {
-        wheeler::Answer::Completes(made) => keep_report(alloc, shelf, made, report),
-        wheeler::Answer::Fails(stage, fault) => undone(alloc, recipe, *stage, *fault),
+        audit_rules::AuditAnswer::Completes(made) => keep_report(alloc, shelf, made, report),
+        audit_rules::AuditAnswer::Fails(stage, fault) => unfinished(alloc, recipe, *stage, *fault),
     }
 }
 

@@ -3,21 +3,21 @@
 
 ghost use Rattle.std.specs.Prelude.{IfOk, map};
 ghost use Rattle.recipe.specs.Kept.{IsRecipe};
-ghost use Rattle.wheeler.specs.Valid.{IsInputs};
+ghost use Rattle.audit_rules.specs.Valid.{IsInputs};
 ghost use Rattle.command_plan.specs.declared.status.Status.TheVariants.{SaveRefused};
 ghost use Rattle.command_plan.specs.Performs.{Performs};
 ghost use Rattle.command_plan.specs.Plan.{answers, needs};
 ghost use Rattle.command_plan.specs.Steps.{Says};
 ghost use Rattle.recipe_plan.specs.Recipes.{needs_inputs};
-ghost use Rattle.audit_run.specs.Delta.Audits.{IsResumedBeside, ResumesAuditBeside};
-ghost use Rattle.audit_commands.specs.Delta.{delta_resume_files, delta_resume_plan, resumes_beside};
+ghost use Rattle.audit_run.specs.Delta.Audits.{IsResumedRelative, ResumesAuditRelative};
+ghost use Rattle.audit_commands.specs.Delta.{delta_resume_files, delta_resume_plan, resumes_relative};
 ghost use Rattle.audit_commands.specs.Inside.Refusing.{RefusesDelta};
 ghost use Rattle.audit_commands.specs.PauseTexts.{delta_refused_line};
 
-use crate::fetching::{SAVE_LIMIT, fetch_beside, fetch_save};
+use crate::fetching::{SAVE_LIMIT, fetch_relative, fetch_save};
 use crate::going::{Kept, go_on};
 use crate::pause_texts;
-use crate::words::{BesideWords, Piece};
+use crate::words::{RelativeWords, Piece};
 use audit_run::{Audit, DeltaRefusal};
 use command_plan::{Answer, Status, Stop, fetch, usage};
 use ddc_base::{Bytes, Shelf};
@@ -28,7 +28,7 @@ use std::alloc::Global;
 pub fn perform<S: Shelf>(alloc: Global, words: &[&str], shelf: &mut S) -> Result<Answer, Stop>
     ensures { Performs (delta_resume_plan (map (λ w. w.now) words.now)) (S.state shelf.old) (S.state shelf.new) result }
 {
-    let Some(words) = BesideWords::read(words) else {
+    let Some(words) = RelativeWords::read(words) else {
         return usage(alloc);
     };
     delta_resume(alloc, shelf, &words)
@@ -38,12 +38,12 @@ pub fn perform<S: Shelf>(alloc: Global, words: &[&str], shelf: &mut S) -> Result
 fn delta_resume<S: Shelf>(
     alloc: Global,
     shelf: &mut S,
-    words: &BesideWords<'_>,
+    words: &RelativeWords<'_>,
 ) -> Result<Answer, Stop>
     ensures { Performs (delta_resume_files words.now.recipe words.now.base words.now.piece.save words.now.piece.report words.now.piece.steps)
         (S.state shelf.old) (S.state shelf.new) result }
 {
-    let recipe = fetch_beside(alloc, shelf, words)?;
+    let recipe = fetch_relative(alloc, shelf, words)?;
     load(alloc, shelf, recipe, words)
 }
 
@@ -52,10 +52,10 @@ fn load<S: Shelf>(
     alloc: Global,
     shelf: &mut S,
     recipe: Recipe,
-    words: &BesideWords<'_>,
+    words: &RelativeWords<'_>,
 ) -> Result<Answer, Stop>
     ensures { Performs (needs words.now.base 4_294_967_296 (λ text. needs words.now.piece.save 4_294_967_296 (λ delta. needs_inputs recipe (λ inputs.
-        resumes_beside recipe inputs text delta words.now.piece.save words.now.piece.report words.now.piece.steps)))) (S.state shelf.old) (S.state shelf.new) result }
+        resumes_relative recipe inputs text delta words.now.piece.save words.now.piece.report words.now.piece.steps)))) (S.state shelf.old) (S.state shelf.new) result }
 {
     let save = fetch(alloc, shelf, words.base.text(), SAVE_LIMIT)?;
     let (delta, inputs) = fetch_save(alloc, shelf, &recipe, &words.piece.save)?;
@@ -81,10 +81,10 @@ fn go_from<S: Shelf>(
     piece: &Piece<'_>,
 ) -> Result<Answer, Stop>
     requires given { IsInputs recipe inputs }
-    ensures { Performs (resumes_beside recipe inputs save.now delta piece.now.save piece.now.report piece.now.steps) (S.state shelf.old) (S.state shelf.new) result }
+    ensures { Performs (resumes_relative recipe inputs save.now delta piece.now.save piece.now.report piece.now.steps) (S.state shelf.old) (S.state shelf.new) result }
 {
     match read(alloc, recipe, inputs, save, delta) {
-        Ok(audit) => go_on(alloc, shelf, audit, Kept::Beside(save), piece),
+        Ok(audit) => go_on(alloc, shelf, audit, Kept::Relative(save), piece),
         Err(refusal) => refuse(alloc, refusal),
     }
 }
@@ -98,8 +98,8 @@ fn read(
     delta: Bytes,
 ) -> Result<Audit, DeltaRefusal>
     requires { IsInputs recipe inputs }
-    ensures exact { ResumesAuditBeside recipe inputs save.now delta result }
-    ensures found { IfOk result (λ audit. IsResumedBeside recipe inputs save.now delta audit) }
+    ensures exact { ResumesAuditRelative recipe inputs save.now delta result }
+    ensures found { IfOk result (λ audit. IsResumedRelative recipe inputs save.now delta audit) }
     ensures kept { IsRecipe recipe }
 {
     Audit::resume_delta(alloc, recipe, inputs, save, delta.as_slice())

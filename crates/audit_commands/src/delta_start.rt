@@ -2,14 +2,14 @@
 //! is kept.
 
 ghost use Rattle.std.specs.Prelude.{map};
-ghost use Rattle.wheeler.specs.Valid.{IsInputs};
+ghost use Rattle.audit_rules.specs.Valid.{IsInputs};
 ghost use Rattle.command_plan.specs.Performs.{Performs};
-ghost use Rattle.audit_commands.specs.Delta.{delta_start_files, delta_start_plan, starts_beside};
+ghost use Rattle.audit_commands.specs.Delta.{delta_start_files, delta_start_plan, starts_relative};
 
-use crate::fetching::{fetch_beside, fetch_save};
+use crate::fetching::{fetch_relative, fetch_save};
 use crate::going::{Kept, go_on};
 use crate::resume::refuse;
-use crate::words::{BesideWords, Piece};
+use crate::words::{RelativeWords, Piece};
 use audit_run::Audit;
 use command_plan::{Answer, Stop, usage};
 use ddc_base::Shelf;
@@ -20,7 +20,7 @@ use std::alloc::Global;
 pub fn perform<S: Shelf>(alloc: Global, words: &[&str], shelf: &mut S) -> Result<Answer, Stop>
     ensures { Performs (delta_start_plan (map (λ w. w.now) words.now)) (S.state shelf.old) (S.state shelf.new) result }
 {
-    let Some(words) = BesideWords::read(words) else {
+    let Some(words) = RelativeWords::read(words) else {
         return usage(alloc);
     };
     delta_start(alloc, shelf, &words)
@@ -30,12 +30,12 @@ pub fn perform<S: Shelf>(alloc: Global, words: &[&str], shelf: &mut S) -> Result
 fn delta_start<S: Shelf>(
     alloc: Global,
     shelf: &mut S,
-    words: &BesideWords<'_>,
+    words: &RelativeWords<'_>,
 ) -> Result<Answer, Stop>
     ensures { Performs (delta_start_files words.now.recipe words.now.base words.now.piece.save words.now.piece.report words.now.piece.steps)
         (S.state shelf.old) (S.state shelf.new) result }
 {
-    let recipe = fetch_beside(alloc, shelf, words)?;
+    let recipe = fetch_relative(alloc, shelf, words)?;
     let (save, inputs) = fetch_save(alloc, shelf, &recipe, &words.base)?;
     go_from(alloc, shelf, recipe, inputs, save.as_slice(), &words.piece)
 }
@@ -50,10 +50,10 @@ fn go_from<S: Shelf>(
     piece: &Piece<'_>,
 ) -> Result<Answer, Stop>
     requires { IsInputs recipe inputs }
-    ensures { Performs (starts_beside recipe inputs save.now piece.now.save piece.now.report piece.now.steps) (S.state shelf.old) (S.state shelf.new) result }
+    ensures { Performs (starts_relative recipe inputs save.now piece.now.save piece.now.report piece.now.steps) (S.state shelf.old) (S.state shelf.new) result }
 {
     match Audit::resume(alloc, recipe, inputs, save) {
-        Ok(audit) => go_on(alloc, shelf, audit, Kept::Beside(save), piece),
+        Ok(audit) => go_on(alloc, shelf, audit, Kept::Relative(save), piece),
         Err(refusal) => refuse(alloc, refusal),
     }
 }

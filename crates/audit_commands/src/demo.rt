@@ -4,8 +4,8 @@ ghost use Rattle.std.specs.Prelude.{◌≡◌, ◌≤◌, IfOk, IfSome, None, le
 ghost use Rattle.ddc_base.specs.Outside.{ShelfState};
 ghost use Rattle.mem_files.specs.Outputs.{IsContent};
 ghost use Rattle.verifier.specs.Faults.{first_fault};
-ghost use Rattle.wheeler.specs.Bench.{bench};
-ghost use Rattle.wheeler.specs.Valid.{IsInputs};
+ghost use Rattle.audit_rules.specs.Bench.{bench};
+ghost use Rattle.audit_rules.specs.Valid.{IsInputs};
 ghost use Rattle.command_plan.specs.declared.status.Status.TheVariants.{Yes};
 ghost use Rattle.command_plan.specs.Plan.{answers};
 ghost use Rattle.command_plan.specs.Performs.{Performs};
@@ -20,9 +20,9 @@ use audit_run::run_earlier;
 use audit_run::stage::report_of;
 use command_plan::{Answer, Status, Stop, fetch_file, usage};
 use ddc_base::{Bytes, OutOfMemory, Shelf, read_decimal};
-use meaning::Meaning;
+use wheeler::Meaning;
 use recipe::{Input, Inputs, Recipe};
-use recipe_plan::{read_recipe, undone};
+use recipe_plan::{read_recipe, unfinished};
 use report::{Report, StageLine};
 use std::alloc::Global;
 use verifier::Verdict;
@@ -164,7 +164,7 @@ fn run<M: Meaning>(
             let report = report_of(alloc, recipe, inputs.as_slice(), done.as_slice())?;
             verify::<M>(alloc, recipe, inputs, &report, size)
         }
-        Err(not_done) => undone(alloc, recipe, not_done.stage, not_done.fault),
+        Err(not_done) => unfinished(alloc, recipe, not_done.stage, not_done.fault),
     }
 }
 

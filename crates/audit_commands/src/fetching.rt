@@ -2,12 +2,12 @@
 
 ghost use Rattle.std.specs.Prelude.{ℕ, IfOk, List};
 ghost use Rattle.ddc_base.specs.Outside.{ShelfState};
-ghost use Rattle.wheeler.specs.Valid.{IsInputs};
+ghost use Rattle.audit_rules.specs.Valid.{IsInputs};
 ghost use Rattle.command_plan.specs.Plan.{Plan, needs};
 ghost use Rattle.command_plan.specs.Steps.{Obtains};
 ghost use Rattle.recipe_plan.specs.Recipes.{needs_apart, needs_inputs, needs_recipe};
 
-use crate::words::BesideWords;
+use crate::words::RelativeWords;
 use command_plan::{FileName, Stop, fetch};
 use ddc_base::{Bytes, Shelf};
 use recipe::{Inputs, Recipe};
@@ -47,10 +47,10 @@ fn both_apart(
 }
 
 /// The recipe, with a report, a base and a patch that are none of its inputs.
-pub(crate) fn fetch_beside<S: Shelf>(
+pub(crate) fn fetch_relative<S: Shelf>(
     alloc: Global,
     shelf: &mut S,
-    words: &BesideWords<'_>,
+    words: &RelativeWords<'_>,
 ) -> Result<Recipe, Stop>
     ensures { Obtains (λ next. needs_recipe words.now.recipe (λ said. needs_apart said words.now.piece.report (λ _. needs_apart said words.now.base (λ _.
         needs_apart said words.now.piece.save (λ _. next said)))))

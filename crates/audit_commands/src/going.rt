@@ -1,7 +1,7 @@
 //! An audit goes on, and where it came to is told.
 
 ghost use Rattle.std.specs.Prelude.{◌≡◌, ℕ, IfOk, List, Some};
-ghost use Rattle.wheeler.specs.Positions.{Position, Standing, On, forward_from};
+ghost use Rattle.audit_rules.specs.Positions.{Position, Standing, On, forward_from};
 ghost use Rattle.audit_run.specs.Saved.{IsOn};
 ghost use Rattle.audit_run.specs.Seen.{standing};
 ghost use Rattle.audit_commands.specs.Inside.Keeping.{Keeps};
@@ -23,7 +23,7 @@ pub(crate) enum Kept<'a> {
     /// Its whole save.
     Whole,
     /// What differs from this save of the same recipe and inputs.
-    Beside(&'a [u8]),
+    Relative(&'a [u8]),
 }
 
 /// Goes on by a piece, and then keeps where the audit stands, or its report.
@@ -94,6 +94,6 @@ fn kept_text(audit: &Audit, kept: Kept<'_>) -> Result<Bytes, OutOfMemory>
 {
     match kept {
         Kept::Whole => audit.save(),
-        Kept::Beside(base) => audit.save_delta_of(base),
+        Kept::Relative(base) => audit.save_delta_of(base),
     }
 }

@@ -1,15 +1,15 @@
 //! Laws of what the commands of audits say. Each law is the contract of a function that does nothing.
 
-ghost use Rattle.recipe.specs.declared.contents.Said.{Said};
+ghost use Rattle.recipe.specs.declared.contents.RecipeContents.{RecipeContents};
 ghost use Rattle.std.specs.Prelude.{◌≡◌, ◌≤◌, ℕ, List, length};
-ghost use Rattle.wheeler.specs.Bench.{bench};
-ghost use Rattle.wheeler.specs.declared.answer.Answer.TheVariants.{Fails};
-ghost use Rattle.wheeler.specs.declared.answer.Fault.{Fault};
+ghost use Rattle.audit_rules.specs.Bench.{bench};
+ghost use Rattle.audit_rules.specs.declared.answer.AuditAnswer.TheVariants.{Fails};
+ghost use Rattle.audit_rules.specs.declared.answer.StageFault.{StageFault};
 
 /// A stage that is not done is one of the recipe's, so the line that says so has its name.
 pub fn failed_stages_are_of_the_recipe()
-    ensures first { (recipe : Said) (inputs : List (List ℕ)) (number : ℕ) (fault : Fault) → bench recipe inputs ≡ Fails number fault
+    ensures first { (recipe : RecipeContents) (inputs : List (List ℕ)) (number : ℕ) (fault : StageFault) → bench recipe inputs ≡ Fails number fault
         → 1 ≤ number }
-    ensures last { (recipe : Said) (inputs : List (List ℕ)) (number : ℕ) (fault : Fault) → bench recipe inputs ≡ Fails number fault
+    ensures last { (recipe : RecipeContents) (inputs : List (List ℕ)) (number : ℕ) (fault : StageFault) → bench recipe inputs ≡ Fails number fault
         → number ≤ length recipe.stages }
 {}

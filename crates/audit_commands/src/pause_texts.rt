@@ -14,8 +14,8 @@ use std::alloc::Global;
 pub fn paused(alloc: Global, stage: &[u8], steps: u64) -> Result<Bytes, OutOfMemory>
     ensures { IfOk result (λ text. text ≡ paused_line stage.now steps) }
 {
-    let behind = format!(in alloc; " {steps}\n")?;
-    about_stage(alloc, b"paused ", stage, &behind)
+    let after = format!(in alloc; " {steps}\n")?;
+    about_stage(alloc, b"paused ", stage, &after)
 }
 
 /// A file is no save of the recipe and its inputs.

@@ -2,7 +2,7 @@
 
 ghost use Rattle.std.specs.Prelude.{map};
 ghost use Rattle.ddc_base.specs.Outside.{ShelfState};
-ghost use Rattle.wheeler.specs.Valid.{IsInputs};
+ghost use Rattle.audit_rules.specs.Valid.{IsInputs};
 ghost use Rattle.audit_run.specs.Saved.{ResumesAudit, standing_at};
 ghost use Rattle.command_plan.specs.declared.status.Status.TheVariants.{SaveRefused};
 ghost use Rattle.command_plan.specs.Performs.{Performs};

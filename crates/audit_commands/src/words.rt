@@ -1,7 +1,7 @@
 //! The words of the commands of an audit, each set of them as one value.
 
 ghost use Rattle.std.specs.Prelude.{◌≡◌, map};
-ghost use Rattle.audit_commands.specs.Inside.Words.{as_four_files, beside_words, report_words, whole_words};
+ghost use Rattle.audit_commands.specs.Inside.Words.{as_four_files, relative_words, report_words, whole_words};
 
 use command_plan::words::are_two_files;
 use command_plan::{FileName, Steps, three_files, two_files};
@@ -62,16 +62,16 @@ impl<'w> PieceWords<'w> {
 
 /// A recipe, the base beside which is kept what differs, and a piece of the audit, of which that is kept.
 #[derive(Drop)]
-pub(crate) struct BesideWords<'w> {
+pub(crate) struct RelativeWords<'w> {
     pub recipe: FileName<'w>,
     pub base: FileName<'w>,
     pub piece: Piece<'w>,
 }
 
-impl<'w> BesideWords<'w> {
+impl<'w> RelativeWords<'w> {
     /// The words `RECIPE BASE PATCH REPORT STEPS`, and `None` for every other.
-    pub(crate) fn read(words: &[&'w str]) -> Option<BesideWords<'w>>
-        ensures { result ≡ beside_words (map (λ w. w.now) words.now) }
+    pub(crate) fn read(words: &[&'w str]) -> Option<RelativeWords<'w>>
+        ensures { result ≡ relative_words (map (λ w. w.now) words.now) }
     {
         let [recipe, base, patch, report, steps] = words else {
             return None;
@@ -83,7 +83,7 @@ impl<'w> BesideWords<'w> {
             report,
             steps,
         };
-        Some(BesideWords {
+        Some(RelativeWords {
             recipe,
             base,
             piece,

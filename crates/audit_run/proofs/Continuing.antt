@@ -1,17 +1,17 @@
 -- A resumed audit comes to the answer of its position's continuation.
 use Rattle.std.proofs.Common.{◌≡◌, ℕ, List, Some, sym, ap, ◌∙◌}
 use Rattle.recipe.specs.Kept.{IsRecipe}
-use Rattle.recipe.specs.declared.contents.Said.{Said}
-use Rattle.wheeler.specs.Positions.{Position, Standing, On, Over, continue, finish, forward}
-use Rattle.wheeler.specs.Valid.{IsPosition}
-use Rattle.wheeler.proofs.Closing.{keeps-answer}
-use Rattle.wheeler.proofs.Rules.{rules}
+use Rattle.recipe.specs.declared.contents.RecipeContents.{RecipeContents}
+use Rattle.audit_rules.specs.Positions.{Position, Standing, On, Over, continue, finish, forward}
+use Rattle.audit_rules.specs.Valid.{IsPosition}
+use Rattle.audit_rules.proofs.Closing.{keeps-answer}
+use Rattle.audit_rules.proofs.Rules.{rules}
 use Rattle.audit_run.specs.Advances.{Advances, said_of}
 use Rattle.audit_run.specs.Saved.{standing_at}
 use Rattle.audit_run.specs.declared.place.Progress.{Progress}
 use Rattle.audit_run.specs.declared.place.Progress.TheVariants as said
 
-module _ (recipe : Said) (inputs : List (List ℕ)) (p : Position) (is : IsRecipe recipe) (valid : IsPosition recipe p) where
+module _ (recipe : RecipeContents) (inputs : List (List ℕ)) (p : Position) (is : IsRecipe recipe) (valid : IsPosition recipe p) where
   after : (count : ℕ) (now : Standing) → forward recipe inputs p count ≡ now → finish recipe inputs now ≡ continue recipe inputs p
   after count now leads = ap (finish recipe inputs) (sym leads) ∙ keeps-answer recipe inputs p count (rules recipe is) valid
 

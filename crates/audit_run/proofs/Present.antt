@@ -3,14 +3,14 @@ use Rattle.std.proofs.Common.{◌≡◌, ℕ, zero, suc, ◌+◌, ◌<◌, ◌�
 use Rattle.std.specs.Prelude.{slice_get, nat_lt as ltb, true}
 use Rattle.std.proofs.lemmas.Bool.{ltb-true}
 use Rattle.std.proofs.lemmas.Option.{none-some, same_Some, slice_get-get_or}
-use Rattle.recipe.specs.declared.contents.Said.{Said}
+use Rattle.recipe.specs.declared.contents.RecipeContents.{RecipeContents}
 use Rattle.recipe.specs.declared.parts.Stage.{Stage}
 use Rattle.recipe.specs.Kept as kept
-use Rattle.wheeler.specs.declared.answer.Finished.{Finished}
-use Rattle.wheeler.specs.Positions.{Position, Standing, forward, todo}
-use Rattle.wheeler.specs.Valid.{AreDone, AreFinished, IsAt, IsInputs, IsPosition, IsStanding}
-use Rattle.wheeler.proofs.Places.{all-made, forward-standing}
-use Rattle.wheeler.proofs.Rules.{rules}
+use Rattle.audit_rules.specs.declared.answer.Finished.{Finished}
+use Rattle.audit_rules.specs.Positions.{Position, Standing, forward, todo}
+use Rattle.audit_rules.specs.Valid.{AreDone, AreFinished, IsAt, IsInputs, IsPosition, IsStanding}
+use Rattle.audit_rules.proofs.Places.{all-made, forward-standing}
+use Rattle.audit_rules.proofs.Rules.{rules}
 use Rattle.audit_run.specs.Stage.Rules.{AreMade, IsStageOf}
 use Rattle.audit_run.specs.Inside.Parts.{later}
 
@@ -45,33 +45,33 @@ past-index [] (suc index) is = refl
 past-index (y ∷ xs) zero is = absurd (none-some y (sym is))
 past-index (y ∷ xs) (suc index) is = past-index xs index is
 
-pub stage-there : (recipe : Said) (done : List Finished) (stage : Stage) → slice_get recipe.stages (length done) ≡ Some stage
+pub stage-there : (recipe : RecipeContents) (done : List Finished) (stage : Stage) → slice_get recipe.stages (length done) ≡ Some stage
     → todo recipe done ≡ stage ∷ later recipe done
 stage-there recipe done stage is = at-index recipe.stages (length done) stage is
 
-pub no-stage : (recipe : Said) (done : List Finished) → slice_get recipe.stages (length done) ≡ None → todo recipe done ≡ []
+pub no-stage : (recipe : RecipeContents) (done : List Finished) → slice_get recipe.stages (length done) ≡ None → todo recipe done ≡ []
 no-stage recipe done is = past-index recipe.stages (length done) is
 
-pub stage-rules : (recipe : Said) (index : ℕ) (stage : Stage) → kept.IsRecipe recipe → slice_get recipe.stages index ≡ Some stage → IsStageOf recipe stage
+pub stage-rules : (recipe : RecipeContents) (index : ℕ) (stage : Stage) → kept.IsRecipe recipe → slice_get recipe.stages index ≡ Some stage → IsStageOf recipe stage
 stage-rules recipe index stage is there = (take index recipe.stages, is.stages index stage there)
 
 -- of a stage that was looked up among them
-pub found-rules : (recipe : Said) (items : List Stage) (index : ℕ) (stage : Stage) → kept.IsRecipe recipe → items ≡ recipe.stages → true ≡ ltb index (length items)
+pub found-rules : (recipe : RecipeContents) (items : List Stage) (index : ℕ) (stage : Stage) → kept.IsRecipe recipe → items ≡ recipe.stages → true ≡ ltb index (length items)
     → stage ≡ get_or items index stage → IsStageOf recipe stage
 found-rules recipe items index stage is same inside there =
     stage-rules recipe index stage is
     (subst (λ list. slice_get list index ≡ Some stage) same
     (slice_get-get_or items index stage (ltb-true index (length items) (sym inside)) ∙ ap Some (sym there)))
 
-pub made : (recipe : Said) (done : List Finished) → AreDone recipe done → AreMade done
+pub made : (recipe : RecipeContents) (done : List Finished) → AreDone recipe done → AreMade done
 made recipe done are = all-made recipe.stages done are.each
 
 -- a position has a stage
-pub position-index : (recipe : Said) (p : Position) → IsPosition recipe p → length p.done < length recipe.stages
+pub position-index : (recipe : RecipeContents) (p : Position) → IsPosition recipe p → length p.done < length recipe.stages
 position-index recipe p (stage, stages, ok) = (from-index recipe.stages (length p.done) stage stages ok.left).2
 
 -- a position is at the stage that is next
-pub same-stage : (recipe : Said) (p : Position) (stage : Stage) (stages : List Stage) → IsPosition recipe p → todo recipe p.done ≡ stage ∷ stages → IsAt recipe p stage stages
+pub same-stage : (recipe : RecipeContents) (p : Position) (stage : Stage) (stages : List Stage) → IsPosition recipe p → todo recipe p.done ≡ stage ∷ stages → IsAt recipe p stage stages
 same-stage recipe p stage stages (other, rest, ok) left =
     let both : other ∷ rest ≡ stage ∷ stages = sym ok.left ∙ left in
     subst (λ (s : Stage). IsAt recipe p s stages) (ap (head other) both) (subst (λ (ss : List Stage). IsAt recipe p other ss) (ap tail both) ok) where
@@ -84,7 +84,7 @@ same-stage recipe p stage stages (other, rest, ok) left =
       tail (x ∷ xs) = xs
 
 -- where steps from a position come to is valid
-pub stays : (recipe : Said) (inputs : List (List ℕ)) (p : Position) (count : ℕ) (to : Standing) → kept.IsRecipe recipe → IsInputs recipe inputs → IsPosition recipe p
+pub stays : (recipe : RecipeContents) (inputs : List (List ℕ)) (p : Position) (count : ℕ) (to : Standing) → kept.IsRecipe recipe → IsInputs recipe inputs → IsPosition recipe p
     → forward recipe inputs p count ≡ to → IsStanding recipe to
 stays recipe inputs p count to is given ok reached = subst (IsStanding recipe) reached (forward-standing recipe (rules recipe is) inputs given p ok count)
 
@@ -94,5 +94,5 @@ few stages [] are = omega arith
 few [] (f ∷ done) are = absurd are
 few (stage ∷ stages) (f ∷ done) are = let rest = few stages done are.1 in omega arith
 
-pub done-few : (recipe : Said) (done : List Finished) → kept.IsRecipe recipe → AreDone recipe done → length done ≤ 256
+pub done-few : (recipe : RecipeContents) (done : List Finished) → kept.IsRecipe recipe → AreDone recipe done → length done ≤ 256
 done-few recipe done is are = let most = few recipe.stages done are.each in let limit = is.few_stages in omega arith

@@ -6,20 +6,20 @@ use Rattle.guest_run.specs.State.{GuestState}
 use Rattle.guest_run.specs.declared.run.RunEnd.TheVariants as answer
 use Rattle.guest_run.specs.Run.{End, Exited, Next, Goes, Ends, StepTakesMemory, first_end, step_goes_on, next, Runs as RunsBy, steps_between}
 use Rattle.guest_run.proofs.Running.{after-counted}
-use Rattle.recipe.specs.declared.contents.Said.{Said}
+use Rattle.recipe.specs.declared.contents.RecipeContents.{RecipeContents}
 use Rattle.recipe.specs.declared.parts.Stage.{Stage}
 use Rattle.recipe.specs.Kept as kept
-use Rattle.wheeler.specs.declared.answer.Fault.{Fault}
-use Rattle.wheeler.specs.declared.answer.Fault.TheVariants.{Runs}
-use Rattle.wheeler.specs.declared.answer.Finished.{Finished}
-use Rattle.wheeler.specs.declared.cause.RunCause.TheVariants as run
-use Rattle.wheeler.specs.Stages.{ending}
-use Rattle.wheeler.specs.Positions.{Position, On, at, stage_closed, forward}
-use Rattle.wheeler.specs.Valid.{IsAt, IsInputs}
-use Rattle.wheeler.proofs.Endings.{ended}
-use Rattle.wheeler.proofs.Places.{done-more}
-use Rattle.wheeler.proofs.Rules.{rules}
-use Rattle.wheeler.proofs.Slices.{end-place, slice-end, slice-on, slice-spent}
+use Rattle.audit_rules.specs.declared.answer.StageFault.{StageFault}
+use Rattle.audit_rules.specs.declared.answer.StageFault.TheVariants.{Runs}
+use Rattle.audit_rules.specs.declared.answer.Finished.{Finished}
+use Rattle.audit_rules.specs.declared.cause.RunCause.TheVariants as run
+use Rattle.audit_rules.specs.Stages.{ending}
+use Rattle.audit_rules.specs.Positions.{Position, On, at, stage_closed, forward}
+use Rattle.audit_rules.specs.Valid.{IsAt, IsInputs}
+use Rattle.audit_rules.proofs.Endings.{ended}
+use Rattle.audit_rules.proofs.Places.{done-more}
+use Rattle.audit_rules.proofs.Rules.{rules}
+use Rattle.audit_rules.proofs.Slices.{end-place, slice-end, slice-on, slice-spent}
 use Rattle.audit_run.specs.Stage.Makes.{Makes}
 use Rattle.audit_run.specs.declared.place.Moved.TheVariants as moved
 use Rattle.audit_run.specs.Advances.{Wants, WantsBy}
@@ -27,16 +27,16 @@ use Rattle.audit_run.specs.Inside.Parts.{Slices}
 use Rattle.audit_run.proofs.Present.{same-stage, stays}
 
 -- what the next step takes memory for
-wants-by : (recipe : Said) (p : Position) (stage : Stage) (stages : List Stage) (n : Next) → IsAt recipe p stage stages → next p.at ≡ n → WantsBy stage p n → Wants recipe p
+wants-by : (recipe : RecipeContents) (p : Position) (stage : Stage) (stages : List Stage) (n : Next) → IsAt recipe p stage stages → next p.at ≡ n → WantsBy stage p n → Wants recipe p
 wants-by recipe p stage stages n ok is wants = (stage, stages, ok.left, subst (WantsBy stage p) (sym is) wants)
 
-wants-step : (recipe : Said) (p : Position) (stage : Stage) (stages : List Stage) → IsAt recipe p stage stages → IsTrue (step_goes_on (next p.at)) → StepTakesMemory p.at → Wants recipe p
+wants-step : (recipe : RecipeContents) (p : Position) (stage : Stage) (stages : List Stage) → IsAt recipe p stage stages → IsTrue (step_goes_on (next p.at)) → StepTakesMemory p.at → Wants recipe p
 wants-step recipe p stage stages ok on takes = by_next (next p.at) refl on where
   by_next : (n : Next) → next p.at ≡ n → step_goes_on n ≡ true → Wants recipe p
   by_next (Goes to) is on = wants-by recipe p stage stages (Goes to) ok is takes
   by_next (Ends end) is on = absurd (false≢true on)
 
-module _ (recipe : Said) (inputs : List (List ℕ)) (done : List Finished) (stage : Stage) (stages : List Stage) (old new : GuestState) (ok : IsAt recipe (at done old) stage stages) (is_recipe : kept.IsRecipe recipe) (given : IsInputs recipe inputs) where
+module _ (recipe : RecipeContents) (inputs : List (List ℕ)) (done : List Finished) (stage : Stage) (stages : List Stage) (old new : GuestState) (ok : IsAt recipe (at done old) stage stages) (is_recipe : kept.IsRecipe recipe) (given : IsInputs recipe inputs) where
   pub slices-goes : (most slice : ℕ) → RunsBy old slice answer.Spent new → 1 ≤ slice → slice ≤ most → new.steps < stage.steps
       → Slices recipe inputs done stages old most (Ok (slice, moved.Goes)) new
   slices-goes most slice runs one le within =
@@ -78,7 +78,7 @@ module _ (recipe : Said) (inputs : List (List ℕ)) (done : List Finished) (stag
         place = here there.0 reached;
       }
 
-  pub slices-end : (most slice taken : ℕ) (end : End) (r : Result Finished Fault) → first_end old slice ≡ Some (end, new) → slice ≤ most
+  pub slices-end : (most slice taken : ℕ) (end : End) (r : Result Finished StageFault) → first_end old slice ≡ Some (end, new) → slice ≤ most
       → old.steps + slice ≤ stage.steps → taken ≡ new.steps + 1 - old.steps → r ≡ ending recipe inputs done stage end new
       → Slices recipe inputs done stages old most (Ok (taken, moved.Ended r)) new
   slices-end most slice taken end r is le fits counts meant = by_result r meant where
@@ -88,13 +88,13 @@ module _ (recipe : Said) (inputs : List (List ℕ)) (done : List Finished) (stag
     same : taken ≡ suc (new.steps - old.steps)
     same = omega (arith, counts, there.counted)
 
-    whole : (r : Result Finished Fault) → r ≡ ending recipe inputs done stage end new → forward recipe inputs (at done old) taken ≡ stage_closed recipe inputs done stages r
+    whole : (r : Result Finished StageFault) → r ≡ ending recipe inputs done stage end new → forward recipe inputs (at done old) taken ≡ stage_closed recipe inputs done stages r
     whole r meant =
         ap (forward recipe inputs (at done old)) same
         ∙ slice-end recipe inputs done stage stages ok.left old new slice end is fits
         ∙ ap (stage_closed recipe inputs done stages) (sym meant)
 
-    by_result : (r : Result Finished Fault) → r ≡ ending recipe inputs done stage end new → Slices recipe inputs done stages old most (Ok (taken, moved.Ended r)) new
+    by_result : (r : Result Finished StageFault) → r ≡ ending recipe inputs done stage end new → Slices recipe inputs done stages old most (Ok (taken, moved.Ended r)) new
     by_result (Err fault) meant = (whole (Err fault) meant, omega (arith, same), omega (arith, same, there.fewer, there.counted))
     by_result (Ok f) meant =
         let between : taken - 1 ≡ there.count = omega (arith, same, there.counted) in

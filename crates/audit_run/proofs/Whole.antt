@@ -4,13 +4,13 @@ use Rattle.guest_run.specs.State.{GuestState}
 use Rattle.guest_run.specs.declared.run.RunEnd.TheVariants as answer
 use Rattle.guest_run.specs.Run.{End, first_end, Runs as RunsBy}
 use Rattle.guest_run.proofs.Running.{after-counted}
-use Rattle.recipe.specs.declared.contents.Said.{Said}
+use Rattle.recipe.specs.declared.contents.RecipeContents.{RecipeContents}
 use Rattle.recipe.specs.declared.parts.Stage.{Stage}
-use Rattle.wheeler.specs.declared.answer.Fault.{Fault}
-use Rattle.wheeler.specs.declared.answer.Fault.TheVariants.{Runs}
-use Rattle.wheeler.specs.declared.answer.Finished.{Finished}
-use Rattle.wheeler.specs.declared.cause.RunCause.TheVariants as run
-use Rattle.wheeler.specs.Stages.{by_end, ending}
+use Rattle.audit_rules.specs.declared.answer.StageFault.{StageFault}
+use Rattle.audit_rules.specs.declared.answer.StageFault.TheVariants.{Runs}
+use Rattle.audit_rules.specs.declared.answer.Finished.{Finished}
+use Rattle.audit_rules.specs.declared.cause.RunCause.TheVariants as run
+use Rattle.audit_rules.specs.Stages.{by_end, ending}
 use Rattle.audit_run.specs.declared.place.Moved.{Moved}
 use Rattle.audit_run.specs.declared.place.Moved.TheVariants as moved
 
@@ -18,13 +18,13 @@ use Rattle.audit_run.specs.declared.place.Moved.TheVariants as moved
 pub whole-goes : (old new : GuestState) (limit slice : ℕ) → RunsBy old slice answer.Spent new → limit ≡ old.steps + slice → new.steps < limit → ⊥
 whole-goes old new limit slice runs all left = let counted = after-counted old new slice runs.1 in omega (arith, counted, all, left)
 
-module _ (recipe : Said) (inputs : List (List ℕ)) (done : List Finished) (stage : Stage) (old new : GuestState) (slice : ℕ) where
+module _ (recipe : RecipeContents) (inputs : List (List ℕ)) (done : List Finished) (stage : Stage) (old new : GuestState) (slice : ℕ) where
   pub whole-spent : slice ≡ stage.steps - old.steps → RunsBy old slice answer.Spent new
       → ◌≡◌ {A = Moved} (moved.Ended (Err (Runs run.Spent stage.steps))) (moved.Ended (by_end recipe inputs done stage (first_end old (stage.steps - old.steps))))
   whole-spent all runs =
       ap (λ e. moved.Ended (by_end recipe inputs done stage e)) (sym runs.0) ∙ ap (λ n. moved.Ended (by_end recipe inputs done stage (first_end old n))) all
 
-  pub whole-end : (end : End) (r : Result Finished Fault) → slice ≡ stage.steps - old.steps → first_end old slice ≡ Some (end, new) → r ≡ ending recipe inputs done stage end new
+  pub whole-end : (end : End) (r : Result Finished StageFault) → slice ≡ stage.steps - old.steps → first_end old slice ≡ Some (end, new) → r ≡ ending recipe inputs done stage end new
       → ◌≡◌ {A = Moved} (moved.Ended r) (moved.Ended (by_end recipe inputs done stage (first_end old (stage.steps - old.steps))))
   whole-end end r all ends meant =
       ap moved.Ended meant

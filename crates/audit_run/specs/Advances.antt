@@ -2,14 +2,14 @@
 use Rattle.std.specs.Prelude.{◌≡◌, ◌<◌, ℕ, Option, None, Some, Result, Ok, Err, List, ◌∷◌, if◌then◌else◌}
 use Rattle.ddc_base.specs.declared.byte_list.OutOfMemory.{OutOfMemory}
 use Rattle.guest_run.specs.Run.{Next, Goes, Ends, Exited, Trapped, UnknownCall, StepTakesMemory, next}
-use Rattle.recipe.specs.declared.contents.Said.{Said}
+use Rattle.recipe.specs.declared.contents.RecipeContents.{RecipeContents}
 use Rattle.recipe.specs.declared.parts.Stage.{Stage}
 use Rattle.report.specs.declared.types.CompareLine.{CompareLine}
-use Rattle.wheeler.specs.declared.answer.Answer.{Answer}
-use Rattle.wheeler.specs.declared.answer.Answer.TheVariants.{Completes, Fails}
-use Rattle.wheeler.specs.declared.answer.Fault.TheVariants.{Runs, Checks}
-use Rattle.wheeler.specs.Bench.{all_equal}
-use Rattle.wheeler.specs.Positions.{Position, Standing, On, Over, forward_from, todo}
+use Rattle.audit_rules.specs.declared.answer.AuditAnswer.{AuditAnswer}
+use Rattle.audit_rules.specs.declared.answer.AuditAnswer.TheVariants.{Completes, Fails}
+use Rattle.audit_rules.specs.declared.answer.StageFault.TheVariants.{Runs, Checks}
+use Rattle.audit_rules.specs.Bench.{all_equal}
+use Rattle.audit_rules.specs.Positions.{Position, Standing, On, Over, forward_from, todo}
 use Rattle.audit_run.specs.Stage.Makes.{Makes}
 use Rattle.audit_run.specs.declared.place.Progress.{Progress}
 use Rattle.audit_run.specs.declared.place.Progress.TheVariants as said
@@ -19,7 +19,7 @@ use Rattle.audit_run.specs.Seen.{AuditState, standing}
 abbrev pub said_of_comparisons : List CompareLine → Progress
 said_of_comparisons lines = if all_equal lines then said.Equal else said.Differs
 
-abbrev pub said_of_answer : Answer → Progress
+abbrev pub said_of_answer : AuditAnswer → Progress
 said_of_answer (Completes report) = said_of_comparisons report.compare
 said_of_answer (Fails stage (Runs cause step)) = said.RunFailed stage cause step
 said_of_answer (Fails stage (Checks cause)) = said.CheckFailed stage cause
@@ -36,11 +36,11 @@ WantsBy stage p (Ends (Exited status)) = Makes stage p.done status p.at.world
 WantsBy stage p (Ends (Trapped cause)) = ⊥
 WantsBy stage p (Ends (UnknownCall number)) = ⊥
 
-abbrev pub Wants : Said → Position → Type 0
+abbrev pub Wants : RecipeContents → Position → Type 0
 Wants recipe p = (stage : Stage) × (stages : List Stage) × (todo recipe p.done ≡ stage ∷ stages) × WantsBy stage p (next p.at)
 
--- memory was wanting behind fewer steps than were asked for, where the next step takes memory
-pub record StopsAt (recipe : Said) (inputs : List (List ℕ)) (from : Standing) (most : ℕ) (to : Position) : Type 0 where
+-- memory was wanting after fewer steps than were asked for, where the next step takes memory
+pub record StopsAt (recipe : RecipeContents) (inputs : List (List ℕ)) (from : Standing) (most : ℕ) (to : Position) : Type 0 where
   pub count : ℕ
   pub fewer : count < most
   pub reached : forward_from recipe inputs from count ≡ On to

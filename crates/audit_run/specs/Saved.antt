@@ -3,10 +3,10 @@ use Rattle.std.specs.Prelude.{◌≡◌, ℕ, List, Option, None, Some, Result, 
 use Rattle.audit_run.specs.Save.Saves.{Resumes, save_of}
 use Rattle.audit_run.specs.declared.save.reading.SaveRefusal.{SaveRefusal}
 use Rattle.audit_run.specs.declared.save.reading.SaveRefusal.TheVariants.{Form, OtherRecipe, State, OutOfMemory}
-use Rattle.recipe.specs.declared.contents.Said.{Said}
-use Rattle.save_text.specs.Spelled.{IsTextOfSave, text_of_save}
-use Rattle.wheeler.specs.Positions.{Position, Standing, On, Over}
-use Rattle.wheeler.specs.Valid.{IsPosition}
+use Rattle.recipe.specs.declared.contents.RecipeContents.{RecipeContents}
+use Rattle.save_format.specs.Spelled.{IsTextOfSave, text_of_save}
+use Rattle.audit_rules.specs.Positions.{Position, Standing, On, Over}
+use Rattle.audit_rules.specs.Valid.{IsPosition}
 use Rattle.audit_run.specs.Seen.{AuditState}
 
 -- an audit that stands at a position: its present stage has started, and it is not over
@@ -16,21 +16,21 @@ IsOn (Some (On p)) = Unit {0}
 IsOn (Some (Over answer)) = ⊥
 
 -- the text of the position's save, in the second form
-abbrev pub IsSave : Said → List (List ℕ) → Option Standing → List ℕ → Type 0
+abbrev pub IsSave : RecipeContents → List (List ℕ) → Option Standing → List ℕ → Type 0
 IsSave recipe inputs None text = ⊥
 IsSave recipe inputs (Some (On p)) text = text ≡ text_of_save (save_of recipe inputs p)
 IsSave recipe inputs (Some (Over answer)) text = ⊥
 
 -- the audit of a recipe and its inputs at a position
-abbrev pub standing_at : Said → List (List ℕ) → Position → AuditState
+abbrev pub standing_at : RecipeContents → List (List ℕ) → Position → AuditState
 standing_at recipe inputs p = record { recipe = recipe; inputs = inputs; stands = Some (On p) }
 
 -- an audit that was resumed of a text stands at a position, and the text is one of its save, of the second form or an old one
-abbrev pub IsResumed : Said → List (List ℕ) → List ℕ → AuditState → Type 0
+abbrev pub IsResumed : RecipeContents → List (List ℕ) → List ℕ → AuditState → Type 0
 IsResumed recipe inputs text audit = (p : Position) × (audit ≡ standing_at recipe inputs p) × IsPosition recipe p × IsTextOfSave (save_of recipe inputs p) text
 
 -- what is resumed of the save of a position
-abbrev pub IsResumedAt : Said → List (List ℕ) → Position → Result AuditState SaveRefusal → Type 0
+abbrev pub IsResumedAt : RecipeContents → List (List ℕ) → Position → Result AuditState SaveRefusal → Type 0
 IsResumedAt recipe inputs p (Ok audit) = audit ≡ standing_at recipe inputs p
 IsResumedAt recipe inputs p (Err OutOfMemory) = Unit {0}
 IsResumedAt recipe inputs p (Err (Form offset)) = ⊥
@@ -38,6 +38,6 @@ IsResumedAt recipe inputs p (Err OtherRecipe) = ⊥
 IsResumedAt recipe inputs p (Err State) = ⊥
 
 -- what is resumed of any text, and when each refusal comes
-abbrev pub ResumesAudit : Said → List (List ℕ) → List ℕ → Result AuditState SaveRefusal → Type 0
+abbrev pub ResumesAudit : RecipeContents → List (List ℕ) → List ℕ → Result AuditState SaveRefusal → Type 0
 ResumesAudit recipe inputs text (Ok audit) = (p : Position) × (audit ≡ standing_at recipe inputs p) × Resumes recipe inputs text (Ok p)
 ResumesAudit recipe inputs text (Err refusal) = Resumes recipe inputs text (Err refusal)

@@ -1,18 +1,18 @@
 -- An audit as contracts see it, and what its calls tell of it. docs/reference/audit.md says the same for people.
 use Rattle.std.specs.Prelude.{ℕ, ◌+◌, List, [], ◌∷◌, length, Option, None, Some}
 use Rattle.guest_run.specs.Setting.{Setting}
-use Rattle.recipe.specs.declared.contents.Said.{Said}
+use Rattle.recipe.specs.declared.contents.RecipeContents.{RecipeContents}
 use Rattle.recipe.specs.declared.parts.Stage.{Stage}
 use Rattle.report.specs.declared.types.Report.{Report}
-use Rattle.wheeler.specs.declared.answer.Answer.{Answer}
-use Rattle.wheeler.specs.declared.answer.Answer.TheVariants.{Completes}
-use Rattle.wheeler.specs.Contents.{Contents, box_of, program_of}
-use Rattle.wheeler.specs.Positions.{Standing, On, Over, beginning, todo}
-use Rattle.wheeler.specs.Stages.{contents}
+use Rattle.audit_rules.specs.declared.answer.AuditAnswer.{AuditAnswer}
+use Rattle.audit_rules.specs.declared.answer.AuditAnswer.TheVariants.{Completes}
+use Rattle.audit_rules.specs.Contents.{Contents, box_of, program_of}
+use Rattle.audit_rules.specs.Positions.{Standing, On, Over, beginning, todo}
+use Rattle.audit_rules.specs.Stages.{contents}
 
 -- a recipe, its inputs, and where the audit stands; None: no advance was made
 pub record AuditState : Type 0 where
-  pub recipe : Said
+  pub recipe : RecipeContents
   pub inputs : List (List ℕ)
   pub stands : Option Standing
 
@@ -25,7 +25,7 @@ abbrev pub standing : AuditState → Standing
 standing audit = standing_of audit audit.stands
 
 -- the answer of an audit that is over, and its report where it has one
-abbrev pub finished_answer : Option Standing → Option Answer
+abbrev pub finished_answer : Option Standing → Option AuditAnswer
 finished_answer (Some (Over answer)) = Some answer
 finished_answer _ = None
 
@@ -40,12 +40,12 @@ place_of (Some (On p)) = (length p.done + 1, p.at.steps)
 place_of (Some (Over answer)) = (0, 0)
 
 -- the program and the box of the first of these stages
-abbrev pub first_setting : Said → Contents → List Stage → Option (List ℕ × Setting)
+abbrev pub first_setting : RecipeContents → Contents → List Stage → Option (List ℕ × Setting)
 first_setting recipe so_far [] = None
 first_setting recipe so_far (stage ∷ stages) = Some (program_of recipe so_far stage, box_of recipe so_far stage)
 
 -- those of the present stage; none where the audit is over
-abbrev pub present_setting : Said → List (List ℕ) → Option Standing → Option (List ℕ × Setting)
+abbrev pub present_setting : RecipeContents → List (List ℕ) → Option Standing → Option (List ℕ × Setting)
 present_setting recipe inputs None = first_setting recipe (contents inputs []) recipe.stages
 present_setting recipe inputs (Some (On p)) = first_setting recipe (contents inputs p.done) (todo recipe p.done)
 present_setting recipe inputs (Some (Over answer)) = None

@@ -1,20 +1,20 @@
 //! An advance, over the parts of an audit.
 
 ghost use Rattle.audit_run.specs.Advances.{Advances, WantsWithin, said_of_answer, said_of_comparisons};
-ghost use Rattle.audit_run.specs.Inside.Parts.{IsAtRest, IsPlace, IsStarted, SaysOf, seen, stands};
+ghost use Rattle.audit_run.specs.Inside.Parts.{IsAtRest, IsSavedPlace, IsStarted, SaysOf, seen, stands};
 ghost use Rattle.std.specs.Prelude.{◌≡◌, ◌≤◌, None, OnErr, OnOk, Some};
-ghost use Rattle.wheeler.specs.Positions.{forward_from};
-ghost use Rattle.wheeler.specs.Valid.{IsInputs};
+ghost use Rattle.audit_rules.specs.Positions.{forward_from};
+ghost use Rattle.audit_rules.specs.Valid.{IsInputs};
 
 use crate::entering::enter;
-use crate::place::{EndedGuest, Place, Progress};
+use crate::place::{EndedGuest, AuditPlace, Progress};
 use crate::stage::Done;
 use crate::stretch::advance_started;
 use ddc_base::{Bytes, OutOfMemory};
 use recipe::Recipe;
 use report::CompareLine;
 use std::alloc::Global;
-use wheeler::{Answer, Fault, all_equal};
+use audit_rules::{AuditAnswer, StageFault, all_equal};
 
 /// At most `most` steps, of an audit that is to stand where memory is wanting.
 pub(crate) fn advance_parts(
@@ -22,7 +22,7 @@ pub(crate) fn advance_parts(
     recipe: &Recipe,
     inputs: &[Bytes],
     done: &mut Vec<Done>,
-    place: &mut Place,
+    place: &mut AuditPlace,
     most: u64,
 ) -> Progress
     requires some { 1 ≤ most }
@@ -47,7 +47,7 @@ pub(crate) fn take_piece(
     recipe: &Recipe,
     inputs: &[Bytes],
     done: &mut Vec<Done>,
-    place: &mut Place,
+    place: &mut AuditPlace,
     most: u64,
 ) -> Result<(), OutOfMemory>
     requires rest { IsAtRest recipe.now inputs.now done.old.items place.old }
@@ -74,19 +74,19 @@ fn begin(
     recipe: &Recipe,
     inputs: &[Bytes],
     done: &[Done],
-    place: &mut Place,
+    place: &mut AuditPlace,
 ) -> Result<(), OutOfMemory>
     requires given { IsInputs recipe.now inputs.now }
-    requires place { IsPlace recipe.now done.now place.old }
+    requires place { IsSavedPlace recipe.now done.now place.old }
     ensures ok { OnOk result (stands recipe.now inputs.now done.now place.new ≡ stands recipe.now inputs.now done.now place.old) }
     ensures started { OnOk result (IsStarted place.new) }
-    ensures stands { IsPlace recipe.now done.now place.new }
+    ensures stands { IsSavedPlace recipe.now done.now place.new }
     ensures err { OnErr result (place.new ≡ place.old) }
     ensures ready { OnErr result (seen done.now place.old ≡ None) }
 {
     match place {
-        Place::Running(_) | Place::Over(_) => Ok(()),
-        Place::Ready => {
+        AuditPlace::Running(_) | AuditPlace::Over(_) => Ok(()),
+        AuditPlace::Ready => {
             place.set(enter(alloc, recipe, inputs, done)?);
             Ok(())
         }
@@ -94,29 +94,29 @@ fn begin(
 }
 
 /// What is said of an audit that stands here.
-fn said_of(place: &Place) -> Progress
+fn said_of(place: &AuditPlace) -> Progress
     requires { IsStarted place.now }
     ensures { SaysOf place.now result }
 {
     match place {
-        Place::Ready => unreachable!(),
-        Place::Running(_) => Progress::Paused,
-        Place::Over(answer) => said_of_answer(answer),
+        AuditPlace::Ready => unreachable!(),
+        AuditPlace::Running(_) => Progress::Paused,
+        AuditPlace::Over(answer) => said_of_answer(answer),
     }
 }
 
 /// What is said of an answer.
-fn said_of_answer(answer: &Answer) -> Progress
+fn said_of_answer(answer: &AuditAnswer) -> Progress
     ensures { result ≡ said_of_answer answer.now }
 {
     match answer {
-        Answer::Completes(report) => said_of_comparisons(report.compare.as_slice()),
-        Answer::Fails(stage, Fault::Runs(cause, step)) => Progress::RunFailed {
+        AuditAnswer::Completes(report) => said_of_comparisons(report.compare.as_slice()),
+        AuditAnswer::Fails(stage, StageFault::Runs(cause, step)) => Progress::RunFailed {
             stage: *stage,
             cause: *cause,
             step: *step,
         },
-        Answer::Fails(stage, Fault::Checks(cause)) => Progress::CheckFailed {
+        AuditAnswer::Fails(stage, StageFault::Checks(cause)) => Progress::CheckFailed {
             stage: *stage,
             cause: *cause,
         },

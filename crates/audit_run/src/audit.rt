@@ -2,21 +2,21 @@
 
 ghost use Rattle.audit_run.specs.Advances.{Advances, IsAdvanced};
 ghost use Rattle.audit_run.specs.Saved.{IsOn, IsResumed, IsResumedAt, IsSave, ResumesAudit, standing_at};
-ghost use Rattle.audit_run.specs.Delta.Audits.{IsDeltaBetween, IsDeltaFrom, IsResumedBeside, IsResumedBesideAt, ResumesAuditBeside};
+ghost use Rattle.audit_run.specs.Delta.Audits.{IsDeltaBetween, IsDeltaFrom, IsResumedRelative, IsResumedRelativeAt, ResumesAuditRelative};
 ghost use Rattle.audit_run.specs.Delta.Deltas.{IsBaseAt, delta_text_of};
 ghost use Rattle.audit_run.specs.Seen.{finished_answer, finished_report, place_of, present_setting};
 ghost use Rattle.audit_run.specs.Save.Saves.{save_of};
 ghost use Rattle.report.specs.Reports.{IsReport};
-ghost use Rattle.save_text.specs.Spelled.{IsTextOfSave};
+ghost use Rattle.save_format.specs.Spelled.{IsTextOfSave};
 ghost use Rattle.std.specs.Option.{option_copied};
 ghost use Rattle.std.specs.Prelude.{◌≡◌, ◌<◌, ◌≤◌, ◌+◌, length, None, Some, IsOk, IfOk, IfSome, option_map};
-ghost use Rattle.wheeler.specs.declared.answer.Answer.{Answer as AuditAnswer};
-ghost use Rattle.wheeler.specs.Positions.{Position, On, Over};
-ghost use Rattle.wheeler.specs.Valid.{IsAuditAnswer, IsInputs, IsPosition};
+ghost use Rattle.audit_rules.specs.declared.answer.AuditAnswer.{AuditAnswer as AuditAnswer};
+ghost use Rattle.audit_rules.specs.Positions.{Position, On, Over};
+ghost use Rattle.audit_rules.specs.Valid.{IsAuditAnswer, IsInputs, IsPosition};
 
 use crate::advance::{advance_parts, take_piece};
 use crate::delta::DeltaRefusal;
-use crate::place::{Place, Progress};
+use crate::place::{AuditPlace, Progress};
 use crate::save::{Resumed, SaveRefusal};
 use crate::setting::setting_of;
 use crate::stage::Done;
@@ -26,7 +26,7 @@ use recipe::{Inputs, Recipe};
 use report::Report;
 use std::alloc::Global;
 use std::marker::Model;
-use wheeler::Answer;
+use audit_rules::AuditAnswer;
 
 /// An audit: a recipe, its inputs, and where it stands, which is before the first stage, in a stage, or over.
 ///
@@ -36,7 +36,7 @@ pub struct Audit {
     recipe: Recipe,
     inputs: Inputs,
     done: Vec<Done>,
-    place: Place,
+    place: AuditPlace,
     alloc: Global,
 }
 
@@ -64,7 +64,7 @@ impl Audit {
             recipe,
             inputs,
             done: Vec::new(alloc),
-            place: Place::Ready,
+            place: AuditPlace::Ready,
             alloc,
         }
     }
@@ -121,13 +121,13 @@ impl Audit {
     }
 
     /// The answer of an audit that is over.
-    pub fn answer(&self) -> Option<&Answer>
+    pub fn answer(&self) -> Option<&AuditAnswer>
         ensures answer { option_copied result ≡ finished_answer self.now.stands }
         ensures form { IfSome (option_copied result) IsAuditAnswer }
     {
         match &self.place {
-            Place::Over(answer) => Some(answer),
-            Place::Ready | Place::Running(_) => None,
+            AuditPlace::Over(answer) => Some(answer),
+            AuditPlace::Ready | AuditPlace::Running(_) => None,
         }
     }
 
@@ -137,7 +137,7 @@ impl Audit {
         ensures form { IfSome (option_copied result) IsReport }
     {
         match &self.place {
-            Place::Over(Answer::Completes(report)) => Some(report),
+            AuditPlace::Over(AuditAnswer::Completes(report)) => Some(report),
             _ => None,
         }
     }
@@ -148,9 +148,9 @@ impl Audit {
         ensures { result ≡ place_of self.now.stands }
     {
         match &self.place {
-            Place::Ready => (1, 0),
-            Place::Running(guest) => (stage_after(&self.recipe, self.done.len()), guest.steps()),
-            Place::Over(_) => (0, 0),
+            AuditPlace::Ready => (1, 0),
+            AuditPlace::Running(guest) => (stage_after(&self.recipe, self.done.len()), guest.steps()),
+            AuditPlace::Over(_) => (0, 0),
         }
     }
 
@@ -160,8 +160,8 @@ impl Audit {
         ensures over { (answer : AuditAnswer) → self.now.stands ≡ Some (Over answer) → IsOk result }
     {
         match &self.place {
-            Place::Over(_) => Ok(None),
-            Place::Ready | Place::Running(_) => {
+            AuditPlace::Over(_) => Ok(None),
+            AuditPlace::Ready | AuditPlace::Running(_) => {
                 setting_of(
                     alloc,
                     &self.recipe,
@@ -182,9 +182,9 @@ impl Audit {
     {
         let alloc = self.alloc;
         match &self.place {
-            Place::Ready => unreachable!(),
-            Place::Over(_) => unreachable!(),
-            Place::Running(guest) => crate::save::write(
+            AuditPlace::Ready => unreachable!(),
+            AuditPlace::Over(_) => unreachable!(),
+            AuditPlace::Running(guest) => crate::save::write(
                 alloc,
                 &self.recipe,
                 self.inputs.as_slice(),
@@ -240,9 +240,9 @@ impl Audit {
     {
         let alloc = self.alloc;
         match &self.place {
-            Place::Ready => unreachable!(),
-            Place::Over(_) => unreachable!(),
-            Place::Running(guest) => crate::delta::write(
+            AuditPlace::Ready => unreachable!(),
+            AuditPlace::Over(_) => unreachable!(),
+            AuditPlace::Running(guest) => crate::delta::write(
                 alloc,
                 &self.recipe,
                 self.inputs.as_slice(),
@@ -267,13 +267,13 @@ impl Audit {
     ) -> Result<Audit, DeltaRefusal>
         requires { IsInputs recipe inputs }
         // What is resumed is an audit of this recipe and these inputs at a position, and the text is its delta against the base's position.
-        ensures found { IfOk result (λ audit. IsResumedBeside recipe inputs base.now delta.now audit) }
+        ensures found { IfOk result (λ audit. IsResumedRelative recipe inputs base.now delta.now audit) }
         // The delta of every position of this recipe and these inputs, reached or not, against every other one is resumed there beside each text of
         // the save of its base, unless memory runs out.
         ensures only { (b : Position) (p : Position) → IsBaseAt recipe inputs b base.now → IsPosition recipe p
-            → delta.now ≡ delta_text_of recipe inputs b p → IsResumedBesideAt recipe inputs p result }
+            → delta.now ≡ delta_text_of recipe inputs b p → IsResumedRelativeAt recipe inputs p result }
         // When each refusal comes.
-        ensures exact { ResumesAuditBeside recipe inputs base.now delta.now result }
+        ensures exact { ResumesAuditRelative recipe inputs base.now delta.now result }
     {
         let place = crate::delta::read(alloc, &recipe, inputs.as_slice(), base, delta)?;
         Ok(Audit::standing(alloc, recipe, inputs, place))
@@ -290,7 +290,7 @@ impl Audit {
             recipe,
             inputs,
             done,
-            place: Place::Running(guest),
+            place: AuditPlace::Running(guest),
             alloc,
         }
     }

@@ -2,20 +2,20 @@
 
 ghost use Rattle.recipe.specs.Kept.{IsRecipe};
 ghost use Rattle.std.specs.Prelude.{◌≡◌, IfOk};
-ghost use Rattle.wheeler.specs.Bench.{bench};
-ghost use Rattle.wheeler.specs.Valid.{IsAuditAnswer, IsInputs};
+ghost use Rattle.audit_rules.specs.Bench.{bench};
+ghost use Rattle.audit_rules.specs.Valid.{IsAuditAnswer, IsInputs};
 
 use crate::earlier::run_earlier;
 use crate::stage::report_of;
 use ddc_base::{Bytes, OutOfMemory};
 use recipe::Recipe;
 use std::alloc::Global;
-use wheeler::Answer;
+use audit_rules::AuditAnswer;
 
 /// What the audit of a recipe and its inputs comes to.
 ///
 /// Between two stages nothing is kept but what those that are done came to: a stage's guest is given up before the next one starts.
-pub fn run_bench(alloc: Global, recipe: &Recipe, inputs: &[Bytes]) -> Result<Answer, OutOfMemory>
+pub fn run_bench(alloc: Global, recipe: &Recipe, inputs: &[Bytes]) -> Result<AuditAnswer, OutOfMemory>
     requires given { IsInputs recipe.now inputs.now }
     ensures answer { IfOk result (λ answer. answer ≡ bench recipe.now inputs.now) }
     ensures form { IfOk result IsAuditAnswer }
@@ -25,8 +25,8 @@ pub fn run_bench(alloc: Global, recipe: &Recipe, inputs: &[Bytes]) -> Result<Ans
     match run_earlier(alloc, recipe, inputs, count)? {
         Ok(done) => {
             let report = report_of(alloc, recipe, inputs, done.as_slice())?;
-            Ok(Answer::Completes(report))
+            Ok(AuditAnswer::Completes(report))
         }
-        Err(not_done) => Ok(Answer::Fails(not_done.stage, not_done.fault)),
+        Err(not_done) => Ok(AuditAnswer::Fails(not_done.stage, not_done.fault)),
     }
 }

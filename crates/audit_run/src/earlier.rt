@@ -5,9 +5,9 @@ ghost use Rattle.audit_run.specs.Inside.Parts.{later};
 ghost use Rattle.guest_run.specs.Run.{first_end};
 ghost use Rattle.recipe.specs.Kept.{IsRecipe};
 ghost use Rattle.std.specs.Prelude.{◌≡◌, ◌++◌, ◌∷◌, [], ◌-◌, ◌≤◌, IfOk, length, take};
-ghost use Rattle.wheeler.specs.Positions.{at, todo};
-ghost use Rattle.wheeler.specs.Stages.{by_end, stage_result};
-ghost use Rattle.wheeler.specs.Valid.{AreDone, IsAt, IsInputs};
+ghost use Rattle.audit_rules.specs.Positions.{at, todo};
+ghost use Rattle.audit_rules.specs.Stages.{by_end, stage_result};
+ghost use Rattle.audit_rules.specs.Valid.{AreDone, IsAt, IsInputs};
 
 use crate::place::Moved;
 use crate::stage::{Done, start_stage};
@@ -16,15 +16,15 @@ use ddc_base::{Bytes, ListOf, OutOfMemory};
 use guest_run::{Guest, RunRam};
 use recipe::{Recipe, Stage};
 use std::alloc::Global;
-use wheeler::{Fault, RunCause};
+use audit_rules::{StageFault, RunCause};
 
 /// A stage that is not done.
 #[derive(Clone, Copy)]
-pub struct Undone {
+pub struct Unfinished {
     /// The stage's number, from 1.
     pub stage: u32,
     /// Why it is not done.
-    pub fault: Fault,
+    pub fault: StageFault,
 }
 
 /// Runs the first so many stages, in order: what they leave, or the first of them that is not done.
@@ -33,7 +33,7 @@ pub fn run_earlier(
     recipe: &Recipe,
     inputs: &[Bytes],
     count: usize,
-) -> Result<Result<ListOf<Done>, Undone>, OutOfMemory>
+) -> Result<Result<ListOf<Done>, Unfinished>, OutOfMemory>
     requires given { IsInputs recipe.now inputs.now }
     requires count { count ≤ length recipe.now.stages }
     ensures stages { IfOk result (λ run. run ≡ done_in_order recipe.now inputs.now [] (take count recipe.now.stages)) }
@@ -45,7 +45,7 @@ pub fn run_earlier(
             Ok(finished) => done.push(finished)?,
             Err(fault) => {
                 let stage = done.len() as u32 + 1;
-                return Ok(Err(Undone { stage, fault }));
+                return Ok(Err(Unfinished { stage, fault }));
             }
         }
     }
@@ -59,7 +59,7 @@ fn run_stage(
     stage: &Stage,
     inputs: &[Bytes],
     done: &[Done],
-) -> Result<Result<Done, Fault>, OutOfMemory>
+) -> Result<Result<Done, StageFault>, OutOfMemory>
     requires kept { IsRecipe recipe.now }
     requires given { IsInputs recipe.now inputs.now }
     requires done { AreDone recipe.now done.now }
@@ -69,7 +69,7 @@ fn run_stage(
 {
     match start_stage(alloc, recipe, stage, inputs, done)? {
         Ok(guest) => run_out(alloc, recipe, stage, inputs, done, guest),
-        Err(cause) => Ok(Err(Fault::Runs(RunCause::Start(cause), 0))),
+        Err(cause) => Ok(Err(StageFault::Runs(RunCause::Start(cause), 0))),
     }
 }
 
@@ -81,7 +81,7 @@ fn run_out(
     inputs: &[Bytes],
     done: &[Done],
     guest: Guest<RunRam>,
-) -> Result<Result<Done, Fault>, OutOfMemory>
+) -> Result<Result<Done, StageFault>, OutOfMemory>
     requires kept { IsRecipe recipe.now }
     requires given { IsInputs recipe.now inputs.now }
     requires stands { IsAt recipe.now (at done.now guest) stage.now (later recipe.now done.now) }

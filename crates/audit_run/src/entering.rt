@@ -4,15 +4,15 @@ ghost use Rattle.audit_run.specs.Inside.Parts.{IsStarted, stands};
 ghost use Rattle.mem_files.specs.Outputs.{IsContent};
 ghost use Rattle.recipe.specs.Kept.{IsRecipe};
 ghost use Rattle.std.specs.Prelude.{◌≡◌, All, IfOk};
-ghost use Rattle.wheeler.specs.Positions.{enter, todo};
-ghost use Rattle.wheeler.specs.Valid.{AreDone};
+ghost use Rattle.audit_rules.specs.Positions.{enter, todo};
+ghost use Rattle.audit_rules.specs.Valid.{AreDone};
 
-use crate::place::Place;
+use crate::place::AuditPlace;
 use crate::stage::{Done, report_of, start_stage};
 use ddc_base::{Bytes, OutOfMemory};
 use recipe::Recipe;
 use std::alloc::Global;
-use wheeler::{Answer, Fault, RunCause};
+use audit_rules::{AuditAnswer, StageFault, RunCause};
 
 /// Starts the stage that follows those that are done; where none does, makes the report.
 pub(crate) fn enter(
@@ -20,7 +20,7 @@ pub(crate) fn enter(
     recipe: &Recipe,
     inputs: &[Bytes],
     done: &[Done],
-) -> Result<Place, OutOfMemory>
+) -> Result<AuditPlace, OutOfMemory>
     requires inputs { All IsContent inputs.now }
     requires done { AreDone recipe.now done.now }
     ensures kept { IsRecipe recipe.now }
@@ -29,14 +29,14 @@ pub(crate) fn enter(
 {
     let Some(stage) = recipe.stages().as_slice().get(done.len()) else {
         let report = report_of(alloc, recipe, inputs, done)?;
-        return Ok(Place::Over(Answer::Completes(report)));
+        return Ok(AuditPlace::Over(AuditAnswer::Completes(report)));
     };
     match start_stage(alloc, recipe, stage, inputs, done)? {
-        Ok(guest) => Ok(Place::Running(guest)),
+        Ok(guest) => Ok(AuditPlace::Running(guest)),
         Err(cause) => {
             let number = done.len() as u32 + 1;
-            let fault = Fault::Runs(RunCause::Start(cause), 0);
-            Ok(Place::Over(Answer::Fails(number, fault)))
+            let fault = StageFault::Runs(RunCause::Start(cause), 0);
+            Ok(AuditPlace::Over(AuditAnswer::Fails(number, fault)))
         }
     }
 }

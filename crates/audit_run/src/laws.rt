@@ -1,26 +1,26 @@
 //! Laws of audits. Each law is the contract of a function that does nothing.
 
 ghost use Rattle.audit_run.specs.Advances.{Advances};
-ghost use Rattle.audit_run.specs.Earlier.{done_in_order, goes_on_behind};
+ghost use Rattle.audit_run.specs.Earlier.{done_in_order, goes_on_after};
 ghost use Rattle.audit_run.specs.Saved.{standing_at};
 ghost use Rattle.audit_run.specs.declared.place.Progress.{Progress};
 ghost use Rattle.recipe.specs.Kept.{IsRecipe};
-ghost use Rattle.recipe.specs.declared.contents.Said.{Said};
+ghost use Rattle.recipe.specs.declared.contents.RecipeContents.{RecipeContents};
 ghost use Rattle.std.specs.Prelude.{◌≡◌, ℕ, [], List, Some, drop, take};
-ghost use Rattle.wheeler.specs.Bench.{bench};
-ghost use Rattle.wheeler.specs.Positions.{Position, Standing, continue, finish};
-ghost use Rattle.wheeler.specs.Valid.{IsPosition};
+ghost use Rattle.audit_rules.specs.Bench.{bench};
+ghost use Rattle.audit_rules.specs.Positions.{Position, Standing, continue, finish};
+ghost use Rattle.audit_rules.specs.Valid.{IsPosition};
 
 /// An audit that was resumed comes to the answer of its position's continuation, whether any audit ever reached that position: wherever an advance
 /// leaves it, also for want of memory, going on to the end gives that answer.
 pub fn resumed_audits_continue()
-    ensures { (recipe : Said) (inputs : List (List ℕ)) (p : Position) (most : ℕ) (answer : Progress) (now : Standing) → IsRecipe recipe
+    ensures { (recipe : RecipeContents) (inputs : List (List ℕ)) (p : Position) (most : ℕ) (answer : Progress) (now : Standing) → IsRecipe recipe
         → IsPosition recipe p → Advances (standing_at recipe inputs p) most answer (Some now)
         → finish recipe inputs now ≡ continue recipe inputs p }
 {}
 
-/// Earlier stages are the audit's own: what the first so many come to is what the bench comes to first, which goes on behind them.
+/// Earlier stages are the audit's own: what the first so many come to is what the bench comes to first, which goes on after them.
 pub fn earlier_stages_are_the_audits()
-    ensures { (recipe : Said) (inputs : List (List ℕ)) (count : ℕ) → bench recipe inputs
-        ≡ goes_on_behind recipe inputs (drop count recipe.stages) (done_in_order recipe inputs [] (take count recipe.stages)) }
+    ensures { (recipe : RecipeContents) (inputs : List (List ℕ)) (count : ℕ) → bench recipe inputs
+        ≡ goes_on_after recipe inputs (drop count recipe.stages) (done_in_order recipe inputs [] (take count recipe.stages)) }
 {}

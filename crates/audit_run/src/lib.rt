@@ -23,5 +23,5 @@ pub use crate::delta::DeltaRefusal;
 pub use crate::save::SaveRefusal;
 pub use audit::Audit;
 pub use bench::run_bench;
-pub use earlier::{Undone, run_earlier};
+pub use earlier::{Unfinished, run_earlier};
 pub use place::Progress;

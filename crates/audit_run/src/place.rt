@@ -4,23 +4,23 @@ ghost use Rattle.std.specs.Prelude.{◌≡◌};
 
 use crate::stage::Done;
 use guest_run::{Guest, RunRam};
-use wheeler::source_check::CheckCause;
-use wheeler::{Answer, Fault, RunCause};
+use audit_rules::source_check::CheckCause;
+use audit_rules::{AuditAnswer, StageFault, RunCause};
 
 /// Where an audit stands.
 #[derive(Drop)]
-pub(crate) enum Place {
+pub(crate) enum AuditPlace {
     /// No advance was made: the first stage has not started.
     Ready,
     /// A stage runs.
     Running(Guest<RunRam>),
     /// The audit is over.
-    Over(Answer),
+    Over(AuditAnswer),
 }
 
-impl Place {
+impl AuditPlace {
     /// The audit goes on to stand there.
-    pub(crate) fn set(&mut self, next: Place)
+    pub(crate) fn set(&mut self, next: AuditPlace)
         ensures { self.new ≡ next }
     {
         *self = next;
@@ -33,7 +33,7 @@ pub(crate) enum Moved {
     /// The stage goes on.
     Goes,
     /// The stage's run has ended.
-    Ended(Result<Done, Fault>),
+    Ended(Result<Done, StageFault>),
 }
 
 /// What becomes of the guest of a stage that is done.

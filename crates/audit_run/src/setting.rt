@@ -3,9 +3,9 @@
 ghost use Rattle.audit_run.specs.Seen.{first_setting};
 ghost use Rattle.mem_files.specs.Outputs.{IsContent};
 ghost use Rattle.std.specs.Prelude.{◌≡◌, All, IfOk, option_map};
-ghost use Rattle.wheeler.specs.Positions.{todo};
-ghost use Rattle.wheeler.specs.Stages.{contents};
-ghost use Rattle.wheeler.specs.Valid.{AreDone};
+ghost use Rattle.audit_rules.specs.Positions.{todo};
+ghost use Rattle.audit_rules.specs.Stages.{contents};
+ghost use Rattle.audit_rules.specs.Valid.{AreDone};
 
 use crate::stage::{Done, box_of, content};
 use ddc_base::{Bytes, OutOfMemory};

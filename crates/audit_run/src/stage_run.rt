@@ -5,9 +5,9 @@ ghost use Rattle.audit_run.specs.Stage.Rules.{IsStageOf};
 ghost use Rattle.recipe.specs.Kept.{IsRecipe};
 ghost use Rattle.guest_run.specs.Run.{first_end};
 ghost use Rattle.std.specs.Prelude.{◌≡◌, ◌≤◌, ◌+◌, ◌-◌, IfOk};
-ghost use Rattle.wheeler.specs.Positions.{at};
-ghost use Rattle.wheeler.specs.Stages.{by_end};
-ghost use Rattle.wheeler.specs.Valid.{IsAt, IsInputs};
+ghost use Rattle.audit_rules.specs.Positions.{at};
+ghost use Rattle.audit_rules.specs.Stages.{by_end};
+ghost use Rattle.audit_rules.specs.Valid.{IsAt, IsInputs};
 
 use crate::place::Moved;
 use crate::stage::{Done, exited};
@@ -15,7 +15,7 @@ use ddc_base::{Bytes, OutOfMemory};
 use guest_run::{Guest, RunEnd, RunRam};
 use recipe::{Recipe, Stage};
 use std::alloc::Global;
-use wheeler::{Fault, RunCause};
+use audit_rules::{StageFault, RunCause};
 
 /// At most `most` steps of a stage, which end with the stage's run.
 pub(crate) fn run_slice(
@@ -44,19 +44,19 @@ pub(crate) fn run_slice(
             if guest.steps() < stage.steps {
                 Ok((slice, Moved::Goes))
             } else {
-                let fault = Fault::Runs(RunCause::Spent, stage.steps);
+                let fault = StageFault::Runs(RunCause::Spent, stage.steps);
                 Ok((slice, Moved::Ended(Err(fault))))
             }
         }
         RunEnd::OutOfMemory => Err(OutOfMemory),
         RunEnd::Trapped(cause) => {
             let step = guest.steps() + 1;
-            let fault = Fault::Runs(RunCause::Trap(cause), step);
+            let fault = StageFault::Runs(RunCause::Trap(cause), step);
             Ok((step - before, Moved::Ended(Err(fault))))
         }
         RunEnd::UnknownCall(number) => {
             let step = guest.steps() + 1;
-            let fault = Fault::Runs(RunCause::Call(number), step);
+            let fault = StageFault::Runs(RunCause::Call(number), step);
             Ok((step - before, Moved::Ended(Err(fault))))
         }
         RunEnd::Exited(status) => {

@@ -1,28 +1,28 @@
 //! An audit's steps, over its parts.
 
-ghost use Rattle.audit_run.specs.Inside.Parts.{IsPlace, IsStarted, KeepsPlace, later, Slices, stands, WantsBehind};
+ghost use Rattle.audit_run.specs.Inside.Parts.{IsSavedPlace, IsStarted, KeepsPlace, later, Slices, stands, WantsAfter};
 ghost use Rattle.recipe.specs.Kept.{IsRecipe};
 ghost use Rattle.std.specs.Prelude.{◌≡◌, ◌++◌, ◌∷◌, [], ◌≤◌, IfOk, OnErr, OnOk, Ok};
-ghost use Rattle.wheeler.specs.Positions.{at, stage_closed, forward_from, todo};
-ghost use Rattle.wheeler.specs.Valid.{AreDone, IsInputs, IsPosition};
+ghost use Rattle.audit_rules.specs.Positions.{at, stage_closed, forward_from, todo};
+ghost use Rattle.audit_rules.specs.Valid.{AreDone, IsInputs, IsPosition};
 
 use crate::entering::enter;
-use crate::place::{EndedGuest, Moved, Place};
+use crate::place::{EndedGuest, Moved, AuditPlace};
 use crate::stage::Done;
 use crate::stage_run::run_slice;
 use ddc_base::{Bytes, OutOfMemory};
 use guest_run::{Guest, RunRam};
 use recipe::Recipe;
 use std::alloc::Global;
-use wheeler::Answer;
+use audit_rules::AuditAnswer;
 
 /// A stage is done: its guest is given up where it is not to be kept.
-fn leave(place: &mut Place, ended: EndedGuest)
+fn leave(place: &mut AuditPlace, ended: EndedGuest)
     ensures { KeepsPlace ended place.old place.new }
 {
     match ended {
         EndedGuest::Kept => {}
-        EndedGuest::GivenUp => place.set(Place::Ready),
+        EndedGuest::GivenUp => place.set(AuditPlace::Ready),
     }
 }
 
@@ -32,7 +32,7 @@ fn close(
     recipe: &Recipe,
     inputs: &[Bytes],
     done: &mut Vec<Done>,
-    place: &mut Place,
+    place: &mut AuditPlace,
     finished: Done,
     ended: EndedGuest,
 ) -> Result<(), OutOfMemory>
@@ -84,26 +84,26 @@ fn stretch(
     recipe: &Recipe,
     inputs: &[Bytes],
     done: &mut Vec<Done>,
-    place: &mut Place,
+    place: &mut AuditPlace,
     most: u64,
     ended: EndedGuest,
 ) -> Result<u64, OutOfMemory>
     requires some { 1 ≤ most }
     requires given { IsInputs recipe.now inputs.now }
-    requires stands { IsPlace recipe.now done.old.items place.old }
+    requires stands { IsSavedPlace recipe.now done.old.items place.old }
     requires started { IsStarted place.old }
     ensures ok { IfOk result (λ taken. stands recipe.now inputs.now done.new.items place.new
         ≡ forward_from recipe.now inputs.now (stands recipe.now inputs.now done.old.items place.old) taken) }
     ensures some { IfOk result (λ taken. 1 ≤ taken) }
     ensures most { IfOk result (λ taken. taken ≤ most) }
     ensures started { OnOk result (IsStarted place.new) }
-    ensures stands { OnOk result (IsPlace recipe.now done.new.items place.new) }
-    ensures err { OnErr result (WantsBehind ended recipe.now inputs.now (stands recipe.now inputs.now done.old.items place.old) most
+    ensures stands { OnOk result (IsSavedPlace recipe.now done.new.items place.new) }
+    ensures err { OnErr result (WantsAfter ended recipe.now inputs.now (stands recipe.now inputs.now done.old.items place.old) most
         done.new.items place.new) }
 {
     let (taken, moved) = match place {
-        Place::Running(guest) => run_present(alloc, recipe, inputs, done.as_slice(), guest, most)?,
-        Place::Ready | Place::Over(_) => return Ok(most),
+        AuditPlace::Running(guest) => run_present(alloc, recipe, inputs, done.as_slice(), guest, most)?,
+        AuditPlace::Ready | AuditPlace::Over(_) => return Ok(most),
     };
     match moved {
         Moved::Goes => Ok(taken),
@@ -112,7 +112,7 @@ fn stretch(
             Ok(taken)
         }
         Moved::Ended(Err(fault)) => {
-            place.set(Place::Over(Answer::Fails(done.len() as u32 + 1, fault)));
+            place.set(AuditPlace::Over(AuditAnswer::Fails(done.len() as u32 + 1, fault)));
             Ok(taken)
         }
     }
@@ -124,18 +124,18 @@ pub(crate) fn advance_started(
     recipe: &Recipe,
     inputs: &[Bytes],
     done: &mut Vec<Done>,
-    place: &mut Place,
+    place: &mut AuditPlace,
     most: u64,
     ended: EndedGuest,
 ) -> Result<(), OutOfMemory>
     requires given { IsInputs recipe.now inputs.now }
-    requires stands { IsPlace recipe.now done.old.items place.old }
+    requires stands { IsSavedPlace recipe.now done.old.items place.old }
     requires started { IsStarted place.old }
     ensures ok { OnOk result (stands recipe.now inputs.now done.new.items place.new
         ≡ forward_from recipe.now inputs.now (stands recipe.now inputs.now done.old.items place.old) most) }
     ensures started { OnOk result (IsStarted place.new) }
-    ensures stands { OnOk result (IsPlace recipe.now done.new.items place.new) }
-    ensures err { OnErr result (WantsBehind ended recipe.now inputs.now (stands recipe.now inputs.now done.old.items place.old) most
+    ensures stands { OnOk result (IsSavedPlace recipe.now done.new.items place.new) }
+    ensures err { OnErr result (WantsAfter ended recipe.now inputs.now (stands recipe.now inputs.now done.old.items place.old) most
         done.new.items place.new) }
 {
     let mut left = most;

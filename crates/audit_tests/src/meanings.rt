@@ -14,7 +14,7 @@ mod routes;
 #[cfg(test)]
 mod semantics;
 
-/// A recipe with these stages behind its other tables.
+/// A recipe with these stages after its other tables.
 pub fn with_stages(alloc: Global, front: &str, stages: &str) -> Result<String, OutOfMemory>
     ensures { IfOk result (λ text. string_bytes text ≡ front.now ++ (codes "stage = [" ++ (stages.now ++ codes "]\n"))) }
 {

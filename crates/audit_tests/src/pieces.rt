@@ -284,7 +284,7 @@ fn a_setting_is_the_present_stage(rt: HostRuntime) {
 fn gives_after(alloc: Global, steps: u64, length: Option<u64>) -> bool {
     match worked(alloc) {
         Ok(mut audit) => {
-            let gives = gives_behind(alloc, &mut audit, steps, length);
+            let gives = gives_following(alloc, &mut audit, steps, length);
             drop(audit);
             gives
         }
@@ -293,7 +293,7 @@ fn gives_after(alloc: Global, steps: u64, length: Option<u64>) -> bool {
 }
 
 /// The same of an audit that has not started.
-fn gives_behind(alloc: Global, audit: &mut Audit, steps: u64, length: Option<u64>) -> bool {
+fn gives_following(alloc: Global, audit: &mut Audit, steps: u64, length: Option<u64>) -> bool {
     if steps > 0 {
         audit.advance(steps);
     }

@@ -2,7 +2,7 @@
 
 ghost use Rattle.std.specs.Prelude.{◌↔◌, All, IsTrue};
 ghost use Rattle.mem_files.specs.Outputs.{IsContent};
-ghost use Rattle.wheeler.specs.Valid.{IsInputs};
+ghost use Rattle.audit_rules.specs.Valid.{IsInputs};
 
 use ddc_base::Bytes;
 use recipe::{Inputs, Recipe};

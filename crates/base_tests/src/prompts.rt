@@ -8,7 +8,7 @@ use std::io::Read;
 use std::process::Abort;
 use std::test::Fail;
 
-/// A front part of so many bytes `x`, the bytes behind it, and the lines that are given: how many bytes each has, 999 for one that is too long.
+/// A front part of so many bytes `x`, the bytes after it, and the lines that are given: how many bytes each has, 999 for one that is too long.
 type Row = (usize, &'static str, &'static [usize]);
 
 static ROWS: [Row; 16] = [
@@ -142,7 +142,7 @@ fn held_fails(alloc: Global) -> Result<bool, OutOfMemory> {
     fails_held(&mut held)
 }
 
-/// What a failed call has read is gone, and the next call goes on behind it.
+/// What a failed call has read is gone, and the next call goes on after it.
 fn read_fails() -> bool {
     let mut read = ReaderPrompt::new(Source {
         bytes: b"ab\ncd\n",

@@ -8,23 +8,23 @@ use Rattle.std.specs.Ordering.{eq_by_cmp}
 use Rattle.std.proofs.lemmas.Bool.Decides.{Decides-below_and, Decides-eqb, Decides-like, Decides-ltb, Decides-or}
 use Rattle.std.proofs.lemmas.List.Elements.{All-from_recursion, recursion_from_All}
 use Rattle.paged_mem.specs.Memory.{Memory, IsFree, maps, page_up}
-use Rattle.mem_files.specs.declared.slot.Slot.{Slot}
-use Rattle.mem_files.specs.declared.slot.Slot.TheVariants.{Input, Stream1, Stream2, File}
+use Rattle.mem_files.specs.declared.open_file.OpenFile.{OpenFile}
+use Rattle.mem_files.specs.declared.open_file.OpenFile.TheVariants.{Input, Stream1, Stream2, File}
 use Rattle.mem_files.specs.Limits.{most_content, most_descriptors, most_names, most_total}
 use Rattle.mem_files.specs.Lists.{AreInRange, FileLists, is_listed, is_used, named}
 use Rattle.mem_files.specs.Names.{bytes_cmp, is_stripped_name}
 use Rattle.mem_files.specs.Outputs.{IsContent}
-use Rattle.mem_files.specs.Sound.{AreBytes, IsSlotAt}
+use Rattle.mem_files.specs.Sound.{AreBytes, IsOpenFileAt}
 use Rattle.linux_calls.specs.declared.Heap.{Heap}
 use Rattle.linux_calls.specs.HeapOf.{IsHeapOf}
 use Rattle.rv64_machine.specs.Hart.{IsReservation}
 use Rattle.guest_run.specs.Stack.{stack_end, stack_size}
-use Rattle.guest_run.specs.Valid.{Fits, pages_beside}
-use Rattle.save_text.specs.declared.state_text.parts.Run.{Run}
-use Rattle.save_text.specs.StateText.Mappable.{AreMappable}
-use Rattle.save_text.specs.StateText.StateText.{StateText}
+use Rattle.guest_run.specs.Valid.{Fits, pages_apart}
+use Rattle.save_format.specs.declared.state_text.parts.Run.{Run}
+use Rattle.save_format.specs.StateText.Mappable.{AreMappable}
+use Rattle.save_format.specs.StateText.StateText.{StateText}
 use Rattle.checkpoints.specs.Checkpoint.{IsInMemory, IsInRange, IsJoined, lists_in, mapped_of, memory_of}
-use Rattle.checkpoints.specs.FileParts.Inside.Judged.{is_slot_at}
+use Rattle.checkpoints.specs.FileParts.Inside.Judged.{is_open_file_at}
 use Rattle.checkpoints.specs.Inside.Tests as test
 use Rattle.checkpoints.proofs.Decisions.{are_all, both, has_none, is_at_most, is_test}
 
@@ -36,11 +36,11 @@ are_bytes bytes = are_all (λ byte. Decides-ltb byte 256) bytes
 pub is_content : (content : List ℕ) → Decides (test.is_content content) (IsContent content)
 is_content content = Decides-like _ (λ h. assumption) (λ h. assumption) (both (are_bytes content) (is_at_most (length content) most_content))
 
-slot_at : (fd : ℕ) (slot : Slot) → Decides (is_slot_at fd slot) (IsSlotAt fd slot)
-slot_at fd Input = Decides-eqb fd 0
-slot_at fd Stream1 = Decides-eqb fd 1
-slot_at fd Stream2 = Decides-eqb fd 2
-slot_at fd (File number cursor access) = Decides-ltb cursor (2 ^ 63)
+open_file_at : (fd : ℕ) (open_file : OpenFile) → Decides (is_open_file_at fd open_file) (IsOpenFileAt fd open_file)
+open_file_at fd Input = Decides-eqb fd 0
+open_file_at fd Stream1 = Decides-eqb fd 1
+open_file_at fd Stream2 = Decides-eqb fd 2
+open_file_at fd (File number file_offset access) = Decides-ltb file_offset (2 ^ 63)
 
 is_false : (b : Bool) → Decides (not b) (b ≡ false)
 is_false true = (λ t. cc, λ e. cc)
@@ -64,7 +64,7 @@ are_in_range lists =
     (both (are_all (λ file. is_content file.content) lists.files)
     (both (are_all is_content lists.streams)
     (both (is_at_most (sum_by length lists.streams + sum_by (λ file. length file.content) lists.files) most_total)
-    (both (are_all (λ e. Decides-ltb e.0 most_descriptors) lists.slots) (are_all (λ e. slot_at e.0 e.1) lists.slots)))))))))
+    (both (are_all (λ e. Decides-ltb e.0 most_descriptors) lists.open_files) (are_all (λ e. open_file_at e.0 e.1) lists.open_files)))))))))
 
 -- memory
 
@@ -88,7 +88,7 @@ fits : (m : Memory) (heap : Heap) → Decides (test.is_fit m heap) (Fits m heap)
 unfolding test.is_fit
 fits m heap =
     Decides-like _ (λ h. assumption) (λ h. assumption)
-    (both (is_heap_of m heap) (both (is_test (maps m (stack_end - stack_size) stack_size)) (is_at_most (pages_beside m heap) 67584)))
+    (both (is_heap_of m heap) (both (is_test (maps m (stack_end - stack_size) stack_size)) (is_at_most (pages_apart m heap) 67584)))
 
 are_mappable : (runs : List Run) → Decides (test.are_mappable runs) (AreMappable runs)
 unfolding test.are_mappable

@@ -1,12 +1,12 @@
 -- Exactly the texts of valid states are read, each as its guest.
 use Rattle.std.proofs.Common.{◌≡◌, ℕ, ◌^◌, ◌<◌, List, Result, Ok, Err, sym, ap, subst, ◌∙◌}
 use Rattle.std.specs.Prelude.{IfOk}
-use Rattle.save_text.proofs.ByteFieldsLemmas.Spells.{AreBytes}
+use Rattle.save_format.proofs.ByteFieldsLemmas.Spells.{AreBytes}
 use Rattle.guest_run.specs.State.{GuestState}
 use Rattle.guest_run.specs.Valid.{IsValid}
-use Rattle.save_text.specs.StateText.StateText.{StateText, parsed_state}
-use Rattle.save_text.specs.StateText.Spelled.{IsTextOfState}
-use Rattle.save_text.proofs.StateTextLemmas.Texts.{formed_again, spelled}
+use Rattle.save_format.specs.StateText.StateText.{StateText, parsed_state}
+use Rattle.save_format.specs.StateText.Spelled.{IsTextOfState}
+use Rattle.save_format.proofs.StateTextLemmas.Texts.{formed_again, spelled}
 use Rattle.checkpoints.specs.declared.reading.StateRefusal.{StateRefusal}
 use Rattle.checkpoints.specs.declared.reading.StateRefusal.TheVariants as state
 use Rattle.checkpoints.specs.Checkpoint.{IsInRange, IsJoined, IsReadAs, ReadsState, guest_of, state_of}

@@ -9,16 +9,16 @@ use Rattle.std.specs.FinMap as finite
 use Rattle.std.specs.FinMap.Entries.{below_all}
 use Rattle.std.proofs.lemmas.Bool.{leb-true}
 use Rattle.std.proofs.lemmas.List.Elements.{All-head, All-tail}
-use Rattle.save_text.specs.ByteFields.Spelling.{InTurn}
-use Rattle.mem_files.specs.declared.slot.Slot.{Slot}
-use Rattle.mem_files.specs.declared.slot.Slot.TheVariants.{Input, Stream1, Stream2, File}
+use Rattle.save_format.specs.ByteFields.Spelling.{InTurn}
+use Rattle.mem_files.specs.declared.open_file.OpenFile.{OpenFile}
+use Rattle.mem_files.specs.declared.open_file.OpenFile.TheVariants.{Input, Stream1, Stream2, File}
 use Rattle.mem_files.specs.Lists.{AreInRange, AreJoined, AreOrdered, FileLists, ListedFile, numbered_contents, is_listed, named, with_name}
 use Rattle.mem_files.specs.Lists as lists
 use Rattle.mem_files.specs.Names.{begins_with_dot_slash, is_file_name, is_stripped_name}
 use Rattle.mem_files.specs.Outputs.{IsContent}
-use Rattle.mem_files.specs.Sound.{IsSlotAt}
-use Rattle.save_text.specs.StateText.StateText.{after_descriptor, after_file}
-use Rattle.save_text.specs.StateText.Spelled.{IsDescriptor, IsFile, IsNameText, IsSlot}
+use Rattle.mem_files.specs.Sound.{IsOpenFileAt}
+use Rattle.save_format.specs.StateText.StateText.{after_descriptor, after_file}
+use Rattle.save_format.specs.StateText.Spelled.{IsDescriptor, IsFile, IsNameText, IsOpenFile}
 
 first_two : (a b : Bool) → (a && b) ≡ true → (a ≡ true) × (b ≡ true)
 first_two true b e = (refl, e)
@@ -86,49 +86,49 @@ any_low number (f ∷ files) e low = by (eqb f.number number) refl e (λ later. 
     by true is found rest = let same : f.number ≡ number = eqb-true f.number number is in let here = All-head (λ (f : ListedFile). f.number < 5120) f files low in omega arith
     by false is found rest = rest found
 
-slot_fits : (files : List ListedFile) (fd : ℕ) (slot : Slot) → IsSlotAt fd slot → is_listed files slot ≡ true → All (λ f. f.number < 5120) files → IsSlot slot
-slot_fits files fd Input good listed low = tt
-slot_fits files fd Stream1 good listed low = tt
-slot_fits files fd Stream2 good listed low = tt
-slot_fits files fd (File number cursor access) good listed low = let small = any_low number files listed low in (omega arith, omega (arith, good))
+open_file_fits : (files : List ListedFile) (fd : ℕ) (open_file : OpenFile) → IsOpenFileAt fd open_file → is_listed files open_file ≡ true → All (λ f. f.number < 5120) files → IsOpenFile open_file
+open_file_fits files fd Input good listed low = tt
+open_file_fits files fd Stream1 good listed low = tt
+open_file_fits files fd Stream2 good listed low = tt
+open_file_fits files fd (File number file_offset access) good listed low = let small = any_low number files listed low in (omega arith, omega (arith, good))
 
-pub paired : (xs : List (ℕ × Slot)) → map (λ e. (e.0, e.1)) xs ≡ xs
+pub paired : (xs : List (ℕ × OpenFile)) → map (λ e. (e.0, e.1)) xs ≡ xs
 paired [] = refl
 paired (x ∷ xs) = ap (λ ys. x ∷ ys) (paired xs)
 
-slot_turn : (files : List ListedFile) (slots : List (ℕ × Slot)) (least : ℕ) → finite.is_sorted nat_cmp slots ≡ true → All (λ e. least ≤ e.0) slots → All (λ e. e.0 < 1024) slots → All (λ e. IsSlotAt e.0 e.1) slots → All (λ e. IsTrue (is_listed files e.1)) slots → All (λ f. f.number < 5120) files
-    → InTurn IsDescriptor after_descriptor least slots
-slot_turn files [] least sorted from low good joined numbers = tt
-slot_turn files (e ∷ slots) least sorted from low good joined numbers =
-    let parts = first_two (below_all nat_cmp e.0 slots) (finite.is_sorted nat_cmp slots) sorted in
-    let fd = All-head (λ (e : ℕ × Slot). e.0 < 1024) e slots low in (
-      record { from = All-head (λ (e : ℕ × Slot). least ≤ e.0) e slots from; fd = omega arith; slot = slot_fits files e.0 e.1 (All-head (λ (e : ℕ × Slot). IsSlotAt e.0 e.1) e slots good) (All-head (λ (e : ℕ × Slot). IsTrue (is_listed files e.1)) e slots joined) numbers },
-      slot_turn files slots (e.0 + 1) parts.1 (above (λ (e : ℕ × Slot). e.0) (λ e. e.1) e.0 slots (all_same slots e.0 parts.0))
-          (All-tail (λ (e : ℕ × Slot). e.0 < 1024) e slots low) (All-tail (λ (e : ℕ × Slot). IsSlotAt e.0 e.1) e slots good) (All-tail (λ (e : ℕ × Slot). IsTrue (is_listed files e.1)) e slots joined) numbers,
+open_file_turn : (files : List ListedFile) (open_files : List (ℕ × OpenFile)) (least : ℕ) → finite.is_sorted nat_cmp open_files ≡ true → All (λ e. least ≤ e.0) open_files → All (λ e. e.0 < 1024) open_files → All (λ e. IsOpenFileAt e.0 e.1) open_files → All (λ e. IsTrue (is_listed files e.1)) open_files → All (λ f. f.number < 5120) files
+    → InTurn IsDescriptor after_descriptor least open_files
+open_file_turn files [] least sorted from low good joined numbers = tt
+open_file_turn files (e ∷ open_files) least sorted from low good joined numbers =
+    let parts = first_two (below_all nat_cmp e.0 open_files) (finite.is_sorted nat_cmp open_files) sorted in
+    let fd = All-head (λ (e : ℕ × OpenFile). e.0 < 1024) e open_files low in (
+      record { from = All-head (λ (e : ℕ × OpenFile). least ≤ e.0) e open_files from; fd = omega arith; open_file = open_file_fits files e.0 e.1 (All-head (λ (e : ℕ × OpenFile). IsOpenFileAt e.0 e.1) e open_files good) (All-head (λ (e : ℕ × OpenFile). IsTrue (is_listed files e.1)) e open_files joined) numbers },
+      open_file_turn files open_files (e.0 + 1) parts.1 (above (λ (e : ℕ × OpenFile). e.0) (λ e. e.1) e.0 open_files (all_same open_files e.0 parts.0))
+          (All-tail (λ (e : ℕ × OpenFile). e.0 < 1024) e open_files low) (All-tail (λ (e : ℕ × OpenFile). IsOpenFileAt e.0 e.1) e open_files good) (All-tail (λ (e : ℕ × OpenFile). IsTrue (is_listed files e.1)) e open_files joined) numbers,
     )
   where
-    all_same : (xs : List (ℕ × Slot)) (n : ℕ) → below_all nat_cmp n xs ≡ true → below_all nat_cmp n (map (λ e. (e.0, e.1)) xs) ≡ true
+    all_same : (xs : List (ℕ × OpenFile)) (n : ℕ) → below_all nat_cmp n xs ≡ true → below_all nat_cmp n (map (λ e. (e.0, e.1)) xs) ≡ true
     all_same xs n below = ap (below_all nat_cmp n) (paired xs) ∙ below
 
-slot_count : (slots : List (ℕ × Slot)) (least : ℕ) → InTurn IsDescriptor after_descriptor least slots → All (λ e. e.0 < 1024) slots → least ≤ 1024 → least + length slots ≤ 1024
-slot_count [] least turn low le = omega arith
-slot_count (e ∷ slots) least turn low le =
+open_file_count : (open_files : List (ℕ × OpenFile)) (least : ℕ) → InTurn IsDescriptor after_descriptor least open_files → All (λ e. e.0 < 1024) open_files → least ≤ 1024 → least + length open_files ≤ 1024
+open_file_count [] least turn low le = omega arith
+open_file_count (e ∷ open_files) least turn low le =
     let from = turn.0.from in
-    let fd = All-head (λ (e : ℕ × Slot). e.0 < 1024) e slots low in
-    let rest = slot_count slots (e.0 + 1) turn.1 (All-tail (λ (e : ℕ × Slot). e.0 < 1024) e slots low) (omega arith) in
+    let fd = All-head (λ (e : ℕ × OpenFile). e.0 < 1024) e open_files low in
+    let rest = open_file_count open_files (e.0 + 1) turn.1 (All-tail (λ (e : ℕ × OpenFile). e.0 < 1024) e open_files low) (omega arith) in
     omega arith
 
 -- files and descriptors in turn, few enough for a count
 pub record HaveText (l : FileLists) : Type 0 where
   pub few_files : length l.files ≤ 5120
-  pub few_slots : length l.slots ≤ 1024
+  pub few_open_files : length l.open_files ≤ 1024
   pub files : (length l.files < 2 ^ 32) × InTurn IsFile after_file 0 l.files
-  pub slots : (length l.slots < 2 ^ 32) × InTurn IsDescriptor after_descriptor 0 l.slots
+  pub open_files : (length l.open_files < 2 ^ 32) × InTurn IsDescriptor after_descriptor 0 l.open_files
 
 pub have_text : (l : FileLists) → AreOrdered l → AreInRange l → AreJoined l → HaveText l
 have_text l order range joined =
     let files = file_turn l.files 0 order.files_rise (λ k d less. omega arith) range.low_numbers range.good_files range.good_names in
-    let slots = slot_turn l.files l.slots 0 order.slots_rise (λ k d less. omega arith) range.low_slots range.good_slots joined.held range.low_numbers in
+    let open_files = open_file_turn l.files l.open_files 0 order.open_files_rise (λ k d less. omega arith) range.low_open_files range.good_open_files joined.held range.low_numbers in
     let few_files = file_count l.files 0 files range.low_numbers (omega arith) in
-    let few_slots = slot_count l.slots 0 slots range.low_slots (omega arith) in
-    record { few_files = omega arith; few_slots = omega arith; files = (omega arith, files); slots = (omega arith, slots) }
+    let few_open_files = open_file_count l.open_files 0 open_files range.low_open_files (omega arith) in
+    record { few_files = omega arith; few_open_files = omega arith; files = (omega arith, files); open_files = (omega arith, open_files) }

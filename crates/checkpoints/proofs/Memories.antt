@@ -3,15 +3,15 @@ use Rattle.std.proofs.Common.{◌≡◌, ℕ, suc, ◌+◌, ◌*◌, ◌^◌, �
 use Rattle.std.specs.List.{AllByRecursion}
 use Rattle.std.specs.FinMap as finite
 use Rattle.std.proofs.lemmas.List.Elements.{All-from_recursion, All-head, All-tail}
-use Rattle.save_text.specs.ByteFields.Spelling.{InTurn}
+use Rattle.save_format.specs.ByteFields.Spelling.{InTurn}
 use Rattle.paged_mem.specs.Memory.{IsWhole, Memory, bytes_at, maps, prepended}
 use Rattle.checkpoints.specs.MemoryParts.Canonical.{AreShown, ArePlaced, with_pages}
 use Rattle.checkpoints.proofs.MemoryPartsLemmas.Filling.{any_order, filled_on}
-use Rattle.save_text.specs.declared.state_text.parts.Page.{Page}
-use Rattle.save_text.specs.declared.state_text.parts.Run.{Run}
-use Rattle.save_text.specs.StateText.StateText.{PageText, StateText, after_page, after_run}
-use Rattle.save_text.specs.StateText.Spelled.{IsPage, IsSavedRun, IsStateText}
-use Rattle.save_text.specs.StateText.Seen.{page_view}
+use Rattle.save_format.specs.declared.state_text.parts.Page.{Page}
+use Rattle.save_format.specs.declared.state_text.parts.Run.{Run}
+use Rattle.save_format.specs.StateText.StateText.{PageText, StateText, after_page, after_run}
+use Rattle.save_format.specs.StateText.Spelled.{IsPage, IsSavedRun, IsStateText}
+use Rattle.save_format.specs.StateText.Seen.{page_view}
 use Rattle.checkpoints.specs.Checkpoint.{mapped_of, memory_of}
 
 abbrev pub EndsWithin : Run → Type 0

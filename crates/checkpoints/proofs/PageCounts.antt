@@ -6,11 +6,11 @@ use Rattle.std.proofs.lemmas.List.Sums.{sum_by-cons}
 use Rattle.std.proofs.lemmas.Bool.{leb-false, ltb-false}
 use Rattle.paged_mem.specs.Memory.{Memory, bytes_at, page_up, prepended}
 use Rattle.linux_calls.specs.declared.Heap.{Heap}
-use Rattle.linux_calls.specs.HeapOf.{is_beside_heap}
-use Rattle.guest_run.specs.Valid.{Fits, pages_beside, pages_from}
+use Rattle.linux_calls.specs.HeapOf.{is_apart_from_heap}
+use Rattle.guest_run.specs.Valid.{Fits, pages_apart, pages_from}
 use Rattle.checkpoints.specs.MemoryParts.Canonical.{ArePlaced, is_mapped, listed_page, page_texts_from as listed_from, runs_from, runs_of, with_page}
-use Rattle.save_text.specs.declared.state_text.parts.Run.{Run}
-use Rattle.save_text.specs.StateText.StateText.{PageText, after_run, is_page}
+use Rattle.save_format.specs.declared.state_text.parts.Run.{Run}
+use Rattle.save_format.specs.StateText.StateText.{PageText, after_run, is_page}
 
 abbrev pages_in : List Run → ℕ
 pages_in runs = sum_by (λ (run : Run). run.pages) runs
@@ -43,14 +43,14 @@ pages-counted mapped page (suc count) =
     at_page mapped page (runs_from mapped (page + 1) count) (pages_from (suc page) count) (ap (λ n. pages_in (runs_from mapped n count)) (add-one page) ∙ pages-counted mapped (suc page) count) (mapped page) refl
 
 -- what passes a test passes it beside another one or where that fails
-split_count : (test beside : ℕ → Bool) (xs : List ℕ) → count_by test xs ≤ count_by (λ x. test x && beside x) xs + count_by (λ x. not (beside x)) xs
-split_count test beside [] = omega arith
-split_count test beside (x ∷ xs) =
-    let rest = split_count test beside xs in
+split_count : (test relative : ℕ → Bool) (xs : List ℕ) → count_by test xs ≤ count_by (λ x. test x && relative x) xs + count_by (λ x. not (relative x)) xs
+split_count test relative [] = omega arith
+split_count test relative (x ∷ xs) =
+    let rest = split_count test relative xs in
     let a = count_by-cons test x xs in
-    let b = count_by-cons (λ x. test x && beside x) x xs in
-    let c = count_by-cons (λ x. not (beside x)) x xs in
-    let one : cond (test x) 1 0 ≤ cond (test x && beside x) 1 0 + cond (not (beside x)) 1 0 = by (test x) (beside x) in
+    let b = count_by-cons (λ x. test x && relative x) x xs in
+    let c = count_by-cons (λ x. not (relative x)) x xs in
+    let one : cond (test x) 1 0 ≤ cond (test x && relative x) 1 0 + cond (not (relative x)) 1 0 = by (test x) (relative x) in
     omega arith
   where
     by : (p q : Bool) → cond p 1 0 ≤ cond (p && q) 1 0 + cond (not q) 1 0
@@ -77,22 +77,22 @@ in_heap first top at true c below above e = absurd cc
 in_heap first top at false true below above e = absurd cc
 in_heap first top at false false below above e = (ltb-false at first below, leb-false top at above)
 
-in_heap_pages : (heap : Heap) (page : ℕ) → not (is_beside_heap heap (4096 * page)) ≡ true → (heap.first ≤ 4096 * page) × (4096 * page < page_up (heap.first + heap.limit))
+in_heap_pages : (heap : Heap) (page : ℕ) → not (is_apart_from_heap heap (4096 * page)) ≡ true → (heap.first ≤ 4096 * page) × (4096 * page < page_up (heap.first + heap.limit))
 in_heap_pages heap page e = in_heap heap.first (page_up (heap.first + heap.limit)) (4096 * page) (nat_lt (4096 * page) heap.first) (nat_le (page_up (heap.first + heap.limit)) (4096 * page)) refl refl e
 
 -- a guest has at most 67,584 pages beside its heap and 262,144 of its heap
 pub few_pages : (m : Memory) (heap : Heap) → Fits m heap → pages_in (runs_of m) ≤ 329_728
-unfolding pages_beside
+unfolding pages_apart
 few_pages m heap fits =
-    let beside : ℕ → Bool = λ page. is_beside_heap heap (4096 * page) in
+    let relative : ℕ → Bool = λ page. is_apart_from_heap heap (4096 * page) in
     let counted = pages-counted (is_mapped m) 0 (2 ^ 26) in
-    let split = split_count (is_mapped m) beside (pages_from 0 (2 ^ 26)) in
+    let split = split_count (is_mapped m) relative (pages_from 0 (2 ^ 26)) in
     let low : ℕ = heap.first / 4096 in
     let high : ℕ = page_up (heap.first + heap.limit) / 4096 in
     let aligned = fits.heap_of.aligned in
     let small = fits.heap_of.small in
-    let inside : (n : ℕ) → not (beside n) ≡ true → (low ≤ n) × (n < high) = λ n e. let lies = in_heap_pages heap n e in let a = lies.0 in let b = lies.1 in (omega arith, omega arith) in
-    let of_heap = between (λ n. not (beside n)) low high inside 0 (2 ^ 26) in
+    let inside : (n : ℕ) → not (relative n) ≡ true → (low ≤ n) × (n < high) = λ n e. let lies = in_heap_pages heap n e in let a = lies.0 in let b = lies.1 in (omega arith, omega arith) in
+    let of_heap = between (λ n. not (relative n)) low high inside 0 (2 ^ 26) in
     let few = fits.few in
     omega arith
 

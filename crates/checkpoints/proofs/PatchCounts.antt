@@ -3,24 +3,24 @@ use Rattle.std.proofs.Common.{◌≡◌, ℕ, zero, suc, ◌+◌, ◌^◌, ◌<�
 use Rattle.std.proofs.Common.{Result, Ok, Err}
 use Rattle.std.specs.Prelude.{IfOk}
 use Rattle.ddc_base.specs.declared.byte_list.OutOfMemory.{OutOfMemory}
-use Rattle.save_text.specs.StateText.Seen.{state_view}
-use Rattle.save_text.specs.declared.state_text.parts.Parts.{Parts}
+use Rattle.save_format.specs.StateText.Seen.{state_view}
+use Rattle.save_format.specs.declared.state_text.parts.StateParts.{StateParts}
 use Rattle.std.specs.FinMap as finite
 use Rattle.std.proofs.lemmas.Option.{none-some, same_Some}
-use Rattle.save_text.specs.ByteFields.Spelling.{InTurn}
+use Rattle.save_format.specs.ByteFields.Spelling.{InTurn}
 use Rattle.guest_run.specs.State.{GuestState}
 use Rattle.checkpoints.specs.MemoryParts.Canonical.{AreShown, pages_of}
-use Rattle.save_text.specs.StateText.StateText.{PageText, StateText, after_page}
-use Rattle.save_text.specs.StateText.Spelled.{IsPage, IsStateText}
+use Rattle.save_format.specs.StateText.StateText.{PageText, StateText, after_page}
+use Rattle.save_format.specs.StateText.Spelled.{IsPage, IsStateText}
 use Rattle.checkpoints.specs.Checkpoint.{IsInRange, mapped_of, state_of}
 use Rattle.checkpoints.proofs.Memories.{placed, shown}
 use Rattle.checkpoints.proofs.SameText.{no_memory, whole_runs}
 use Rattle.checkpoints.proofs.Turns.{pages_shown}
-use Rattle.save_text.specs.PatchText.Numbered.{items_from, with_item}
-use Rattle.save_text.specs.PatchText.PatchText.{PageChange, page_in, page_of, equal_contents}
-use Rattle.save_text.specs.PatchText.Spelled.{IsPatched, page_change_of, page_changes}
-use Rattle.save_text.proofs.PatchTextLemmas.Pages.{page_again, page_number, pages_rise, page_whole}
-use Rattle.save_text.proofs.PatchTextLemmas.Rising.{has_number, items_again}
+use Rattle.save_format.specs.PatchText.Numbered.{items_from, with_item}
+use Rattle.save_format.specs.PatchText.PatchText.{PageChange, page_in, page_of, equal_contents}
+use Rattle.save_format.specs.PatchText.Spelled.{IsPatched, page_change_of, page_changes}
+use Rattle.save_format.proofs.PatchTextLemmas.Pages.{page_again, page_number, pages_rise, page_whole}
+use Rattle.save_format.proofs.PatchTextLemmas.Rising.{has_number, items_again}
 
 -- ---- pages that are in memory are few
 
@@ -109,7 +109,7 @@ pub few_of : (g : GuestState) → length (state_of g).pages ≤ 2 ^ 26
 unfolding state_of
 few_of g = omega (arith, shown_few 0 (pages_of g.hart.memory) (pages_shown g.hart.memory) (omega arith))
 
-pub few_seen : (g : GuestState) (result : Result Parts OutOfMemory) → IfOk result (λ parts. state_view parts ≡ state_of g) → IfOk result (λ parts. length (state_view parts).pages ≤ 2 ^ 26)
+pub few_seen : (g : GuestState) (result : Result StateParts OutOfMemory) → IfOk result (λ parts. state_view parts ≡ state_of g) → IfOk result (λ parts. length (state_view parts).pages ≤ 2 ^ 26)
 few_seen g (Ok parts) seen = omega (arith, few_of g, ap (λ (s : StateText). length s.pages) seen)
 few_seen g (Err e) seen = tt
 

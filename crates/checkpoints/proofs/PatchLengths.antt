@@ -6,14 +6,14 @@ use Rattle.std.proofs.lemmas.List.Elements.{All-cons, All-nil}
 use Rattle.guest_run.specs.State.{GuestState}
 use Rattle.guest_run.specs.Valid.{IsValid}
 use Rattle.mem_files.specs.Lists.{ListedFile, named}
-use Rattle.save_text.specs.ByteFields.Spelling.{InTurn, blob_text, number_text}
-use Rattle.save_text.specs.StateText.StateText.{PageText, StateText, after_page}
-use Rattle.save_text.specs.StateText.Spelled.{IsPage, descriptor_text, name_bytes, run_text}
-use Rattle.save_text.specs.declared.byte_fields.form.TextForm.TheVariants.{Second}
-use Rattle.save_text.specs.PatchText.Numbered.{items_from, with_item}
-use Rattle.save_text.specs.PatchText.PatchText.{PageChange, equal_contents, page_in, page_of, patch_magic}
-use Rattle.save_text.specs.PatchText.Spelled.{change_text, content_beside_text, marks_of, page_change_of, page_changes, patch_body_text, patched_file_text, register_text, text_of_patch, values_text}
-use Rattle.save_text.proofs.PatchTextLemmas.Pages.{known_whole}
+use Rattle.save_format.specs.ByteFields.Spelling.{InTurn, blob_text, number_text}
+use Rattle.save_format.specs.StateText.StateText.{PageText, StateText, after_page}
+use Rattle.save_format.specs.StateText.Spelled.{IsPage, descriptor_text, name_bytes, run_text}
+use Rattle.save_format.specs.declared.byte_fields.form.TextForm.TheVariants.{Second}
+use Rattle.save_format.specs.PatchText.Numbered.{items_from, with_item}
+use Rattle.save_format.specs.PatchText.PatchText.{PageChange, equal_contents, page_in, page_of, patch_magic}
+use Rattle.save_format.specs.PatchText.Spelled.{change_text, content_relative_text, marks_of, page_change_of, page_changes, patch_body_text, patched_file_text, register_text, text_of_patch, values_text}
+use Rattle.save_format.proofs.PatchTextLemmas.Pages.{known_whole}
 use Rattle.checkpoints.specs.Checkpoint.{state_of}
 use Rattle.checkpoints.proofs.FileTurns.{Named}
 use Rattle.checkpoints.proofs.PatchCounts.{count_of, item_count, listed_again}
@@ -95,7 +95,7 @@ changes_most base pages b p = record {
 
 -- ---- contents
 
-content_most : (known : Option (List ℕ)) (content : List ℕ) → HasAtMost (5 + length content) (content_beside_text known content)
+content_most : (known : Option (List ℕ)) (content : List ℕ) → HasAtMost (5 + length content) (content_relative_text known content)
 content_most known content =
     elim (equal_contents known (Some content)) as (λ b. HasAtMost (5 + length content) (cond b (0 ∷ []) (1 ∷ blob_text w32 content))) [
       | true ↦ record { long = omega arith }

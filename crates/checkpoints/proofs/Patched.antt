@@ -1,19 +1,19 @@
 -- Exactly the patches of valid states are read, each as its guest.
 use Rattle.std.proofs.Common.{◌≡◌, ℕ, ◌^◌, ◌<◌, ◌≤◌, List, length, Result, Ok, Err, sym, ap, subst, ◌∙◌}
 use Rattle.std.specs.Prelude.{IfOk}
-use Rattle.save_text.proofs.ByteFieldsLemmas.Spells.{AreBytes}
+use Rattle.save_format.proofs.ByteFieldsLemmas.Spells.{AreBytes}
 use Rattle.guest_run.specs.State.{GuestState}
 use Rattle.guest_run.specs.Valid.{IsValid}
-use Rattle.save_text.specs.StateText.StateText.{StateText}
-use Rattle.save_text.specs.StateText.Spelled.{IsStateText}
+use Rattle.save_format.specs.StateText.StateText.{StateText}
+use Rattle.save_format.specs.StateText.Spelled.{IsStateText}
 use Rattle.checkpoints.specs.declared.reading.StateRefusal.{StateRefusal}
 use Rattle.checkpoints.specs.declared.reading.StateRefusal.TheVariants as state
 use Rattle.checkpoints.specs.Checkpoint.{IsInRange, IsJoined, IsReadAs, guest_of, state_of}
 use Rattle.checkpoints.proofs.SameText.{same_text}
 use Rattle.checkpoints.proofs.States.{in_range, is_text, joined, same_guest}
-use Rattle.save_text.specs.PatchText.PatchText.{parsed_patch}
-use Rattle.save_text.specs.PatchText.Spelled.{text_of_patch}
-use Rattle.save_text.proofs.PatchTextLemmas.Texts.{parsed_again, parsed_takes}
+use Rattle.save_format.specs.PatchText.PatchText.{parsed_patch}
+use Rattle.save_format.specs.PatchText.Spelled.{text_of_patch}
+use Rattle.save_format.proofs.PatchTextLemmas.Texts.{parsed_again, parsed_takes}
 use Rattle.checkpoints.specs.Patching.{AppliesPatch, AppliesPatchTo}
 use Rattle.checkpoints.proofs.PatchCounts.{counted_text, has_patch, range_few}
 

@@ -3,8 +3,8 @@ use Rattle.std.proofs.Common.{◌≡◌, ℕ, ◌%◌, Bool, Result, Ok, Err, re
 use Rattle.std.specs.Prelude.{◌↔◌, IsOk, IsTrue}
 use Rattle.rv64_machine.specs.Hart.{IsReservation}
 use Rattle.guest_run.specs.Valid.{Fits}
-use Rattle.save_text.specs.StateText.Mappable.{AreMappable}
-use Rattle.save_text.specs.StateText.StateText.{StateText}
+use Rattle.save_format.specs.StateText.Mappable.{AreMappable}
+use Rattle.save_format.specs.StateText.StateText.{StateText}
 use Rattle.checkpoints.specs.Checkpoint.{Becomes, IsInMemory, lists_in, memory_of}
 use Rattle.checkpoints.specs.Inside.Parts.{MakesFiles, RefusesMemory, RefusesReservation}
 use Rattle.checkpoints.specs.declared.file_parts.restoring.RestoreRefusal.{RestoreRefusal}

@@ -5,7 +5,7 @@ use Rattle.std.proofs.Math.Seq.{set-append_seam, take-suc}
 use Rattle.std.proofs.lemmas.Bool.{ne_eqb}
 use Rattle.std.proofs.lemmas.List.{length-take-le}
 use Rattle.std.proofs.lemmas.List.Elements.{All-cons, All-nil}
-use Rattle.save_text.specs.ByteFields.Spelling.{InTurn}
+use Rattle.save_format.specs.ByteFields.Spelling.{InTurn}
 use Rattle.paged_mem.specs.Memory.{Memory}
 use Rattle.rv64_machine.specs.Hart.{HartState, with_register}
 

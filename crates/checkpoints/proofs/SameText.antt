@@ -8,19 +8,19 @@ use Rattle.std.specs.Cmp.{nat_cmp_is}
 use Rattle.std.specs.declared.cmp.Ordering.TheVariants.{Less}
 use Rattle.std.proofs.lemmas.List.Elements.{All-head, All-replicate, All-tail}
 use Rattle.std.proofs.lemmas.Option.{none-some}
-use Rattle.save_text.specs.ByteFields.Spelling.{InTurn}
+use Rattle.save_format.specs.ByteFields.Spelling.{InTurn}
 use Rattle.paged_mem.specs.Memory.{IsWhole, Memory, maps, with_bytes, zeros}
 use Rattle.paged_mem.proofs.Mapped.{length-zeros}
 use Rattle.paged_mem.proofs.Wholes.{same_after_write, whole-mapped}
-use Rattle.mem_files.specs.declared.slot.Slot.{Slot}
+use Rattle.mem_files.specs.declared.open_file.OpenFile.{OpenFile}
 use Rattle.mem_files.specs.Lists.{AreOrdered, ListedFile, lists_of, world_of}
 use Rattle.checkpoints.proofs.FilePartsLemmas.SameLists.{same_lists}
 use Rattle.checkpoints.specs.MemoryParts.Canonical.{ArePlaced, AreShown, with_pages, mapped_runs, pages_of, runs_from, runs_of}
 use Rattle.checkpoints.proofs.MemoryPartsLemmas.PagesAgain.{IsZeroed, pages_again}
 use Rattle.checkpoints.proofs.MemoryPartsLemmas.RunsAgain.{get-mapped_runs, in_runs, same_runs_again}
-use Rattle.save_text.specs.declared.state_text.parts.Run.{Run}
-use Rattle.save_text.specs.StateText.StateText.{PageText, StateText, after_page, after_run}
-use Rattle.save_text.specs.StateText.Spelled.{IsDescriptor, IsFile, IsPage, IsStateText}
+use Rattle.save_format.specs.declared.state_text.parts.Run.{Run}
+use Rattle.save_format.specs.StateText.StateText.{PageText, StateText, after_page, after_run}
+use Rattle.save_format.specs.StateText.Spelled.{IsDescriptor, IsFile, IsPage, IsStateText}
 use Rattle.checkpoints.specs.Checkpoint.{IsInRange, guest_of, lists_in, mapped_of, memory_of, state_of}
 use Rattle.checkpoints.proofs.FileTurns.{paired}
 use Rattle.checkpoints.proofs.MemoryPartsLemmas.Filled.{Alike, maps-alike}
@@ -62,7 +62,7 @@ sorted_turn number value Fits from least (x ∷ xs) turn =
 pub ordered : (s : StateText) → IsStateText s → AreOrdered (lists_in s)
 ordered s text = record {
   files_rise = sorted_turn (λ (f : ListedFile). f.number) (λ f. f.content) IsFile (λ least f fits. fits.from) 0 s.files text.files.1;
-  slots_rise = ap (finite.is_sorted nat_cmp) (sym (paired s.descriptors)) ∙ sorted_turn (λ (d : ℕ × Slot). d.0) (λ d. d.1) IsDescriptor (λ least d fits. fits.from) 0 s.descriptors text.descriptors.1;
+  open_files_rise = ap (finite.is_sorted nat_cmp) (sym (paired s.descriptors)) ∙ sorted_turn (λ (d : ℕ × OpenFile). d.0) (λ d. d.1) IsDescriptor (λ least d fits. fits.from) 0 s.descriptors text.descriptors.1;
   two_streams = refl;
 }
 
@@ -120,7 +120,7 @@ same_text s text range =
       runs = runs i;
       pages = pages i;
       files = (files i).files;
-      descriptors = (files i).slots;
+      descriptors = (files i).open_files;
       stream1 = s.stream1;
       stream2 = s.stream2;
     }

@@ -4,20 +4,20 @@ use Rattle.std.specs.Prelude.{sum_by}
 use Rattle.std.specs.Int.{w64}
 use Rattle.std.proofs.lemmas.List.{length-drop}
 use Rattle.std.proofs.lemmas.List.Elements.{All-cons, All-head, All-nil, All-tail}
-use Rattle.save_text.specs.ByteFields.Spelling.{number_text}
+use Rattle.save_format.specs.ByteFields.Spelling.{number_text}
 use Rattle.mem_files.specs.Lists.{ListedFile, lists_of, named, with_name}
-use Rattle.mem_files.specs.declared.slot.Slot.{Slot}
-use Rattle.mem_files.specs.declared.slot.Slot.TheVariants.{File}
+use Rattle.mem_files.specs.declared.open_file.OpenFile.{OpenFile}
+use Rattle.mem_files.specs.declared.open_file.OpenFile.TheVariants.{File}
 use Rattle.linux_calls.specs.declared.Heap.{Heap}
 use Rattle.checkpoints.proofs.FilePartsLemmas.GoodLists.{good_join, good_order, good_range}
 use Rattle.guest_run.specs.State.{GuestState}
 use Rattle.guest_run.specs.Valid.{IsValid}
 use Rattle.checkpoints.specs.MemoryParts.Canonical.{AreShown, runs_of}
-use Rattle.save_text.specs.declared.byte_fields.form.TextForm.{TextForm}
-use Rattle.save_text.specs.declared.byte_fields.form.TextForm.TheVariants.{First, Second}
-use Rattle.save_text.specs.declared.state_text.parts.Run.{Run}
-use Rattle.save_text.specs.StateText.StateText.{PageText, StateText, after_page, state_magic}
-use Rattle.save_text.specs.StateText.Spelled.{IsTextOfState, body_text, descriptor_text, file_text, flags_of, heap_text, name_bytes, page_text, reservation_text, run_text, slot_text, state_text_in}
+use Rattle.save_format.specs.declared.byte_fields.form.TextForm.{TextForm}
+use Rattle.save_format.specs.declared.byte_fields.form.TextForm.TheVariants.{First, Second}
+use Rattle.save_format.specs.declared.state_text.parts.Run.{Run}
+use Rattle.save_format.specs.StateText.StateText.{PageText, StateText, after_page, state_magic}
+use Rattle.save_format.specs.StateText.Spelled.{IsTextOfState, body_text, descriptor_text, file_text, flags_of, heap_text, name_bytes, page_text, reservation_text, run_text, open_file_text, state_text_in}
 use Rattle.checkpoints.specs.Checkpoint.{state_of}
 use Rattle.checkpoints.proofs.FileTurns.{Named, have_text, short_name}
 use Rattle.checkpoints.proofs.PageCounts.{few_pages, pages_few, runs_few}
@@ -44,12 +44,12 @@ pages_most : (least : ℕ) (pages : List PageText) → AreShown least pages → 
 pages_most least [] turn = All-nil (λ page. HasAtMost 4100 (page_text page))
 pages_most least (page ∷ pages) turn = All-cons (λ page. HasAtMost 4100 (page_text page)) page pages (page_most page turn.0.full) (pages_most (after_page page) pages turn.1)
 
-slot_most : (slot : Slot) → HasAtMost 13 (slot_text slot)
-slot_most (File number cursor access) = joined (number32 number) (joined (number64 cursor) (itself (flags_of access ∷ [])))
-slot_most _ = record { long = omega arith }
+open_file_most : (open_file : OpenFile) → HasAtMost 13 (open_file_text open_file)
+open_file_most (File number file_offset access) = joined (number32 number) (joined (number64 file_offset) (itself (flags_of access ∷ [])))
+open_file_most _ = record { long = omega arith }
 
-pub descriptor_most : (d : ℕ × Slot) → HasAtMost 18 (descriptor_text d)
-descriptor_most d = joined (number32 d.0) (after_byte (slot_most d.1))
+pub descriptor_most : (d : ℕ × OpenFile) → HasAtMost 18 (descriptor_text d)
+descriptor_most d = joined (number32 d.0) (after_byte (open_file_most d.1))
 
 pub name_most : (name : Option (List ℕ)) (number : ℕ) (others : List (List ℕ × ℕ)) → All Named (with_name name number others) → HasAtMost 255 (name_bytes name) × All Named others
 name_most None number others all = (record { long = omega arith }, all)
@@ -115,7 +115,7 @@ is_small g valid =
       shown = pages_shown m;
       files = text.few_files;
       names = range.good_names;
-      descriptors = text.few_slots;
+      descriptors = text.few_open_files;
       contents = omega arith;
     }
 

@@ -4,7 +4,7 @@ use Rattle.std.specs.Prelude.{slice_index}
 use Rattle.std.specs.FinMap as finite
 use Rattle.std.proofs.lemmas.List.{length-drop}
 use Rattle.std.proofs.lemmas.List.Elements.{All-cons, All-drop, All-head, All-nil, All-tail}
-use Rattle.save_text.specs.ByteFields.Spelling.{Alike, InTurn}
+use Rattle.save_format.specs.ByteFields.Spelling.{Alike, InTurn}
 use Rattle.paged_mem.specs.Memory.{IsWhole, Memory}
 use Rattle.mem_files.specs.Lists.{lists_of}
 use Rattle.checkpoints.proofs.FilePartsLemmas.GoodLists.{good_join, good_order, good_range}
@@ -15,9 +15,9 @@ use Rattle.guest_run.specs.Valid.{Fits, IsValid}
 use Rattle.checkpoints.specs.MemoryParts.Canonical.{ArePlaced, AreShown, with_pages, mapped_runs, pages_of, runs_of}
 use Rattle.checkpoints.proofs.MemoryPartsLemmas.Again.{same_again}
 use Rattle.checkpoints.proofs.MemoryPartsLemmas.RunsAgain.{zero_runs_mapped}
-use Rattle.save_text.specs.declared.state_text.parts.Run.{Run}
-use Rattle.save_text.specs.StateText.StateText.{PageText, StateText, after_page, after_run}
-use Rattle.save_text.specs.StateText.Spelled.{IsPage, IsReserved, IsSavedRun, IsStateText}
+use Rattle.save_format.specs.declared.state_text.parts.Run.{Run}
+use Rattle.save_format.specs.StateText.StateText.{PageText, StateText, after_page, after_run}
+use Rattle.save_format.specs.StateText.Spelled.{IsPage, IsReserved, IsSavedRun, IsStateText}
 use Rattle.checkpoints.specs.Checkpoint.{IsInRange, IsJoined, guest_of, state_of}
 use Rattle.checkpoints.proofs.FileTurns.{have_text}
 use Rattle.checkpoints.proofs.MemoryPartsLemmas.Filled.{maps-alike}
@@ -72,7 +72,7 @@ is_text g valid steps =
       runs = (few_runs g.hart.memory, run_turn 0 (runs_of g.hart.memory) (runs_placed g.hart.memory));
       pages = (few_listed g.hart.memory, page_turn 0 (pages_of g.hart.memory) (pages_shown g.hart.memory));
       files = text.files;
-      descriptors = text.slots;
+      descriptors = text.open_files;
       stream1 = record { short = omega arith };
       stream2 = record { short = omega arith };
     }
@@ -120,7 +120,7 @@ same_guest g valid =
 
 -- a text says a guest's state where each of its fields does
 pub said : (g : GuestState) (s : StateText) → s.steps ≡ g.steps → s.pc ≡ g.hart.pc → s.registers ≡ drop 1 g.hart.registers → s.reservation ≡ g.hart.reservation → s.heap ≡ g.heap → s.runs ≡ runs_of g.hart.memory → s.pages ≡ pages_of g.hart.memory
-    → s.files ≡ (lists_of g.world).files → s.descriptors ≡ (lists_of g.world).slots → s.stream1 ≡ g.world.stream1 → s.stream2 ≡ g.world.stream2 → s ≡ state_of g
+    → s.files ≡ (lists_of g.world).files → s.descriptors ≡ (lists_of g.world).open_files → s.stream1 ≡ g.world.stream1 → s.stream2 ≡ g.world.stream2 → s ≡ state_of g
 unfolding state_of
 said g s steps pc registers reservation heap runs pages files descriptors stream1 stream2 =
     λ i. record { steps = steps i; pc = pc i; registers = registers i; reservation = reservation i; heap = heap i; runs = runs i; pages = pages i; files = files i; descriptors = descriptors i; stream1 = stream1 i; stream2 = stream2 i }

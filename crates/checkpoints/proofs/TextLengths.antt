@@ -6,7 +6,7 @@ use Rattle.std.specs.Int.{w16, w32, w64}
 use Rattle.std.proofs.lemmas.List.Concat.{length-flat_map}
 use Rattle.std.proofs.lemmas.List.Elements.{All-head, All-tail}
 use Rattle.std.proofs.lemmas.List.Sums.{sum_by-cons, sum_by-le}
-use Rattle.save_text.specs.ByteFields.Spelling.{list_text, number_text}
+use Rattle.save_format.specs.ByteFields.Spelling.{list_text, number_text}
 
 -- a text of at most so many bytes
 pub record HasAtMost (most : ℕ) (text : List ℕ) : Type 0 where

@@ -8,8 +8,8 @@ use Rattle.checkpoints.specs.MemoryParts.Canonical.{ArePlaced, AreShown, is_mapp
 use Rattle.checkpoints.specs.MemoryParts.Inside.Zeros.{zero_runs}
 use Rattle.checkpoints.proofs.MemoryPartsLemmas.Again.{runs_in, runs_out}
 use Rattle.checkpoints.proofs.MemoryPartsLemmas.RunsAgain.{zero_runs_mapped}
-use Rattle.save_text.specs.declared.state_text.parts.Run.{Run}
-use Rattle.save_text.specs.StateText.StateText.{PageText, after_run, is_page}
+use Rattle.save_format.specs.declared.state_text.parts.Run.{Run}
+use Rattle.save_format.specs.StateText.StateText.{PageText, after_run, is_page}
 use Rattle.checkpoints.proofs.MemoryPartsLemmas.Filled.{Alike}
 use Rattle.checkpoints.proofs.Memories.{IsMappedIn}
 
@@ -73,7 +73,7 @@ weaker_pages : (least low : ℕ) (pages : List PageText) → low ≤ least → A
 weaker_pages least low [] le turn = tt
 weaker_pages least low (page ∷ pages) le turn = let from = turn.0.from in (record { from = omega arith; low = turn.0.low; full = turn.0.full; some = turn.0.some }, turn.1)
 
--- what is known of a page and those behind it
+-- what is known of a page and those after it
 record ArePages (m : Memory) (page count : ℕ) (pages : List PageText) : Type 0 where
   shown : AreShown page pages
   mapped : All (IsMappedIn m) pages

@@ -7,8 +7,8 @@ use Rattle.rv64_machine.specs.Hart.{IsReservation}
 use Rattle.guest_run.specs.State.{GuestState}
 use Rattle.guest_run.specs.Valid.{Fits}
 use Rattle.checkpoints.specs.MemoryParts.Canonical.{with_pages, mapped_runs, pages_of, runs_of}
-use Rattle.save_text.specs.StateText.Mappable.{AreMappable}
-use Rattle.save_text.specs.StateText.StateText.{StateText, parsed_state}
+use Rattle.save_format.specs.StateText.Mappable.{AreMappable}
+use Rattle.save_format.specs.StateText.StateText.{StateText, parsed_state}
 use Rattle.checkpoints.specs.declared.file_parts.restoring.RestoreRefusal.{RestoreRefusal}
 use Rattle.checkpoints.specs.declared.file_parts.restoring.RestoreRefusal.TheVariants as restored
 use Rattle.checkpoints.specs.declared.reading.StateRefusal.{StateRefusal}
@@ -25,7 +25,7 @@ state_of g = record {
   runs = runs_of g.hart.memory;
   pages = pages_of g.hart.memory;
   files = (lists_of g.world).files;
-  descriptors = (lists_of g.world).slots;
+  descriptors = (lists_of g.world).open_files;
   stream1 = g.world.stream1;
   stream2 = g.world.stream2;
 }
@@ -39,7 +39,7 @@ memory_of s = with_pages (mapped_of s) s.pages
 
 -- the files that a text says
 abbrev pub lists_in : StateText → FileLists
-lists_in s = record { files = s.files; slots = s.descriptors; streams = s.stream1 ∷ s.stream2 ∷ [] }
+lists_in s = record { files = s.files; open_files = s.descriptors; streams = s.stream1 ∷ s.stream2 ∷ [] }
 
 -- the guest that a text says: x0 is 0
 unfoldable pub guest_of : StateText → GuestState

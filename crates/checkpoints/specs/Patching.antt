@@ -1,9 +1,9 @@
 -- What becomes of a patch beside the state that is its base. docs/reference/delta.md says the same for people.
 use Rattle.std.specs.Prelude.{◌≡◌, ℕ, List, Result, Ok, Err}
 use Rattle.guest_run.specs.State.{GuestState}
-use Rattle.save_text.specs.PatchText.PatchText.{parsed_patch}
-use Rattle.save_text.specs.StateText.Mappable.{AreMappable}
-use Rattle.save_text.specs.StateText.StateText.{StateText}
+use Rattle.save_format.specs.PatchText.PatchText.{parsed_patch}
+use Rattle.save_format.specs.StateText.Mappable.{AreMappable}
+use Rattle.save_format.specs.StateText.StateText.{StateText}
 use Rattle.checkpoints.specs.Checkpoint.{IsInRange, IsJoined, guest_of}
 use Rattle.checkpoints.specs.declared.reading.StateRefusal.{StateRefusal}
 use Rattle.checkpoints.specs.declared.reading.StateRefusal.TheVariants as state

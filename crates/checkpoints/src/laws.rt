@@ -4,9 +4,9 @@ ghost use Rattle.std.specs.Prelude.{◌+◌, ◌*◌, ◌^◌, ◌<◌, ◌≤�
 ghost use Rattle.guest_run.specs.State.{GuestState};
 ghost use Rattle.guest_run.specs.Valid.{Fits, IsValid};
 ghost use Rattle.paged_mem.specs.Memory.{maps};
-ghost use Rattle.save_text.specs.PatchText.Spelled.{text_of_patch};
-ghost use Rattle.save_text.specs.StateText.StateText.{StateText};
-ghost use Rattle.save_text.specs.StateText.Spelled.{IsStateText, IsTextOfState};
+ghost use Rattle.save_format.specs.PatchText.Spelled.{text_of_patch};
+ghost use Rattle.save_format.specs.StateText.StateText.{StateText};
+ghost use Rattle.save_format.specs.StateText.Spelled.{IsStateText, IsTextOfState};
 ghost use Rattle.checkpoints.specs.Checkpoint.{mapped_of, memory_of, state_of};
 
 /// That runs have no more pages than a guest can have follows from the other rules, so that to count them first refuses nothing else.

@@ -16,7 +16,7 @@ mod writing;
 pub use crate::file_parts::RestoreRefusal;
 pub use memory::are_mappable;
 pub use patching::{
-    apply_patch, guest_beside, known_of, patched_guest_of, put_patch_of, write_patch,
+    apply_patch, guest_relative, known_of, patched_guest_of, put_patch_of, write_patch,
 };
 pub use reading::{StateRefusal, read_state};
 pub use restoring::guest_of;

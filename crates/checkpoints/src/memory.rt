@@ -1,20 +1,20 @@
 //! The memory that a text says.
 
 ghost use Rattle.std.specs.Prelude.{◌≡◌, ◌+◌, ◌-◌, ◌^◌, ◌≤◌, ◌↔◌, All, IsTrue, MatchResult, SomeIff, sum_by};
-ghost use Rattle.save_text.specs.StateText.Mappable.{AreMappable};
-ghost use Rattle.save_text.specs.StateText.Spelled.{IsStateText};
-ghost use Rattle.save_text.specs.StateText.Seen.{state_view};
+ghost use Rattle.save_format.specs.StateText.Mappable.{AreMappable};
+ghost use Rattle.save_format.specs.StateText.Spelled.{IsStateText};
+ghost use Rattle.save_format.specs.StateText.Seen.{state_view};
 ghost use Rattle.checkpoints.specs.Checkpoint.{IsInMemory, memory_of};
 ghost use Rattle.checkpoints.specs.Inside.Parts.{RefusesMemory};
 
 use crate::file_parts::RestoreRefusal;
 use crate::memory_parts::{are_mapped, fill_pages, map_runs};
 use paged_mem::Ram;
-use save_text::state_text::{MOST_PAGES, Parts, Run};
+use save_format::state_text::{MOST_PAGES, StateParts, Run};
 use std::alloc::Global;
 
 /// The memory that a text says. Its runs are judged before anything is mapped, so that a short text asks for little memory.
-pub fn memory_of<R: Ram>(alloc: Global, parts: &Parts<'_>) -> Result<R, RestoreRefusal>
+pub fn memory_of<R: Ram>(alloc: Global, parts: &StateParts<'_>) -> Result<R, RestoreRefusal>
     requires { IsStateText (state_view parts.now) }
     ensures { MatchResult result
         (λ ram. IsInMemory (state_view parts.now) × (R.bytes ram ≡ memory_of (state_view parts.now)))
@@ -52,7 +52,7 @@ fn are_few(runs: &[Run]) -> bool
     left_after(runs, MOST_PAGES).is_some()
 }
 
-/// What is left of so many pages behind those of the runs; `None` where they have more.
+/// What is left of so many pages after those of the runs; `None` where they have more.
 fn left_after(runs: &[Run], most: u64) -> Option<u64>
     ensures { SomeIff result (sum_by (λ run. run.pages) runs.now ≤ most) (most - sum_by (λ run. run.pages) runs.now) }
 {

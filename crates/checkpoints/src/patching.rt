@@ -3,11 +3,11 @@
 ghost use Rattle.std.specs.Prelude.{◌≡◌, ◌<◌, ◌≤◌, ◌^◌, ◌↔◌, ◌++◌, Err, IfOk, IsOk, IsTrue, OnErr, OnOk, length};
 ghost use Rattle.guest_run.specs.State.{GuestState};
 ghost use Rattle.guest_run.specs.Valid.{IsValid};
-ghost use Rattle.save_text.specs.PatchText.PatchText.{parsed_patch};
-ghost use Rattle.save_text.specs.PatchText.Spelled.{IsPatched, text_of_patch};
-ghost use Rattle.save_text.specs.StateText.Seen.{state_view};
-ghost use Rattle.save_text.specs.StateText.Spelled.{IsStateText};
-ghost use Rattle.save_text.specs.StateText.StateText.{StateText};
+ghost use Rattle.save_format.specs.PatchText.PatchText.{parsed_patch};
+ghost use Rattle.save_format.specs.PatchText.Spelled.{IsPatched, text_of_patch};
+ghost use Rattle.save_format.specs.StateText.Seen.{state_view};
+ghost use Rattle.save_format.specs.StateText.Spelled.{IsStateText};
+ghost use Rattle.save_format.specs.StateText.StateText.{StateText};
 ghost use Rattle.checkpoints.specs.Checkpoint.{Becomes, IsReadAs, state_of};
 ghost use Rattle.checkpoints.specs.Patching.{AppliesPatch, AppliesPatchTo};
 
@@ -18,8 +18,8 @@ use crate::writing::parts_of;
 use ddc_base::{Bytes, OutOfMemory};
 use guest_run::Guest;
 use paged_mem::Ram;
-use save_text::patch_text::{is_mappable, put_patch, read};
-use save_text::state_text::{Parts, TextRefusal};
+use save_format::patch_text::{is_mappable, put_patch, read};
+use save_format::state_text::{StateParts, TextRefusal};
 use std::alloc::Global;
 
 /// The one patch of a guest's state against a base. Neither state's text is made: pages and contents are compared where they stand.
@@ -37,7 +37,7 @@ pub fn write_patch<R: Ram>(
 }
 
 /// What the state of a guest says, as the base of patches. It lists few pages.
-pub fn known_of<R: Ram>(alloc: Global, base: &Guest<R>) -> Result<Parts<'_>, OutOfMemory>
+pub fn known_of<R: Ram>(alloc: Global, base: &Guest<R>) -> Result<StateParts<'_>, OutOfMemory>
     ensures seen { IfOk result (λ parts. state_view parts ≡ state_of base.now) }
     ensures text { IfOk result (λ parts. IsStateText (state_view parts)) }
     ensures few { IfOk result (λ parts. length (state_view parts).pages ≤ 2 ^ 26) }
@@ -49,7 +49,7 @@ pub fn known_of<R: Ram>(alloc: Global, base: &Guest<R>) -> Result<Parts<'_>, Out
 pub fn put_patch_of<R: Ram>(
     alloc: Global,
     out: &mut Bytes,
-    base: &Parts<'_>,
+    base: &StateParts<'_>,
     guest: &Guest<R>,
 ) -> Result<(), OutOfMemory>
     requires base { IsStateText (state_view base.now) }
@@ -75,15 +75,15 @@ pub fn apply_patch<R: Ram>(
     ensures exact { AppliesPatchTo (state_of base.now) text.now result }
 {
     match known_of(alloc, base) {
-        Ok(known) => guest_beside(alloc, &known, text),
+        Ok(known) => guest_relative(alloc, &known, text),
         Err(OutOfMemory) => Err(StateRefusal::OutOfMemory),
     }
 }
 
 /// The guest whose state a patch says beside what a base says.
-pub fn guest_beside<'a, R: Ram>(
+pub fn guest_relative<'a, R: Ram>(
     alloc: Global,
-    base: &Parts<'a>,
+    base: &StateParts<'a>,
     text: &'a [u8],
 ) -> Result<Guest<R>, StateRefusal>
     requires base { IsStateText (state_view base.now) }
@@ -100,7 +100,7 @@ pub fn guest_beside<'a, R: Ram>(
 
 fn applied<'a, R: Ram>(
     alloc: Global,
-    base: &Parts<'a>,
+    base: &StateParts<'a>,
     text: &'a [u8],
 ) -> Result<Guest<R>, StateRefusal>
     requires { IsStateText (state_view base.now) }
@@ -120,7 +120,7 @@ fn applied<'a, R: Ram>(
 }
 
 /// Why a text of the form is no guest's, where memory was wanting for the lists of its parts.
-fn wanting(base: &Parts<'_>, text: &[u8]) -> StateRefusal
+fn wanting(base: &StateParts<'_>, text: &[u8]) -> StateRefusal
     requires { IsOk (parsed_patch (state_view base.now) text.now) }
     ensures { AppliesPatch (state_view base.now) text.now (Err result) }
 {
@@ -132,7 +132,7 @@ fn wanting(base: &Parts<'_>, text: &[u8]) -> StateRefusal
 }
 
 /// Whether a count of 4 bytes has a place for so many pages.
-fn are_countable(parts: &Parts<'_>) -> bool
+fn are_countable(parts: &StateParts<'_>) -> bool
     ensures { IsTrue result ↔ (length (state_view parts.now).pages < 2 ^ 32) }
 {
     (parts.pages.as_slice().len() as u64) < 1 << 32
@@ -141,7 +141,7 @@ fn are_countable(parts: &Parts<'_>) -> bool
 /// The guest that a patch says beside some base: `Range` and `FileRef` as of a state's text.
 pub fn patched_guest_of<R: Ram>(
     alloc: Global,
-    parts: &Parts<'_>,
+    parts: &StateParts<'_>,
 ) -> Result<Guest<R>, RestoreRefusal>
     requires { (base : StateText) × IsPatched base (state_view parts.now) }
     ensures { Becomes (state_view parts.now) result }

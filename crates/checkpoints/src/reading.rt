@@ -3,15 +3,15 @@
 ghost use Rattle.std.specs.Prelude.{◌≡◌, ◌<◌, ◌^◌, Err, IfOk, IsOk};
 ghost use Rattle.guest_run.specs.State.{GuestState};
 ghost use Rattle.guest_run.specs.Valid.{IsValid};
-ghost use Rattle.save_text.specs.StateText.Spelled.{IsTextOfState};
-ghost use Rattle.save_text.specs.StateText.StateText.{parsed_state};
+ghost use Rattle.save_format.specs.StateText.Spelled.{IsTextOfState};
+ghost use Rattle.save_format.specs.StateText.StateText.{parsed_state};
 ghost use Rattle.checkpoints.specs.Checkpoint.{IsReadAs, ReadsState, state_of, state_refusal_number};
 
 use crate::file_parts::RestoreRefusal;
 use crate::restoring::guest_of;
 use guest_run::Guest;
 use paged_mem::Ram;
-use save_text::state_text::{TextRefusal, is_mappable, read};
+use save_format::state_text::{TextRefusal, is_mappable, read};
 use std::alloc::Global;
 
 /// Why a text is no guest's. Its form is judged first, then counts and ranges, then references.

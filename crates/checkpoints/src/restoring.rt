@@ -1,10 +1,10 @@
 //! The guest that a text says.
 
 ghost use Rattle.std.specs.Prelude.{◌≡◌, ◌∷◌, [], ◌%◌, MatchResult, OnOk, map, option_map};
-ghost use Rattle.save_text.specs.ByteFields.Spelling.{InTurn};
-ghost use Rattle.save_text.specs.StateText.StateText.{after_descriptor, after_file};
-ghost use Rattle.save_text.specs.StateText.Spelled.{IsDescriptor, IsFile, IsReserved, IsStateText};
-ghost use Rattle.save_text.specs.StateText.Seen.{descriptor_view, file_view, reserved_view, state_view};
+ghost use Rattle.save_format.specs.ByteFields.Spelling.{InTurn};
+ghost use Rattle.save_format.specs.StateText.StateText.{after_descriptor, after_file};
+ghost use Rattle.save_format.specs.StateText.Spelled.{IsDescriptor, IsFile, IsReserved, IsStateText};
+ghost use Rattle.save_format.specs.StateText.Seen.{descriptor_view, file_view, reserved_view, state_view};
 ghost use Rattle.rv64_machine.specs.Hart.{IsReservation, reserved_bytes};
 ghost use Rattle.checkpoints.specs.Checkpoint.{Becomes, lists_in};
 ghost use Rattle.checkpoints.specs.Inside.Parts.{MakesFiles, RefusesReservation};
@@ -16,11 +16,11 @@ use guest_run::{Guest, fit_together};
 use mem_files::Files;
 use paged_mem::Ram;
 use rv64_machine::{Hart, Reservation};
-use save_text::state_text::{Descriptor, File, Parts, Reserved};
+use save_format::state_text::{NumberedDescriptor, File, StateParts, Reserved};
 use std::alloc::Global;
 
 /// The guest that a text says: `Range` where a count or a range is that of no guest, and only then `FileRef`, where a reference is.
-pub fn guest_of<R: Ram>(alloc: Global, parts: &Parts<'_>) -> Result<Guest<R>, RestoreRefusal>
+pub fn guest_of<R: Ram>(alloc: Global, parts: &StateParts<'_>) -> Result<Guest<R>, RestoreRefusal>
     requires { IsStateText (state_view parts.now) }
     ensures { Becomes (state_view parts.now) result }
 {
@@ -75,7 +75,7 @@ fn hart_of<R: Ram>(
 }
 
 /// The files that a text says.
-fn files_of(alloc: Global, parts: &Parts<'_>) -> Result<Files, RestoreRefusal>
+fn files_of(alloc: Global, parts: &StateParts<'_>) -> Result<Files, RestoreRefusal>
     requires { IsStateText (state_view parts.now) }
     ensures { MakesFiles (lists_in (state_view parts.now)) result }
 {
@@ -84,8 +84,8 @@ fn files_of(alloc: Global, parts: &Parts<'_>) -> Result<Files, RestoreRefusal>
     restore(alloc, &list)
 }
 
-fn push_all<'a>(list: &mut FileParts<'a>, parts: &Parts<'a>) -> Result<(), OutOfMemory>
-    requires empty { list.old ≡ record { files = []; slots = []; streams = [] } }
+fn push_all<'a>(list: &mut FileParts<'a>, parts: &StateParts<'a>) -> Result<(), OutOfMemory>
+    requires empty { list.old ≡ record { files = []; open_files = []; streams = [] } }
     requires text { IsStateText (state_view parts.now) }
     ensures { OnOk result (list.new ≡ lists_in (state_view parts.now)) }
 {
@@ -106,13 +106,13 @@ fn push_files<'a>(list: &mut FileParts<'a>, files: &[File<'a>]) -> Result<(), Ou
     Ok(())
 }
 
-fn push_descriptors(list: &mut FileParts<'_>, descriptors: &[Descriptor]) -> Result<(), OutOfMemory>
-    requires none { list.old.slots ≡ [] }
+fn push_descriptors(list: &mut FileParts<'_>, descriptors: &[NumberedDescriptor]) -> Result<(), OutOfMemory>
+    requires none { list.old.open_files ≡ [] }
     requires rise { InTurn IsDescriptor after_descriptor 0 (map descriptor_view descriptors.now) }
-    ensures { OnOk result (list.new ≡ record list.old { slots = map descriptor_view descriptors.now }) }
+    ensures { OnOk result (list.new ≡ record list.old { open_files = map descriptor_view descriptors.now }) }
 {
     for descriptor in descriptors {
-        list.push_slot(descriptor.fd, descriptor.slot)?;
+        list.push_open_file(descriptor.fd, descriptor.open_file)?;
     }
     Ok(())
 }

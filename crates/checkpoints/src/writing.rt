@@ -1,8 +1,8 @@
 //! The text of a guest.
 
 ghost use Rattle.std.specs.Prelude.{◌≡◌, ◌++◌, IfOk, OnErr, OnOk, drop, option_map};
-ghost use Rattle.save_text.specs.StateText.Spelled.{IsStateText, text_of_state};
-ghost use Rattle.save_text.specs.StateText.Seen.{reserved_view, state_view};
+ghost use Rattle.save_format.specs.StateText.Spelled.{IsStateText, text_of_state};
+ghost use Rattle.save_format.specs.StateText.Seen.{reserved_view, state_view};
 ghost use Rattle.checkpoints.specs.Checkpoint.{state_of};
 
 use crate::memory_parts::{pages, runs};
@@ -10,7 +10,7 @@ use ddc_base::{Bytes, OutOfMemory};
 use guest_run::Guest;
 use paged_mem::Ram;
 use rv64_machine::Hart;
-use save_text::state_text::{Parts, Reserved, descriptors_of, files_of, put_parts};
+use save_format::state_text::{StateParts, Reserved, descriptors_of, files_of, put_parts};
 use std::alloc::Global;
 
 /// The one text of a guest's state that has the second form.
@@ -35,8 +35,8 @@ pub fn put_state<R: Ram>(
     put_parts(out, &parts)
 }
 
-/// What a guest's state says. Contents are lent.
-pub(crate) fn parts_of<R: Ram>(alloc: Global, guest: &Guest<R>) -> Result<Parts<'_>, OutOfMemory>
+/// What a guest's state says. Contents are borrowed.
+pub(crate) fn parts_of<R: Ram>(alloc: Global, guest: &Guest<R>) -> Result<StateParts<'_>, OutOfMemory>
     ensures seen { IfOk result (λ parts. state_view parts ≡ state_of guest.now) }
     ensures text { IfOk result (λ parts. IsStateText (state_view parts)) }
 {
@@ -47,7 +47,7 @@ pub(crate) fn parts_of<R: Ram>(alloc: Global, guest: &Guest<R>) -> Result<Parts<
     let pages = pages(alloc, hart.ram())?;
     let listed = files_of(alloc, files)?;
     let descriptors = descriptors_of(alloc, files)?;
-    Ok(Parts {
+    Ok(StateParts {
         steps,
         pc: hart.pc(),
         registers: registers_of(hart),

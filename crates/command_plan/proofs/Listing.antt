@@ -23,8 +23,8 @@ more-clear text at less clear other =
 pub cut-there : (text : List ℕ) (at : ℕ) → at < length text → All NoLF (take at text) → get_or text at 0 ≡ 10
     → slice_split is_line_feed text ≡ take at text ∷ slice_split is_line_feed (drop (at + 1) text)
 cut-there text at less clear here =
-    let behind : drop at text ≡ get_or text at 0 ∷ drop (at + 1) text = at_drop_more (λ (l : List ℕ). l) text at 0 less in
-    ap (slice_split is_line_feed) (sym (take-append-drop at text) ∙ ap (λ l. take at text ++ l) behind)
+    let following : drop at text ≡ get_or text at 0 ∷ drop (at + 1) text = at_drop_more (λ (l : List ℕ). l) text at 0 less in
+    ap (slice_split is_line_feed) (sym (take-append-drop at text) ∙ ap (λ l. take at text ++ l) following)
     ∙ slice_split_at is_line_feed (take at text) (get_or text at 0) (drop (at + 1) text) clear (eq-eqb (get_or text at 0) 10 here)
 
 -- no LF is left
@@ -109,7 +109,7 @@ module _ {A : Type 0} (form : List A → List ℕ → Option A) (most : ℕ) (it
 
 -- ---- what is listed
 
--- what holds of no items, and with some items also of those and one more that the form reads behind them, holds of all that a text lists
+-- what holds of no items, and with some items also of those and one more that the form reads after them, holds of all that a text lists
 module _ {A : Type 0} (form : List A → List ℕ → Option A) (most : ℕ) (P : List A → Type 0)
     (more : (earlier : List A) (line : List ℕ) (item : A) → P earlier → form earlier line ≡ Some item → P (earlier ++ item ∷ [])) where
   same-items : (first second : List A) → ◌≡◌ {A = Result (List A) ℕ} (Ok first) (Ok second) → first ≡ second

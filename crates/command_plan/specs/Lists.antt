@@ -17,7 +17,7 @@ is_listed_word text = nat_le 1 (length text) && nat_le (length text) 255 && list
 abbrev pub listed_word : List ℕ → Option (List ℕ)
 listed_word text = if is_listed_word text then Some text else None
 
--- LF, at which a text is cut into lines; what stands behind the last one is a line that is not ended, unless it is empty
+-- LF, at which a text is cut into lines; what stands after the last one is a line that is not ended, unless it is empty
 abbrev pub is_line_feed : ℕ → Bool
 is_line_feed byte = byte == 10
 
@@ -26,7 +26,7 @@ abbrev pub with_line_item : {A : Type 0} → Option A → ℕ → (A → Result 
 with_line_item None number next = Err number
 with_line_item (Some item) number next = next item
 
--- what these lines list behind earlier ones, of which each is what `form` reads in the light of those before it, and all of which are at most
+-- what these lines list after earlier ones, of which each is what `form` reads in the light of those before it, and all of which are at most
 -- `most`. The first line, from 1, is refused that is not of the form, or is not ended, or is one too many
 abbrev pub listed_after : {A : Type 0} → (List A → List ℕ → Option A) → ℕ → List A → List (List ℕ) → Result (List A) ℕ
 listed_after form most earlier [] = Ok earlier

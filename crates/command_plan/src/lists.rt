@@ -27,7 +27,7 @@ pub trait Listed: Sized + Drop {
     // What a line stands for, in the light of what the lines before it stand for.
     ghost form: { List Self → List ℕ → Option Self };
 
-    /// What a line stands for, behind the earlier lines. None where it is not of the form.
+    /// What a line stands for, after the earlier lines. None where it is not of the form.
     fn read(alloc: Global, earlier: &[Self], line: &[u8]) -> Result<Option<Self>, OutOfMemory>
         ensures { IfOk result (λ item. item ≡ form earlier.now line.now) };
 }

@@ -4,7 +4,7 @@
 
 use ddc_app::{Status, run};
 use ddc_base::{DirShelf, OutOfMemory, WriterSink};
-use meaning::Assembly;
+use wheeler::Assembly;
 use prompt::ReaderPrompt;
 use std::env;
 use std::io::{self, ErrorKind, Input};

@@ -4,19 +4,19 @@ use Rattle.std.specs.FinMap as finite
 use Rattle.ddc_base.specs.declared.outside.Loaded.TheVariants.{Bytes}
 use Rattle.ddc_base.specs.Outside.{NamedFiles, loaded}
 use Rattle.recipe.specs.Reading.{recipe_of}
-use Rattle.recipe.specs.declared.contents.Said.{Said}
+use Rattle.recipe.specs.declared.contents.RecipeContents.{RecipeContents}
 use Rattle.report.specs.declared.types.Report.{Report}
 use Rattle.report.specs.Reading.{report_of}
 use Rattle.report.specs.Reports.{IsReport, report_text}
 use Rattle.report.proofs.Lengths.{short}
 use Rattle.report.proofs.Readings.{read_text}
-use Rattle.wheeler.specs.Bench.{bench}
-use Rattle.wheeler.specs.Valid.{IsInputs}
-use Rattle.wheeler.specs.declared.answer.Answer.{Answer}
-use Rattle.wheeler.specs.declared.answer.Answer.TheVariants.{Completes, Fails}
-use Rattle.wheeler.specs.declared.answer.Fault.TheVariants.{Runs, Checks}
-use Rattle.wheeler.proofs.Closing.{bench-report}
-use Rattle.wheeler.proofs.Rules.{rules}
+use Rattle.audit_rules.specs.Bench.{bench}
+use Rattle.audit_rules.specs.Valid.{IsInputs}
+use Rattle.audit_rules.specs.declared.answer.AuditAnswer.{AuditAnswer}
+use Rattle.audit_rules.specs.declared.answer.AuditAnswer.TheVariants.{Completes, Fails}
+use Rattle.audit_rules.specs.declared.answer.StageFault.TheVariants.{Runs, Checks}
+use Rattle.audit_rules.proofs.Closing.{bench-report}
+use Rattle.audit_rules.proofs.Rules.{rules}
 use Rattle.verifier.proofs.OneReport.{none-fault}
 use Rattle.command_plan.specs.declared.status.Status.{Status}
 use Rattle.command_plan.specs.declared.status.Status.TheVariants.{ReportRefused}
@@ -37,7 +37,7 @@ use Rattle.ddc_app.proofs.Walks.{IsRefusal, both_need_apart, both_need_inputs, b
 -- ---- an audit that comes to a comparison
 
 record Went (recipe report : List ℕ) (files : NamedFiles) (answer : Outcome) : Type 0 where
-  said : Said
+  said : RecipeContents
   inputs : List (List ℕ)
   holds : Holds recipe said inputs files
   apart : is_input said report ≡ false
@@ -52,14 +52,14 @@ module _ (recipe report : List ℕ) (files : NamedFiles) where
   refused : (status : Status) (text : List ℕ) → IsRefusal status → Goes (told files status text) (told files status text)
   refused status text refusal compared = let both : false ≡ true = sym refusal.1 ∙ compared in absurd cc
 
-  by_answer : (said : Said) (inputs : List (List ℕ)) → Holds recipe said inputs files → is_input said report ≡ false → (answer : Answer) → bench said inputs ≡ answer
+  by_answer : (said : RecipeContents) (inputs : List (List ℕ)) → Holds recipe said inputs files → is_input said report ≡ false → (answer : AuditAnswer) → bench said inputs ≡ answer
       → Goes (outcome (audited said report answer) files) (outcome (audited said report answer) files)
   by_answer said inputs holds apart (Completes made) comes compared =
       record { said = said; inputs = inputs; holds = holds; apart = apart; made = made; comes = comes; leads = refl }
   by_answer said inputs holds apart (Fails number (Runs cause step)) comes compared = absurd cc
   by_answer said inputs holds apart (Fails number (Checks cause)) comes compared = absurd cc
 
-  by_recipe : (bytes : List ℕ) (said : Said) → loaded files recipe 1_048_576 ≡ Bytes bytes → recipe_of bytes ≡ Ok said
+  by_recipe : (bytes : List ℕ) (said : RecipeContents) → loaded files recipe 1_048_576 ≡ Bytes bytes → recipe_of bytes ≡ Ok said
       → Goes (outcome (needs_apart said report (λ _. needs_inputs said (λ inputs. audited said report (bench said inputs)))) files)
       (outcome (needs_apart said report (λ _. needs_inputs said (λ inputs. audited said report (bench said inputs)))) files)
   by_recipe bytes said held reads =
@@ -73,7 +73,7 @@ module _ (recipe report : List ℕ) (files : NamedFiles) where
   unfolding audit_files
   went false compared = absurd cc
   went true compared =
-      let next : Said → Plan = λ said. needs_apart said report (λ _. needs_inputs said (λ inputs. audited said report (bench said inputs))) in
+      let next : RecipeContents → Plan = λ said. needs_apart said report (λ _. needs_inputs said (λ inputs. audited said report (bench said inputs))) in
       (refl, both_need_recipe Goes files refused recipe next next by_recipe compared)
 
 -- ---- a replay of its report
@@ -81,7 +81,7 @@ module _ (recipe report : List ℕ) (files : NamedFiles) where
 -- files that hold a recipe, its inputs and the bench's report
 pub record Replays (recipe report : List ℕ) (files : NamedFiles) : Type 0 where
   pub two : are_two_files recipe report ≡ true
-  pub said : Said
+  pub said : RecipeContents
   pub inputs : List (List ℕ)
   pub holds : Holds recipe said inputs files
   pub apart : is_input said report ≡ false

@@ -6,10 +6,10 @@ use Rattle.ddc_base.specs.Outside.{NamedFiles, loaded}
 use Rattle.recipe.proofs.Keeps.{reads_keep}
 use Rattle.recipe.specs.Kept.{IsRecipe}
 use Rattle.recipe.specs.Reading.{recipe_of}
-use Rattle.recipe.specs.declared.contents.Said.{Said}
-use Rattle.wheeler.specs.Bench.{bench}
-use Rattle.wheeler.specs.Positions.{position}
-use Rattle.wheeler.specs.Valid.{IsInputs}
+use Rattle.recipe.specs.declared.contents.RecipeContents.{RecipeContents}
+use Rattle.audit_rules.specs.Bench.{bench}
+use Rattle.audit_rules.specs.Positions.{position}
+use Rattle.audit_rules.specs.Valid.{IsInputs}
 use Rattle.command_plan.specs.declared.status.Status.{Status}
 use Rattle.command_plan.specs.Plan.{LoadsBytes, Plan, Outcome, outcome}
 use Rattle.command_plan.specs.Words.{are_three_files, are_two_files, as_steps, is_one_file, or_usage, usage}
@@ -84,7 +84,7 @@ with_words good steps next files is count =
 -- ---- what is loaded
 
 -- the inputs are bytes where the loads of `audit` find bytes
-pub audit_loaded : (recipe report : List ℕ) (said : Said) (inputs : List (List ℕ)) (files : NamedFiles) → are_two_files recipe report ≡ true → Holds recipe said inputs files
+pub audit_loaded : (recipe report : List ℕ) (said : RecipeContents) (inputs : List (List ℕ)) (files : NamedFiles) → are_two_files recipe report ≡ true → Holds recipe said inputs files
     → is_input said report ≡ false → LoadsBytes (plan_of (codes "audit" ∷ recipe ∷ report ∷ [])) files → IsInputs said inputs
 unfolding audit_files
 audit_loaded recipe report said inputs files two h apart bytes =
@@ -99,7 +99,7 @@ audit_loaded recipe report said inputs files two h apart bytes =
 -- the audit of a recipe and its inputs, by words that name three files of which neither the save nor the report is an input
 pub record Case (recipe save report : List ℕ) : Type 0 where
   pub words : Apart recipe save report
-  pub said : Said
+  pub said : RecipeContents
   pub inputs : List (List ℕ)
   pub is : IsRecipe said
   pub no_report : is_input said report ≡ false
@@ -122,13 +122,13 @@ module _ (recipe save report : List ℕ) (steps : ℕ) (files : NamedFiles) wher
   refused : (status : Status) (text : List ℕ) → IsRefusal status → Begins (told files status text) (told files status text)
   refused status text refusal = inl (record { same = refl; refusal = refusal })
 
-  piece_from : Said → List (List ℕ) → Plan
+  piece_from : RecipeContents → List (List ℕ) → Plan
   piece_from said inputs = came_to said (whole_save said inputs) save report (position said inputs steps)
 
-  whole_from : Said → List (List ℕ) → Plan
+  whole_from : RecipeContents → List (List ℕ) → Plan
   whole_from said inputs = audited said report (bench said inputs)
 
-  begins_apart : AreWords recipe save report files → (bytes : List ℕ) (said : Said) → loaded files recipe 1_048_576 ≡ Bytes bytes → recipe_of bytes ≡ Ok said → is_input said report ≡ false
+  begins_apart : AreWords recipe save report files → (bytes : List ℕ) (said : RecipeContents) → loaded files recipe 1_048_576 ≡ Bytes bytes → recipe_of bytes ≡ Ok said → is_input said report ≡ false
       → Begins (outcome (needs_apart said save (λ _. needs_inputs said (piece_from said))) files) (outcome (needs_inputs said (whole_from said)) files)
   unfolding piece_from whole_from
   begins_apart words bytes said held reads no_report =
@@ -163,7 +163,7 @@ pub part_loaded : (recipe save report : List ℕ) (steps : ℕ) (files : NamedFi
 unfolding part_files
 part_loaded recipe save report steps files piece whole counted b bytes =
     let three : IsTrue (are_three_files recipe save report) = b.c.words.three in
-    let said : Said = b.c.said in
+    let said : RecipeContents = b.c.said in
     let last : List (List ℕ) → Plan = λ inputs. came_to said (whole_save said inputs) save report (position said inputs steps) in
     are_loaded recipe said b.c.inputs files b.holds last
     (apart_loads said save (λ _. needs_inputs said last) files b.c.no_save

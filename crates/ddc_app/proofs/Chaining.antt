@@ -10,17 +10,17 @@ use Rattle.ddc_base.specs.declared.outside.Loaded.{Loaded}
 use Rattle.ddc_base.specs.declared.outside.Loaded.TheVariants.{Bytes, Absent, TooLong}
 use Rattle.ddc_base.specs.Outside.{NamedFiles, loaded}
 use Rattle.mem_files.specs.Outputs.{IsContent}
-use Rattle.recipe.specs.declared.contents.Said.{Said}
+use Rattle.recipe.specs.declared.contents.RecipeContents.{RecipeContents}
 use Rattle.recipe.specs.declared.parts.Input.{Input}
 use Rattle.recipe.specs.Reading.{recipe_of}
 use Rattle.recipe.proofs.Keeps.{reads_keep}
 use Rattle.report.specs.declared.types.CompareLine.{CompareLine}
 use Rattle.report.specs.declared.types.Report.{Report}
 use Rattle.report.specs.Reading.{report_of}
-use Rattle.wheeler.specs.Bench.{all_equal}
+use Rattle.audit_rules.specs.Bench.{all_equal}
 use Rattle.verifier.specs.declared.part.Part.{Part}
 use Rattle.verifier.specs.Faults.{first_fault}
-use Rattle.meaning.specs.Meaning.{Compiles, Prescribes}
+use Rattle.wheeler.specs.Meaning.{Compiles, Prescribes}
 use Rattle.audit_chain.specs.declared.link.Link.{Link}
 use Rattle.audit_chain.specs.Composed.{EachConcludes, IsTrueAudit, RemainingHold}
 use Rattle.command_plan.specs.declared.status.Status.{Status}
@@ -32,7 +32,7 @@ use Rattle.command_plan.specs.Words.{is_file_word, is_one_file, usage}
 use Rattle.recipe_plan.specs.Recipes.{is_input, needs_apart, needs_inputs_within, paths}
 use Rattle.recipe_plan.specs.Texts.{compared_lines, recipe_line}
 use Rattle.verify_commands.specs.declared.pair.Pair.{Pair}
-use Rattle.verify_commands.specs.Chain.{chain_files, chained, chained_lines, needs_audit, needs_report_of, needs_true, needs_two_files, pair_of, room_behind}
+use Rattle.verify_commands.specs.Chain.{chain_files, chained, chained_lines, needs_audit, needs_report_of, needs_true, needs_two_files, pair_of, room_after}
 use Rattle.verify_commands.specs.ChainTexts.{audit_line, chain_text}
 use Rattle.ddc_app.specs.Chained.{Chained, HoldsAudit, bytes_of_inputs, chain}
 use Rattle.ddc_app.specs.Commands.{plan_of}
@@ -93,7 +93,7 @@ module _ (files : NamedFiles) (P : Outcome → Type 0) where
   test-goes true next goes = λ bytes ends. absurd cc
   test-goes false next goes = goes refl
 
-  apart-goes : (said : Said) (file : List ℕ) (next : Unit {0} → Plan) → Goes (next tt) → Goes (needs_apart said file next)
+  apart-goes : (said : RecipeContents) (file : List ℕ) (next : Unit {0} → Plan) → Goes (next tt) → Goes (needs_apart said file next)
   unfolding needs_apart
   apart-goes said file next goes = test-goes (is_input said file) (next tt) (λ _. goes)
 
@@ -114,11 +114,11 @@ module _ (files : NamedFiles) (P : Outcome → Type 0) where
       → Goes (needs_audit number room pair next)
   unfolding needs_audit
   audit-goes number room pair next goes =
-      let link_of : Said → List (List ℕ) → Link = λ said inputs. record { recipe = said; inputs = inputs } in
-      let last : Said → Report → List (List ℕ) → Plan = λ said made inputs. needs_true number made.compare (first_fault said inputs made) (λ _. next (link_of said inputs)) in
-      let loads : Said → Report → Plan = λ said made. needs_inputs_within room said (last said made) in
-      let reports : Said → Plan = λ said. needs_report_of number pair.report (loads said) in
-      let recipes : Said → Plan = λ said. needs_apart said pair.report (λ _. reports said) in
+      let link_of : RecipeContents → List (List ℕ) → Link = λ said inputs. record { recipe = said; inputs = inputs } in
+      let last : RecipeContents → Report → List (List ℕ) → Plan = λ said made inputs. needs_true number made.compare (first_fault said inputs made) (λ _. next (link_of said inputs)) in
+      let loads : RecipeContents → Report → Plan = λ said made. needs_inputs_within room said (last said made) in
+      let reports : RecipeContents → Plan = λ said. needs_report_of number pair.report (loads said) in
+      let recipes : RecipeContents → Plan = λ said. needs_apart said pair.report (λ _. reports said) in
       two-go pair (λ _. needs pair.recipe 1_048_576 (λ bytes. unless_refused (recipe_of bytes) (λ refusal. answers status.RecipeRefused (audit_line number ++ recipe_line refusal)) recipes))
       (need-goes pair.recipe 1_048_576 (λ bytes. unless_refused (recipe_of bytes) (λ refusal. answers status.RecipeRefused (audit_line number ++ recipe_line refusal)) recipes)
       (λ bytes held _.
@@ -150,16 +150,16 @@ module _ (files : NamedFiles) (P : Outcome → Type 0) where
 
 -- ---- all audits
 
--- the audits of these lines behind others, and that the text is of all of them
-record Behind (files : NamedFiles) (links : List Link) (room : ℕ) (pairs : List Pair) (answer : Outcome) : Type 0 where
+-- the audits of these lines after others, and that the text is of all of them
+record After (files : NamedFiles) (links : List Link) (room : ℕ) (pairs : List Pair) (answer : Outcome) : Type 0 where
   more : List Link
   audits : AllZip (HoldsAudit files) pairs more
   small : bytes_of_inputs more ≤ room
   text : answer.text ≡ chain_text (links ++ more)
 
-one-behind : (files : NamedFiles) (links : List Link) (room : ℕ) (pair : Pair) (pairs : List Pair) (link : Link) (answer : Outcome) → HoldsAudit files pair link
-    → sum_by length link.inputs ≤ room → Behind files (links ++ link ∷ []) (room_behind room link.inputs) pairs answer → Behind files links room (pair ∷ pairs) answer
-one-behind files links room pair pairs link answer held fits b = record {
+one-following : (files : NamedFiles) (links : List Link) (room : ℕ) (pair : Pair) (pairs : List Pair) (link : Link) (answer : Outcome) → HoldsAudit files pair link
+    → sum_by length link.inputs ≤ room → After files (links ++ link ∷ []) (room_after room link.inputs) pairs answer → After files links room (pair ∷ pairs) answer
+one-following files links room pair pairs link answer held fits b = record {
   more = link ∷ b.more;
   audits = (held, b.audits);
   small = more (sum_by length link.inputs) (bytes_of_inputs b.more) room (bytes_of_inputs (link ∷ b.more))
@@ -170,15 +170,15 @@ one-behind files links room pair pairs link answer held fits b = record {
     more : (a c r sum : ℕ) → sum ≡ a + c → c ≤ r - a → a ≤ r → sum ≤ r
     more a c r sum is rest first = omega (arith, is, rest, first)
 
-chained-goes : (files : NamedFiles) (pairs : List Pair) (links : List Link) (room : ℕ) → Goes files (Behind files links room pairs) (chained links room pairs)
+chained-goes : (files : NamedFiles) (pairs : List Pair) (links : List Link) (room : ℕ) → Goes files (After files links room pairs) (chained links room pairs)
 chained-goes files [] links room bytes ends = record { more = []; audits = tt; small = omega arith; text = ap chain_text (sym (append-nil links)) }
 chained-goes files (pair ∷ pairs) links room bytes ends =
-    audit-goes files (Behind files links room (pair ∷ pairs)) (length links + 1) room pair (λ link. chained (links ++ link ∷ []) (room_behind room link.inputs) pairs)
+    audit-goes files (After files links room (pair ∷ pairs)) (length links + 1) room pair (λ link. chained (links ++ link ∷ []) (room_after room link.inputs) pairs)
     (λ link held fits later done.
-    one-behind files links room pair pairs link (outcome (chained (links ++ link ∷ []) (room_behind room link.inputs) pairs) files) held fits
-    (chained-goes files pairs (links ++ link ∷ []) (room_behind room link.inputs) later done)) bytes ends
+    one-following files links room pair pairs link (outcome (chained (links ++ link ∷ []) (room_after room link.inputs) pairs) files) held fits
+    (chained-goes files pairs (links ++ link ∷ []) (room_after room link.inputs) later done)) bytes ends
 
-lines-go : (files : NamedFiles) (pairs : List Pair) → Goes files (Behind files [] 1_073_741_824 pairs) (chained_lines pairs)
+lines-go : (files : NamedFiles) (pairs : List Pair) → Goes files (After files [] 1_073_741_824 pairs) (chained_lines pairs)
 unfolding chained_lines
 lines-go files [] = λ bytes ends. absurd cc
 lines-go files (pair ∷ pairs) = chained-goes files (pair ∷ pairs) [] 1_073_741_824
@@ -189,7 +189,7 @@ record Listed (list : List ℕ) (files : NamedFiles) (answer : Outcome) : Type 0
   held : finite.get files list ≡ Some content
   lines : List Pair
   reads : list_of pair_of 64 content ≡ Ok lines
-  behind : Behind files [] 1_073_741_824 lines answer
+  following : After files [] 1_073_741_824 lines answer
 
 list-goes : (list : List ℕ) (files : NamedFiles) (named : Bool) → Goes files (Listed list files) (cond named (chain_files list) usage)
 unfolding chain_files
@@ -203,7 +203,7 @@ list-goes list files true =
       held = (within 1_048_576 (finite.get files list) content held).0;
       lines = lines;
       reads = reads;
-      behind = lines-go files lines bytes ends;
+      following = lines-go files lines bytes ends;
     }))
 
 true-each : (files : NamedFiles) (pairs : List Pair) (links : List Link) → AllZip (HoldsAudit files) pairs links → All IsTrueAudit links
@@ -226,9 +226,9 @@ chains prescribes compiles composed list files bytes ends =
       list_held = l.held;
       lines = l.lines;
       list_reads = l.reads;
-      links = l.behind.more;
-      audits = l.behind.audits;
-      room = l.behind.small;
-      text = l.behind.text;
-      shown = composed l.behind.more (true-each files l.lines l.behind.more l.behind.audits);
+      links = l.following.more;
+      audits = l.following.audits;
+      room = l.following.small;
+      text = l.following.text;
+      shown = composed l.following.more (true-each files l.lines l.following.more l.following.audits);
     }

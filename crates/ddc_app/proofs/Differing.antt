@@ -3,9 +3,9 @@ use Rattle.std.proofs.Common.{◌≡◌, ℕ, ◌+◌, false, cond, IsTrue, ◌�
 use Rattle.std.specs.List.{fold}
 use Rattle.std.proofs.lemmas.List.Elements.{All-head, All-tail}
 use Rattle.ddc_base.specs.Outside.{NamedFiles}
-use Rattle.wheeler.specs.Bench.{bench}
-use Rattle.wheeler.specs.Positions.{Position, On, position}
-use Rattle.wheeler.specs.Valid.{IsInputs}
+use Rattle.audit_rules.specs.Bench.{bench}
+use Rattle.audit_rules.specs.Positions.{Position, On, position}
+use Rattle.audit_rules.specs.Valid.{IsInputs}
 use Rattle.command_plan.specs.declared.status.Status.{Status}
 use Rattle.command_plan.specs.declared.status.Status.TheVariants.{Paused}
 use Rattle.command_plan.specs.Plan.{LoadsBytes, Outcome, outcome}
@@ -13,14 +13,14 @@ use Rattle.audit_commands.specs.Audit.{audited}
 use Rattle.audit_commands.specs.Pause.{whole_save}
 use Rattle.ddc_app.specs.Accepting.{audit, is_compared, verify}
 use Rattle.ddc_app.specs.Commands.{plan_of}
-use Rattle.ddc_app.specs.Differences.{AreDeltaWords, AreKept, Differences, IsSavedBeside, behind_save, delta_resume, delta_start, differing_in_turn, in_differences}
+use Rattle.ddc_app.specs.Differences.{AreDeltaWords, AreKept, Differences, IsSavedRelative, after_save, delta_resume, delta_start, differing_in_turn, in_differences}
 use Rattle.ddc_app.specs.Pausing.{AreSame, IsStepCount, is_paused, part}
 use Rattle.ddc_app.proofs.Beginnings.{Begun, Case, Refused, begins, four_of, part_loaded, three_apart}
-use Rattle.ddc_app.proofs.Beside.{Behind, IsBaseHeld, kept_beside, kept_of, resume_leaves_base, resumes_at, start_leaves_base, starts_at}
+use Rattle.ddc_app.proofs.Relative.{After, IsBaseHeld, kept_relative, kept_of, resume_leaves_base, resumes_at, start_leaves_base, starts_at}
 use Rattle.ddc_app.proofs.Pausing.{compared, first_settles}
 use Rattle.ddc_app.proofs.Pieces.{Ends, Settles, alike, saved_of, settles}
 
--- ---- the pieces behind the whole save
+-- ---- the pieces after the whole save
 
 -- an audit that is over goes on by no difference
 stays_over : (recipe base patch report : List ℕ) (piece : Outcome) (counts : List ℕ) → is_paused piece.status ≡ false → differing_in_turn recipe base patch report piece counts ≡ piece
@@ -28,10 +28,10 @@ stays_over recipe base patch report piece [] over = refl
 stays_over recipe base patch report piece (steps ∷ counts) over =
     ap (λ b. cond b (differing_in_turn recipe base patch report (delta_resume recipe base patch report steps piece.files) counts) piece) over
 
-module _ (recipe base patch report : List ℕ) (b : Behind recipe base patch report) (first : NamedFiles) where
-  -- so many steps in all are behind a piece, and the base is held
+module _ (recipe base patch report : List ℕ) (b : After recipe base patch report) (first : NamedFiles) where
+  -- so many steps in all are after a piece, and the base is held
   abbrev Stood : ℕ → Outcome → Type 0
-  Stood total piece = Settles recipe patch report b.c (kept_beside recipe base patch report b) first total piece × IsBaseHeld recipe base patch report b piece.files
+  Stood total piece = Settles recipe patch report b.c (kept_relative recipe base patch report b) first total piece × IsBaseHeld recipe base patch report b piece.files
 
   further : (counts : List ℕ) → All IsStepCount counts → (total : ℕ) (piece : Outcome) → Stood total piece
       → Stood (fold (λ a x. a + x) total counts) (differing_in_turn recipe base patch report piece counts)
@@ -44,8 +44,8 @@ module _ (recipe base patch report : List ℕ) (b : Behind recipe base patch rep
       let comes = resumes_at recipe base patch report b piece.files p.holds held steps counted total p.place p.stands p.kept_held in
       subst (λ (s : Status). Stood (fold (λ a x. a + x) (total + steps) counts) (cond (is_paused s) (differing_in_turn recipe base patch report next counts) piece)) (sym p.status)
       (further counts (All-tail IsStepCount steps counts are) (total + steps) next (
-        subst (Settles recipe patch report b.c (kept_beside recipe base patch report b) first (total + steps)) (sym comes)
-            (settles recipe patch report b.c first piece.files p.holds p.same_report (kept_beside recipe base patch report b) (total + steps)
+        subst (Settles recipe patch report b.c (kept_relative recipe base patch report b) first (total + steps)) (sym comes)
+            (settles recipe patch report b.c first piece.files p.holds p.same_report (kept_relative recipe base patch report b) (total + steps)
             (position b.c.said b.c.inputs (total + steps)) refl),
         resume_leaves_base recipe base patch report b steps piece.files held,
       ))
@@ -80,8 +80,8 @@ module _ (recipe base patch report : List ℕ) (steps : ℕ) (files : NamedFiles
   finished : (b : Begins) (last : Outcome) → Ends recipe base report b.c files (bench b.c.said b.c.inputs) last → Finished last
   finished b last e = record { name = base; c = b.c; given = given b; answers = b.answers; ends = e }
 
-  abbrev behind : (b : Begins) (place : Position) → position b.c.said b.c.inputs steps ≡ On place → Behind recipe base patch report
-  behind b place stands = record {
+  abbrev following : (b : Begins) (place : Position) → position b.c.said b.c.inputs steps ≡ On place → After recipe base patch report
+  following b place stands = record {
     four = four_of recipe base patch report words.with_base.three words.with_patch.three words.apart;
     c = record {
       words = three_apart recipe patch report words.with_patch.three;
@@ -100,29 +100,29 @@ module _ (recipe base patch report : List ℕ) (steps : ℕ) (files : NamedFiles
 
   -- what was settled by differences
   told : (b : Begins) (place : Position) (stands : position b.c.said b.c.inputs steps ≡ On place) (second : ℕ) (counts : List ℕ) (last : Outcome)
-      → Stood recipe base patch report (behind b place stands) files (fold (λ a x. a + x) (steps + second) counts) last → Stands (second ∷ counts) last
+      → Stood recipe base patch report (following b place stands) files (fold (λ a x. a + x) (steps + second) counts) last → Stands (second ∷ counts) last
   told b place stands second counts last (inl p, held) =
       let none : steps ≡ 0 + steps = omega arith in
-      inl (p.status, subst (λ n. AreKeptBehind n) none (kept_of recipe base patch report (behind b place stands) files (fold (λ a x. a + x) (steps + second) counts) last held p)) where
-        AreKeptBehind : ℕ → Type 0
-        AreKeptBehind n = IsSavedBeside recipe base patch last.files steps (fold (λ a x. a + x) (n + second) counts)
+      inl (p.status, subst (λ n. AreKeptAfter n) none (kept_of recipe base patch report (following b place stands) files (fold (λ a x. a + x) (steps + second) counts) last held p)) where
+        AreKeptAfter : ℕ → Type 0
+        AreKeptAfter n = IsSavedRelative recipe base patch last.files steps (fold (λ a x. a + x) (n + second) counts)
   told b place stands second counts last (inr e, held) =
-      inr (record { name = patch; c = (behind b place stands).c; given = (behind b place stands).given; answers = b.answers; ends = e })
+      inr (record { name = patch; c = (following b place stands).c; given = (following b place stands).given; answers = b.answers; ends = e })
 
   by_pieces : (b : Begins) (counts : List ℕ) → All IsStepCount counts → Settles recipe base report b.c (whole_save b.c.said b.c.inputs) files steps piece
-      → Stands counts (behind_save recipe base patch report piece counts)
+      → Stands counts (after_save recipe base patch report piece counts)
   by_pieces b [] are (inl p) = inl (p.status, saved_of recipe base report b.c files steps piece p)
   by_pieces b [] are (inr e) = inr (finished b piece e)
   by_pieces b (second ∷ counts) are (inr e) =
       subst (λ paused. Stands (second ∷ counts) (cond paused (differing_in_turn recipe base patch report (delta_start recipe base patch report second piece.files) counts) piece))
       (sym e.not_paused) (inr (finished b piece e))
   by_pieces b (second ∷ counts) are (inl p) =
-      let from : Behind recipe base patch report = behind b p.place p.stands in
+      let from : After recipe base patch report = following b p.place p.stands in
       let next : Outcome = delta_start recipe base patch report second piece.files in
       let comes = starts_at recipe base patch report from piece.files p.holds p.kept_held second (All-head IsStepCount second counts are) in
-      let settled : Settles recipe patch report from.c (kept_beside recipe base patch report from) files (steps + second) next =
-      subst (Settles recipe patch report from.c (kept_beside recipe base patch report from) files (steps + second)) (sym comes)
-      (settles recipe patch report from.c files piece.files p.holds p.same_report (kept_beside recipe base patch report from) (steps + second)
+      let settled : Settles recipe patch report from.c (kept_relative recipe base patch report from) files (steps + second) next =
+      subst (Settles recipe patch report from.c (kept_relative recipe base patch report from) files (steps + second)) (sym comes)
+      (settles recipe patch report from.c files piece.files p.holds p.same_report (kept_relative recipe base patch report from) (steps + second)
       (position b.c.said b.c.inputs (steps + second)) refl) in
       let stood = further recipe base patch report from files counts (All-tail IsStepCount second counts are) (steps + second) next
       (settled, start_leaves_base recipe base patch report from second piece.files p.kept_held) in
@@ -130,7 +130,7 @@ module _ (recipe base patch report : List ℕ) (steps : ℕ) (files : NamedFiles
       (told b p.place p.stands second counts (differing_in_turn recipe base patch report next counts) stood)
 
   -- a piece that is refused is not followed
-  refused_stays : (counts : List ℕ) → is_paused piece.status ≡ false → behind_save recipe base patch report piece counts ≡ piece
+  refused_stays : (counts : List ℕ) → is_paused piece.status ≡ false → after_save recipe base patch report piece counts ≡ piece
   refused_stays [] over = refl
   refused_stays (second ∷ counts) over =
       ap (λ b. cond b (differing_in_turn recipe base patch report (delta_start recipe base patch report second piece.files) counts) piece) over
@@ -140,19 +140,19 @@ module _ (recipe base patch report : List ℕ) (steps : ℕ) (files : NamedFiles
   Refuses last = (last ≡ whole) × (is_compared whole.status ≡ false)
 
   stands : (counts : List ℕ) → All IsStepCount (steps ∷ counts) → Refused piece whole ⊎ Begins
-      → Refuses (behind_save recipe base patch report piece counts) ⊎ Stands counts (behind_save recipe base patch report piece counts)
+      → Refuses (after_save recipe base patch report piece counts) ⊎ Stands counts (after_save recipe base patch report piece counts)
   stands counts are (inl r) = inl (refused_stays counts r.refusal.0 ∙ r.same, ap (λ (o : Outcome). is_compared o.status) (sym r.same) ∙ r.refusal.1)
   stands counts are (inr b) = inr (by_pieces b counts (All-tail IsStepCount steps counts are) (first_settles recipe base report steps files piece whole b))
 
   came : (counts : List ℕ) → All IsStepCount (steps ∷ counts)
-      → Refuses (behind_save recipe base patch report piece counts) ⊎ Stands counts (behind_save recipe base patch report piece counts)
+      → Refuses (after_save recipe base patch report piece counts) ⊎ Stands counts (after_save recipe base patch report piece counts)
   came counts are = stands counts are (begins recipe base report steps files words.with_base counted)
 
   pub same : (counts : List ℕ) → All IsStepCount (steps ∷ counts)
       → Differences recipe base patch report files steps counts (in_differences recipe base patch report steps counts files)
   same counts are = by (came counts are) where
     last : Outcome
-    last = behind_save recipe base patch report piece counts
+    last = after_save recipe base patch report piece counts
 
     by : Refuses last ⊎ Stands counts last → Differences recipe base patch report files steps counts last
     by (inl is) = inr (alike report last whole is.0)
@@ -164,7 +164,7 @@ module _ (recipe base patch report : List ℕ) (steps : ℕ) (files : NamedFiles
       → (verify recipe report (in_differences recipe base patch report steps counts files).files).status ≡ (in_differences recipe base patch report steps counts files).status
   accepted counts are over = by (came counts are) where
     last : Outcome
-    last = behind_save recipe base patch report piece counts
+    last = after_save recipe base patch report piece counts
 
     by : Refuses last ⊎ Stands counts last → (verify recipe report last.files).status ≡ last.status
     by (inl is) = let never = sym is.1 ∙ ap (λ (o : Outcome). is_compared o.status) (sym is.0) ∙ over in absurd cc

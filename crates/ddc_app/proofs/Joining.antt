@@ -8,13 +8,13 @@ use Rattle.std.proofs.lemmas.Bool.Decides.{nat_tests}
 use Rattle.std.proofs.lemmas.List.Elements.{All-cons, All-head, All-nil, All-push, All-tail}
 use Rattle.ddc_base.specs.declared.outside.Loaded.TheVariants.{Bytes, TooLong}
 use Rattle.ddc_base.specs.Outside.{NamedFiles, loaded, loaded_of}
-use Rattle.recipe.specs.declared.contents.Said.{Said}
+use Rattle.recipe.specs.declared.contents.RecipeContents.{RecipeContents}
 use Rattle.recipe.specs.declared.text.refusal.RecipeRefusal.{RecipeRefusal}
 use Rattle.recipe.specs.Reading.{recipe_of}
 use Rattle.report.specs.declared.types.CompareLine.{CompareLine}
 use Rattle.report.specs.declared.types.Report.{Report}
 use Rattle.report.specs.Reading.{report_of}
-use Rattle.wheeler.specs.Bench.{all_equal}
+use Rattle.audit_rules.specs.Bench.{all_equal}
 use Rattle.verifier.specs.declared.part.Part.{Part}
 use Rattle.verifier.specs.Faults.{first_fault}
 use Rattle.audit_chain.specs.declared.link.Link.{Link}
@@ -28,7 +28,7 @@ use Rattle.command_plan.proofs.Listing.{holds-listed, parts-of}
 use Rattle.recipe_plan.specs.Recipes.{is_input, needs_apart, needs_inputs_within, paths}
 use Rattle.recipe_plan.specs.Texts.{compared_lines, recipe_line}
 use Rattle.verify_commands.specs.declared.pair.Pair.{Pair}
-use Rattle.verify_commands.specs.Chain.{both_words, chain_files, chained, chained_lines, is_space, needs_audit, needs_recipe_of, needs_report_of, needs_true, needs_two_files, pair_of, room_behind}
+use Rattle.verify_commands.specs.Chain.{both_words, chain_files, chained, chained_lines, is_space, needs_audit, needs_recipe_of, needs_report_of, needs_true, needs_two_files, pair_of, room_after}
 use Rattle.verify_commands.specs.ChainTexts.{audit_line, chain_text}
 use Rattle.verify_commands.specs.Verify.{verify_files}
 use Rattle.ddc_app.specs.Accepting.{is_compared}
@@ -154,11 +154,11 @@ opened room files pair link h verified =
     let bytes : r.holds.bytes ≡ h.recipe_bytes = cc in
     let reads = sym r.holds.reads ∙ ap recipe_of bytes ∙ h.recipe_reads in
     let same : r.said ≡ link.recipe = cc in
-    let held = subst (λ (said : Said). AreHeld 268_435_456 1_073_741_824 files (paths said) r.inputs) same r.holds.inputs_held in
+    let held = subst (λ (said : RecipeContents). AreHeld 268_435_456 1_073_741_824 files (paths said) r.inputs) same r.holds.inputs_held in
     let inputs : r.inputs ≡ link.inputs = same_contents 268_435_456 1_073_741_824 room files (paths link.recipe) r.inputs link.inputs held h.inputs_held in
     record {
       words = two_apart pair.recipe pair.report (is_two pair.recipe pair.report files (are_two_files pair.recipe pair.report) verified);
-      apart = ap (λ (said : Said). is_input said pair.report) (sym same) ∙ r.apart;
+      apart = ap (λ (said : RecipeContents). is_input said pair.report) (sym same) ∙ r.apart;
       text = r.text;
       text_held = r.text_held;
       made = r.made;
@@ -171,11 +171,11 @@ audit_opens : (number room : ℕ) (files : NamedFiles) (pair : Pair) (link : Lin
     → outcome (needs_audit number room pair next) files ≡ outcome (next link) files
 unfolding needs_audit needs_two_files needs_true
 audit_opens number room files pair link next h o =
-    let last : Said → Report → List (List ℕ) → Plan = λ said made inputs.
+    let last : RecipeContents → Report → List (List ℕ) → Plan = λ said made inputs.
     needs_true number made.compare (first_fault said inputs made) (λ _. next (record { recipe = said; inputs = inputs })) in
-    let loads : Said → Report → Plan = λ said made. needs_inputs_within room said (last said made) in
-    let reports : Said → Plan = λ said. needs_report_of number pair.report (loads said) in
-    let recipes : Said → Plan = λ said. needs_apart said pair.report (λ _. reports said) in
+    let loads : RecipeContents → Report → Plan = λ said made. needs_inputs_within room said (last said made) in
+    let reports : RecipeContents → Plan = λ said. needs_report_of number pair.report (loads said) in
+    let recipes : RecipeContents → Plan = λ said. needs_apart said pair.report (λ _. reports said) in
     let refuse : RecipeRefusal → Plan = λ refusal. answers status.RecipeRefused (audit_line number ++ recipe_line refusal) in
     let refuse_report : ℕ → Plan = λ line. answers status.ReportRefused (audit_line number ++ report_line line) in
     ap (λ clash. outcome (cond clash usage (needs_recipe_of number pair.recipe recipes)) files) o.words
@@ -194,9 +194,9 @@ chained_opens files [] [] links room held each = ap (λ l. told files status.Yes
 chained_opens files [] (link ∷ more) links room held each = absurd held
 chained_opens files (pair ∷ pairs) [] links room held each = absurd held
 chained_opens files (pair ∷ pairs) (link ∷ more) links room held each =
-    audit_opens (length links + 1) room files pair link (λ l. chained (links ++ l ∷ []) (room_behind room l.inputs) pairs) held.0
+    audit_opens (length links + 1) room files pair link (λ l. chained (links ++ l ∷ []) (room_after room l.inputs) pairs) held.0
     (opened room files pair link held.0 (All-head (SaysYes files) pair pairs each))
-    ∙ chained_opens files pairs more (links ++ link ∷ []) (room_behind room link.inputs) held.1 (All-tail (SaysYes files) pair pairs each)
+    ∙ chained_opens files pairs more (links ++ link ∷ []) (room_after room link.inputs) held.1 (All-tail (SaysYes files) pair pairs each)
     ∙ ap (λ l. told files status.Yes (chain_text l)) (append_assoc links (link ∷ []) more)
 
 lines_open : (files : NamedFiles) (lines : List Pair) (links : List Link) → lines ≢ [] → AllHoldInputs 1_073_741_824 files lines links → All (SaysYes files) lines
@@ -246,15 +246,15 @@ module _ (files : NamedFiles) (P : Type 0) where
       → ((link : Link) → HoldsInputs room files pair link → SaysYes files pair → Comes (next link)) → Comes (needs_audit number room pair next)
   unfolding needs_audit
   audit_comes number room pair next below words comes =
-      let link_of : Said → List (List ℕ) → Link = λ said inputs. record { recipe = said; inputs = inputs } in
-      let last : Said → Report → List (List ℕ) → Plan = λ said made inputs. needs_true number made.compare (first_fault said inputs made) (λ _. next (link_of said inputs)) in
-      let loads : Said → Report → Plan = λ said made. needs_inputs_within room said (last said made) in
-      let reports : Said → Plan = λ said. needs_report_of number pair.report (loads said) in
-      let recipes : Said → Plan = λ said. needs_apart said pair.report (λ _. reports said) in
+      let link_of : RecipeContents → List (List ℕ) → Link = λ said inputs. record { recipe = said; inputs = inputs } in
+      let last : RecipeContents → Report → List (List ℕ) → Plan = λ said made inputs. needs_true number made.compare (first_fault said inputs made) (λ _. next (link_of said inputs)) in
+      let loads : RecipeContents → Report → Plan = λ said made. needs_inputs_within room said (last said made) in
+      let reports : RecipeContents → Plan = λ said. needs_report_of number pair.report (loads said) in
+      let recipes : RecipeContents → Plan = λ said. needs_apart said pair.report (λ _. reports said) in
       let refusal_text : RecipeRefusal → List ℕ = λ refusal. audit_line number ++ recipe_line refusal in
       let line_text : ℕ → List ℕ = λ line. audit_line number ++ report_line line in
       let reading : List ℕ → Plan = λ bytes. unless_refused (recipe_of bytes) (λ refusal. answers status.RecipeRefused (refusal_text refusal)) recipes in
-      let texts : Said → List ℕ → Plan = λ said text. unless_refused (report_of text) (λ line. answers status.ReportRefused (line_text line)) (loads said) in
+      let texts : RecipeContents → List ℕ → Plan = λ said text. unless_refused (report_of text) (λ line. answers status.ReportRefused (line_text line)) (loads said) in
       two_come pair (λ _. needs_recipe_of number pair.recipe recipes) (λ one.
       both_need Both files refused pair.recipe 1_048_576 reading reading (λ bytes held.
       both_read Both files refused (recipe_of bytes) status.RecipeRefused refusal_text recipes recipes (refl, refl) (λ said reads.
@@ -286,10 +286,10 @@ chained_comes : (files : NamedFiles) (pairs : List Pair) (links : List Link) (ro
     → (outcome (chained links room pairs) files).status ≡ status.Yes → Rest files room pairs
 chained_comes files [] links room below words ends = record { more = []; held = tt; each = All-nil (SaysYes files) }
 chained_comes files (pair ∷ pairs) links room below words ends =
-    audit_comes files (Rest files room (pair ∷ pairs)) (length links + 1) room pair (λ link. chained (links ++ link ∷ []) (room_behind room link.inputs) pairs) below
+    audit_comes files (Rest files room (pair ∷ pairs)) (length links + 1) room pair (λ link. chained (links ++ link ∷ []) (room_after room link.inputs) pairs) below
     (All-head IsPair pair pairs words)
     (λ link held verified later.
-    let rest = chained_comes files pairs (links ++ link ∷ []) (room_behind room link.inputs) (less room (sum_by length link.inputs) below) (All-tail IsPair pair pairs words) later in
+    let rest = chained_comes files pairs (links ++ link ∷ []) (room_after room link.inputs) (less room (sum_by length link.inputs) below) (All-tail IsPair pair pairs words) later in
     record { more = link ∷ rest.more; held = (held, rest.held); each = All-cons (SaysYes files) pair pairs verified rest.each }) ends
   where
     less : (room sum : ℕ) → room ≤ 1_073_741_824 → room - sum ≤ 1_073_741_824

@@ -1,10 +1,10 @@
 -- What `verify` comes to over files that hold what it judges.
 use Rattle.std.proofs.Common.{◌≡◌, ◌↔◌, ℕ, Bool, true, false, cond, Option, Some, None, List, refl, sym, ap, ◌∙◌, subst}
 use Rattle.ddc_base.specs.Outside.{NamedFiles}
-use Rattle.recipe.specs.declared.contents.Said.{Said}
+use Rattle.recipe.specs.declared.contents.RecipeContents.{RecipeContents}
 use Rattle.report.specs.declared.types.Report.{Report}
 use Rattle.report.specs.Reading.{report_of}
-use Rattle.wheeler.specs.Bench.{all_equal}
+use Rattle.audit_rules.specs.Bench.{all_equal}
 use Rattle.verifier.specs.declared.part.Part.{Part}
 use Rattle.verifier.specs.Faults.{first_fault}
 use Rattle.command_plan.specs.declared.status.Status.{Status}
@@ -20,7 +20,7 @@ use Rattle.ddc_app.specs.Judged.{HoldsReport}
 use Rattle.ddc_app.proofs.Loads.{follows}
 use Rattle.ddc_app.proofs.Openings.{Holds, apart_opens, inputs_open, recipe_opens}
 
-module _ (recipe report : List ℕ) (files : NamedFiles) (said : Said) (inputs : List (List ℕ)) (made : Report) (h : HoldsReport recipe report files said inputs made) where
+module _ (recipe report : List ℕ) (files : NamedFiles) (said : RecipeContents) (inputs : List (List ℕ)) (made : Report) (h : HoldsReport recipe report files said inputs made) where
   -- its loads lead to the judgement
   pub judgement : verify recipe report files ≡ outcome (judged_report said made.compare (first_fault said inputs made)) files
   unfolding verify_files

@@ -4,13 +4,13 @@ use Rattle.std.proofs.Common.{◌≡◌, ◌≢◌, ℕ, Bool, true, false, cond
 use Rattle.std.specs.FinMap as finite
 use Rattle.ddc_base.specs.Outside.{NamedFiles}
 use Rattle.ddc_base.proofs.StoredFiles.{others-insert}
-use Rattle.recipe.specs.declared.contents.Said.{Said}
+use Rattle.recipe.specs.declared.contents.RecipeContents.{RecipeContents}
 use Rattle.report.specs.Reports.{report_text}
 use Rattle.report.specs.declared.types.CompareLine.{CompareLine}
 use Rattle.audit_run.specs.Delta.Deltas.{delta_text_of}
-use Rattle.wheeler.specs.Positions.{Position, Standing, On, Over, forward, position}
-use Rattle.wheeler.specs.declared.answer.Answer.TheVariants.{Completes, Fails}
-use Rattle.wheeler.specs.declared.answer.Fault.TheVariants.{Runs, Checks}
+use Rattle.audit_rules.specs.Positions.{Position, Standing, On, Over, forward, position}
+use Rattle.audit_rules.specs.declared.answer.AuditAnswer.TheVariants.{Completes, Fails}
+use Rattle.audit_rules.specs.declared.answer.StageFault.TheVariants.{Runs, Checks}
 use Rattle.command_plan.specs.declared.status.Status.{Status}
 use Rattle.command_plan.specs.declared.status.Status.TheVariants.{Paused, SaveRefused, Usage}
 use Rattle.command_plan.specs.Plan.{Plan, Outcome, needs, outcome}
@@ -19,10 +19,10 @@ use Rattle.command_plan.specs.Words.{are_three_files, as_steps, or_usage, usage}
 use Rattle.recipe_plan.specs.Recipes.{needs_apart, needs_inputs, needs_recipe}
 use Rattle.recipe_plan.specs.Reports.{compared_status}
 use Rattle.audit_commands.specs.Audit.{completed}
-use Rattle.audit_commands.specs.Delta.{are_four_files, delta_resume_files, delta_start_files, needs_position_beside, read_beside}
+use Rattle.audit_commands.specs.Delta.{are_four_files, delta_resume_files, delta_start_files, needs_position_relative, read_relative}
 use Rattle.audit_commands.specs.Pause.{came_to, needs_position, part_files, paused, read_as, resume_files, whole_save}
 use Rattle.audit_commands.specs.PauseTexts.{delta_refused_line, save_refused_line}
-use Rattle.ddc_app.specs.Differences.{LeavesAllBut, behind_save, delta_resume, delta_start, differing_in_turn, in_differences}
+use Rattle.ddc_app.specs.Differences.{LeavesAllBut, after_save, delta_resume, delta_start, differing_in_turn, in_differences}
 use Rattle.ddc_app.specs.Pausing.{LeavesOthers, LeavesUnwritten, in_pieces, is_paused, part, resume, resumed_in_turn}
 use Rattle.ddc_app.proofs.Beginnings.{three_apart, three_of_four}
 use Rattle.ddc_app.proofs.Loads.{not_equal}
@@ -43,27 +43,27 @@ module _ (recipe save report : List ℕ) (files : NamedFiles) (P : Outcome → T
   Keeps plan = P (outcome plan files)
 
   abbrev Comes : Type 0
-  Comes = (said : Said) (kept : Position → List ℕ) (stands : Standing) → Keeps (came_to said kept save report stands)
+  Comes = (said : RecipeContents) (kept : Position → List ℕ) (stands : Standing) → Keeps (came_to said kept save report stands)
 
-  recipe_keeps : (next : Said → Plan) → ((said : Said) → Keeps (next said)) → Keeps (needs_recipe recipe next)
+  recipe_keeps : (next : RecipeContents → Plan) → ((said : RecipeContents) → Keeps (next said)) → Keeps (needs_recipe recipe next)
   recipe_keeps next keeps = both_need_recipe First files refused recipe next next (λ bytes said held reads. keeps said)
 
-  apart_keeps : (said : Said) (file : List ℕ) (next : Unit {0} → Plan) → Keeps (next tt) → Keeps (needs_apart said file next)
+  apart_keeps : (said : RecipeContents) (file : List ℕ) (next : Unit {0} → Plan) → Keeps (next tt) → Keeps (needs_apart said file next)
   apart_keeps said file next keeps = both_need_apart First files refused said file next next (λ apart. keeps)
 
-  inputs_keep : (said : Said) (next : List (List ℕ) → Plan) → ((inputs : List (List ℕ)) → Keeps (next inputs)) → Keeps (needs_inputs said next)
+  inputs_keep : (said : RecipeContents) (next : List (List ℕ) → Plan) → ((inputs : List (List ℕ)) → Keeps (next inputs)) → Keeps (needs_inputs said next)
   inputs_keep said next keeps = both_need_inputs First files refused said next next (λ inputs held. keeps inputs)
 
   load_keeps : (name : List ℕ) (next : List ℕ → Plan) → ((text : List ℕ) → Keeps (next text)) → Keeps (needs name 4_294_967_296 next)
   load_keeps name next keeps = both_need First files refused name 4_294_967_296 next next (λ text held. keeps text)
 
-  position_keeps : (said : Said) (inputs : List (List ℕ)) (text : List ℕ) (next : Position → Plan) → ((p : Position) → Keeps (next p)) → Keeps (needs_position said inputs text next)
+  position_keeps : (said : RecipeContents) (inputs : List (List ℕ)) (text : List ℕ) (next : Position → Plan) → ((p : Position) → Keeps (next p)) → Keeps (needs_position said inputs text next)
   position_keeps said inputs text next keeps = both_read First files refused (read_as said inputs text) SaveRefused save_refused_line next next (refl, refl) (λ p reads. keeps p)
 
-  beside_keeps : (said : Said) (inputs : List (List ℕ)) (base : Position) (text : List ℕ) (next : Position → Plan) → ((p : Position) → Keeps (next p))
-      → Keeps (needs_position_beside said inputs base text next)
-  beside_keeps said inputs base text next keeps =
-      both_read First files refused (read_beside said inputs base text) SaveRefused delta_refused_line next next (refl, refl) (λ p reads. keeps p)
+  relative_keeps : (said : RecipeContents) (inputs : List (List ℕ)) (base : Position) (text : List ℕ) (next : Position → Plan) → ((p : Position) → Keeps (next p))
+      → Keeps (needs_position_relative said inputs base text next)
+  relative_keeps said inputs base text next keeps =
+      both_read First files refused (read_relative said inputs base text) SaveRefused delta_refused_line next next (refl, refl) (λ p reads. keeps p)
 
   part_keeps : Comes → (n : ℕ) → Keeps (part_files recipe save report n)
   unfolding part_files
@@ -72,9 +72,9 @@ module _ (recipe save report : List ℕ) (files : NamedFiles) (P : Outcome → T
   resume_keeps : Comes → (n : ℕ) → Keeps (resume_files recipe save report n)
   unfolding resume_files
   resume_keeps came n =
-      let last : Said → List (List ℕ) → Position → Plan = λ said inputs p. came_to said (whole_save said inputs) save report (forward said inputs p n) in
-      let placed : Said → List ℕ → List (List ℕ) → Plan = λ said text inputs. needs_position said inputs text (last said inputs) in
-      let found : Said → List ℕ → Plan = λ said text. needs_inputs said (placed said text) in
+      let last : RecipeContents → List (List ℕ) → Position → Plan = λ said inputs p. came_to said (whole_save said inputs) save report (forward said inputs p n) in
+      let placed : RecipeContents → List ℕ → List (List ℕ) → Plan = λ said text inputs. needs_position said inputs text (last said inputs) in
+      let found : RecipeContents → List ℕ → Plan = λ said text. needs_inputs said (placed said text) in
       recipe_keeps _ (λ said. apart_keeps said report _ (apart_keeps said save _ (load_keeps save (found said) (λ text. inputs_keep said (placed said text) (λ inputs.
       position_keeps said inputs text (last said inputs) (λ p. came said (whole_save said inputs) (forward said inputs p n)))))))
 
@@ -95,9 +95,9 @@ module _ (recipe save report : List ℕ) (files : NamedFiles) (P : Outcome → T
     delta_start_keeps : Comes → (n : ℕ) → Keeps (delta_start_files recipe base save report n)
     unfolding delta_start_files
     delta_start_keeps came n =
-        let last : Said → List (List ℕ) → Position → Plan = λ said inputs b. came_to said (delta_text_of said inputs b) save report (forward said inputs b n) in
-        let placed : Said → List ℕ → List (List ℕ) → Plan = λ said text inputs. needs_position said inputs text (last said inputs) in
-        let found : Said → List ℕ → Plan = λ said text. needs_inputs said (placed said text) in
+        let last : RecipeContents → List (List ℕ) → Position → Plan = λ said inputs b. came_to said (delta_text_of said inputs b) save report (forward said inputs b n) in
+        let placed : RecipeContents → List ℕ → List (List ℕ) → Plan = λ said text inputs. needs_position said inputs text (last said inputs) in
+        let found : RecipeContents → List ℕ → Plan = λ said text. needs_inputs said (placed said text) in
         recipe_keeps _ (λ said. apart_keeps said report _ (apart_keeps said base _ (apart_keeps said save _ (load_keeps base (found said) (λ text.
         inputs_keep said (placed said text) (λ inputs. position_keeps said inputs text (last said inputs) (λ b.
         came said (delta_text_of said inputs b) (forward said inputs b n))))))))
@@ -105,14 +105,14 @@ module _ (recipe save report : List ℕ) (files : NamedFiles) (P : Outcome → T
     delta_resume_keeps : Comes → (n : ℕ) → Keeps (delta_resume_files recipe base save report n)
     unfolding delta_resume_files
     delta_resume_keeps came n =
-        let last : Said → List (List ℕ) → Position → Position → Plan = λ said inputs b p. came_to said (delta_text_of said inputs b) save report (forward said inputs p n) in
-        let beside : Said → List ℕ → List (List ℕ) → Position → Plan = λ said delta inputs b. needs_position_beside said inputs b delta (last said inputs b) in
-        let placed : Said → List ℕ → List ℕ → List (List ℕ) → Plan = λ said text delta inputs. needs_position said inputs text (beside said delta inputs) in
-        let found : Said → List ℕ → List ℕ → Plan = λ said text delta. needs_inputs said (placed said text delta) in
+        let last : RecipeContents → List (List ℕ) → Position → Position → Plan = λ said inputs b p. came_to said (delta_text_of said inputs b) save report (forward said inputs p n) in
+        let relative : RecipeContents → List ℕ → List (List ℕ) → Position → Plan = λ said delta inputs b. needs_position_relative said inputs b delta (last said inputs b) in
+        let placed : RecipeContents → List ℕ → List ℕ → List (List ℕ) → Plan = λ said text delta inputs. needs_position said inputs text (relative said delta inputs) in
+        let found : RecipeContents → List ℕ → List ℕ → Plan = λ said text delta. needs_inputs said (placed said text delta) in
         recipe_keeps _ (λ said. apart_keeps said report _ (apart_keeps said base _ (apart_keeps said save _
         (load_keeps base (λ text. needs save 4_294_967_296 (found said text)) (λ text. load_keeps save (found said text) (λ delta.
-        inputs_keep said (placed said text delta) (λ inputs. position_keeps said inputs text (beside said delta inputs) (λ b.
-        beside_keeps said inputs b delta (last said inputs b) (λ p. came said (delta_text_of said inputs b) (forward said inputs p n))))))))))
+        inputs_keep said (placed said text delta) (λ inputs. position_keeps said inputs text (relative said delta inputs) (λ b.
+        relative_keeps said inputs b delta (last said inputs b) (λ p. came said (delta_text_of said inputs b) (forward said inputs p n))))))))))
 
     delta_start_leaves : (IsTrue (are_four_files recipe base save report) → Comes) → (steps : ℕ) → P (delta_start recipe base save report steps files)
     delta_start_leaves came steps =
@@ -128,7 +128,7 @@ module _ (recipe save report : List ℕ) (files : NamedFiles) (name : List ℕ) 
   abbrev Stays : Outcome → Type 0
   Stays o = finite.get o.files name ≡ finite.get files name
 
-  stays : (said : Said) (kept : Position → List ℕ) (stands : Standing) → Stays (outcome (came_to said kept save report stands) files)
+  stays : (said : RecipeContents) (kept : Position → List ℕ) (stands : Standing) → Stays (outcome (came_to said kept save report stands) files)
   unfolding paused completed
   stays said kept (On p) = (others-insert files save (kept p)).others name no_save
   stays said kept (Over (Completes made)) = (others-insert files report (report_text made)).others name no_report
@@ -182,10 +182,10 @@ differing_stay recipe base patch report files (steps ∷ counts) piece leaves =
       by true later = later
       by false later = leaves
 
-behind_stay : (recipe base patch report : List ℕ) (files : NamedFiles) (counts : List ℕ) (piece : Outcome) → LeavesAllBut base patch report files piece
-    → LeavesAllBut base patch report files (behind_save recipe base patch report piece counts)
-behind_stay recipe base patch report files [] piece leaves = leaves
-behind_stay recipe base patch report files (steps ∷ counts) piece leaves =
+after_stay : (recipe base patch report : List ℕ) (files : NamedFiles) (counts : List ℕ) (piece : Outcome) → LeavesAllBut base patch report files piece
+    → LeavesAllBut base patch report files (after_save recipe base patch report piece counts)
+after_stay recipe base patch report files [] piece leaves = leaves
+after_stay recipe base patch report files (steps ∷ counts) piece leaves =
     by (is_paused piece.status) (differing_stay recipe base patch report files counts (delta_start recipe base patch report steps piece.files)
     (λ name no_base no_patch no_report. delta_start_stays recipe base patch report steps piece.files name no_patch no_report ∙ leaves name no_base no_patch no_report)) where
       by : (b : Bool) → LeavesAllBut base patch report files (differing_in_turn recipe base patch report (delta_start recipe base patch report steps piece.files) counts)
@@ -196,7 +196,7 @@ behind_stay recipe base patch report files (steps ∷ counts) piece leaves =
 pub differences_stay : (recipe base patch report : List ℕ) (steps : ℕ) (counts : List ℕ) (files : NamedFiles)
     → LeavesAllBut base patch report files (in_differences recipe base patch report steps counts files)
 differences_stay recipe base patch report steps counts files =
-    behind_stay recipe base patch report files counts (part recipe base report steps files)
+    after_stay recipe base patch report files counts (part recipe base report steps files)
     (λ name no_base no_patch no_report. part_stays recipe base report steps files name no_base no_report)
 
 -- ---- the one that is not written
@@ -208,7 +208,7 @@ module _ (recipe save report : List ℕ) (files : NamedFiles) where
   unwritten : (status : Status) (text : List ℕ) → LeavesUnwritten save report files (told files status text)
   unwritten status text = record { report_stays = λ _. refl; save_stays = λ _. refl }
 
-  comes : IsTrue (are_three_files recipe save report) → (said : Said) (kept : Position → List ℕ) (stands : Standing)
+  comes : IsTrue (are_three_files recipe save report) → (said : RecipeContents) (kept : Position → List ℕ) (stands : Standing)
       → LeavesUnwritten save report files (outcome (came_to said kept save report stands) files)
   unfolding paused completed
   comes three said kept (On p) =

@@ -14,6 +14,6 @@ pub mod Pieces
 pub mod Resuming
 pub mod Pausing
 pub mod Leaving
-pub mod Beside
+pub mod Relative
 pub mod Differing
 pub mod Scripting

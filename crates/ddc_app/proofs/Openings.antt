@@ -7,10 +7,10 @@ use Rattle.ddc_base.specs.Outside.{NamedFiles, loaded}
 use Rattle.recipe.specs.declared.text.refusal.RecipeRefusal.{RecipeRefusal as Refusal}
 use Rattle.recipe.specs.Kept.{IsRecipe}
 use Rattle.recipe.specs.Reading.{recipe_of}
-use Rattle.recipe.specs.declared.contents.Said.{Said}
+use Rattle.recipe.specs.declared.contents.RecipeContents.{RecipeContents}
 use Rattle.recipe.specs.declared.parts.Input.{Input}
 use Rattle.recipe.proofs.Keeps.{reads_keep}
-use Rattle.wheeler.specs.Valid.{IsInputs}
+use Rattle.audit_rules.specs.Valid.{IsInputs}
 use Rattle.command_plan.specs.declared.status.Status.TheVariants.{RecipeRefused}
 use Rattle.command_plan.specs.Plan.{LoadsBytes, Plan, answers, outcome, unless_refused}
 use Rattle.command_plan.specs.Words.{is_one_file, usage}
@@ -20,32 +20,32 @@ use Rattle.ddc_app.specs.Holding.{AreHeld}
 use Rattle.ddc_app.proofs.Loads.{as_many, follow_all, follows, found_again, loaded_contents, loads_bytes, other_held}
 
 -- a file that is none of the inputs, and one that is
-pub apart_opens : (said : Said) (file : List ℕ) (next : Unit {0} → Plan) (files : NamedFiles) (clash : Bool) → is_input said file ≡ clash
+pub apart_opens : (said : RecipeContents) (file : List ℕ) (next : Unit {0} → Plan) (files : NamedFiles) (clash : Bool) → is_input said file ≡ clash
     → outcome (needs_apart said file next) files ≡ outcome (cond clash usage (next tt)) files
 unfolding needs_apart
 apart_opens said file next files clash is = ap (λ c. outcome (cond c usage (next tt)) files) is
 
-pub apart_loads : (said : Said) (file : List ℕ) (next : Unit {0} → Plan) (files : NamedFiles) → is_input said file ≡ false → LoadsBytes (needs_apart said file next) files
+pub apart_loads : (said : RecipeContents) (file : List ℕ) (next : Unit {0} → Plan) (files : NamedFiles) → is_input said file ≡ false → LoadsBytes (needs_apart said file next) files
     → LoadsBytes (next tt) files
 unfolding needs_apart
 apart_loads said file next files apart bytes = subst (λ clash. LoadsBytes (cond clash usage (next tt)) files) apart bytes
 
 -- the files hold a recipe that reads and its inputs
-pub record Holds (recipe : List ℕ) (said : Said) (inputs : List (List ℕ)) (files : NamedFiles) : Type 0 where
+pub record Holds (recipe : List ℕ) (said : RecipeContents) (inputs : List (List ℕ)) (files : NamedFiles) : Type 0 where
   pub bytes : List ℕ
   pub recipe_held : loaded files recipe 1_048_576 ≡ Bytes bytes
   pub reads : recipe_of bytes ≡ Ok said
   pub inputs_held : AreHeld 268_435_456 1_073_741_824 files (paths said) inputs
 
-module _ (recipe : List ℕ) (said : Said) (inputs : List (List ℕ)) (files : NamedFiles) (h : Holds recipe said inputs files) where
-  pub recipe_opens : (next : Said → Plan) → outcome (needs_recipe recipe next) files ≡ outcome (next said) files
+module _ (recipe : List ℕ) (said : RecipeContents) (inputs : List (List ℕ)) (files : NamedFiles) (h : Holds recipe said inputs files) where
+  pub recipe_opens : (next : RecipeContents → Plan) → outcome (needs_recipe recipe next) files ≡ outcome (next said) files
   recipe_opens next =
       let refuse : Refusal → Plan = λ refusal. answers RecipeRefused (recipe_line refusal) in
       follows recipe 1_048_576 (λ bytes. unless_refused (recipe_of bytes) refuse next) files h.bytes h.recipe_held
       ∙ ap (λ reading. outcome (unless_refused reading refuse next) files) h.reads
 
-  -- where a plan's loads find bytes, so do those behind its recipe
-  pub recipe_loads : (next : Said → Plan) → LoadsBytes (needs_recipe recipe next) files → LoadsBytes (next said) files
+  -- where a plan's loads find bytes, so do those after its recipe
+  pub recipe_loads : (next : RecipeContents → Plan) → LoadsBytes (needs_recipe recipe next) files → LoadsBytes (next said) files
   recipe_loads next bytes =
       let refuse : Refusal → Plan = λ refusal. answers RecipeRefused (recipe_line refusal) in
       subst (λ reading. LoadsBytes (unless_refused reading refuse next) files) h.reads

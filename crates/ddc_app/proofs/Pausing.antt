@@ -4,12 +4,12 @@ use Rattle.std.specs.List.{fold, sum}
 use Rattle.std.proofs.lemmas.List.Elements.{All-head, All-tail}
 use Rattle.ddc_base.specs.Outside.{NamedFiles}
 use Rattle.report.specs.Reports.{report_text}
-use Rattle.wheeler.specs.Bench.{bench}
-use Rattle.wheeler.specs.Positions.{Position, position}
-use Rattle.wheeler.specs.Valid.{IsInputs}
-use Rattle.wheeler.specs.declared.answer.Answer.{Answer}
-use Rattle.wheeler.specs.declared.answer.Answer.TheVariants.{Completes, Fails}
-use Rattle.wheeler.specs.declared.answer.Fault.TheVariants.{Runs, Checks}
+use Rattle.audit_rules.specs.Bench.{bench}
+use Rattle.audit_rules.specs.Positions.{Position, position}
+use Rattle.audit_rules.specs.Valid.{IsInputs}
+use Rattle.audit_rules.specs.declared.answer.AuditAnswer.{AuditAnswer}
+use Rattle.audit_rules.specs.declared.answer.AuditAnswer.TheVariants.{Completes, Fails}
+use Rattle.audit_rules.specs.declared.answer.StageFault.TheVariants.{Runs, Checks}
 use Rattle.command_plan.specs.declared.status.Status.{Status}
 use Rattle.command_plan.specs.Plan.{LoadsBytes, Outcome, outcome}
 use Rattle.audit_commands.specs.Audit.{audited, completed}
@@ -99,7 +99,7 @@ pub compared : (recipe save report : List ℕ) (c : Case recipe save report) (fi
     → IsTrue (is_compared piece.status) → (verify recipe report piece.files).status ≡ piece.status
 unfolding completed
 compared recipe save report c first piece given e over = by (bench c.said c.inputs) refl e.same where
-  by : (answer : Answer) → bench c.said c.inputs ≡ answer → AreSame report piece (outcome (audited c.said report answer) first)
+  by : (answer : AuditAnswer) → bench c.said c.inputs ≡ answer → AreSame report piece (outcome (audited c.said report answer) first)
       → (verify recipe report piece.files).status ≡ piece.status
   by (Completes made) comes same =
       ap (λ (o : Outcome). o.status) (judges recipe report piece.files (record {

@@ -5,14 +5,14 @@ use Rattle.ddc_base.specs.Outside.{NamedFiles}
 use Rattle.ddc_base.proofs.StoredFiles.{others-insert}
 use Rattle.report.specs.Reports.{report_text}
 use Rattle.report.specs.declared.types.CompareLine.{CompareLine}
-use Rattle.wheeler.specs.Bench.{all_equal, bench}
-use Rattle.wheeler.specs.Positions.{Position, Standing, On, Over, finish, position}
-use Rattle.wheeler.specs.declared.answer.Answer.{Answer}
-use Rattle.wheeler.specs.declared.answer.Answer.TheVariants.{Completes, Fails}
-use Rattle.wheeler.specs.declared.answer.Fault.TheVariants.{Runs, Checks}
-use Rattle.wheeler.proofs.Closing.{may-step}
-use Rattle.wheeler.proofs.Continues.{position-bench}
-use Rattle.wheeler.proofs.Rules.{rules}
+use Rattle.audit_rules.specs.Bench.{all_equal, bench}
+use Rattle.audit_rules.specs.Positions.{Position, Standing, On, Over, finish, position}
+use Rattle.audit_rules.specs.declared.answer.AuditAnswer.{AuditAnswer}
+use Rattle.audit_rules.specs.declared.answer.AuditAnswer.TheVariants.{Completes, Fails}
+use Rattle.audit_rules.specs.declared.answer.StageFault.TheVariants.{Runs, Checks}
+use Rattle.audit_rules.proofs.Closing.{may-step}
+use Rattle.audit_rules.proofs.Continues.{position-bench}
+use Rattle.audit_rules.proofs.Rules.{rules}
 use Rattle.command_plan.specs.declared.status.Status.TheVariants.{Paused, Yes, Differs}
 use Rattle.command_plan.specs.Plan.{Outcome, outcome}
 use Rattle.command_plan.specs.Words.{is_one_file}
@@ -25,7 +25,7 @@ use Rattle.ddc_app.proofs.Beginnings.{Case}
 use Rattle.ddc_app.proofs.Loads.{not_equal, set_held}
 use Rattle.ddc_app.proofs.Openings.{Holds, holds_again}
 
--- a piece pauses behind so many steps, and leaves what is kept of that position
+-- a piece pauses after so many steps, and leaves what is kept of that position
 pub record Pauses (recipe save report : List ℕ) (c : Case recipe save report) (kept : Position → List ℕ) (first : NamedFiles) (total : ℕ) (piece : Outcome) : Type 0 where
   pub status : piece.status ≡ Paused
   pub holds : Holds recipe c.said c.inputs piece.files
@@ -35,7 +35,7 @@ pub record Pauses (recipe save report : List ℕ) (c : Case recipe save report) 
   pub kept_held : finite.get piece.files save ≡ Some (kept place)
 
 -- a piece comes to an answer
-pub record Ends (recipe save report : List ℕ) (c : Case recipe save report) (first : NamedFiles) (answer : Answer) (piece : Outcome) : Type 0 where
+pub record Ends (recipe save report : List ℕ) (c : Case recipe save report) (first : NamedFiles) (answer : AuditAnswer) (piece : Outcome) : Type 0 where
   pub not_paused : is_paused piece.status ≡ false
   pub holds : Holds recipe c.said c.inputs piece.files
   pub same : AreSame report piece (outcome (audited c.said report answer) first)
@@ -56,7 +56,7 @@ other_stays files save report content apart =
 
 module _ (recipe save report : List ℕ) (c : Case recipe save report) (first now : NamedFiles) (h : Holds recipe c.said c.inputs now)
     (same : finite.get now report ≡ finite.get first report) where
-  ends : (answer : Answer) → Ends recipe save report c first answer (outcome (audited c.said report answer) now)
+  ends : (answer : AuditAnswer) → Ends recipe save report c first answer (outcome (audited c.said report answer) now)
   unfolding completed
   ends (Completes made) =
       let text : List ℕ = report_text made in
@@ -84,7 +84,7 @@ module _ (recipe save report : List ℕ) (c : Case recipe save report) (first no
   settles kept total (Over answer) stands =
       let benched : bench c.said c.inputs ≡ answer =
       sym (position-bench c.said (may-step c.said (rules c.said c.is)) c.inputs total) ∙ ap (finish c.said c.inputs) stands in
-      inr (subst (λ (a : Answer). Ends recipe save report c first a (outcome (audited c.said report answer) now)) (sym benched) (ends answer))
+      inr (subst (λ (a : AuditAnswer). Ends recipe save report c first a (outcome (audited c.said report answer) now)) (sym benched) (ends answer))
 
 -- what comes to the same outcome
 pub alike : (report : List ℕ) (piece whole : Outcome) → piece ≡ whole → AreSame report piece whole

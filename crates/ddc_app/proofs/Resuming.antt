@@ -3,20 +3,20 @@ use Rattle.std.proofs.Common.{◌≡◌, ◌≢◌, ℕ, ◌+◌, Bool, true, fa
 use Rattle.std.specs.FinMap as finite
 use Rattle.ddc_base.specs.Outside.{NamedFiles}
 use Rattle.recipe.specs.Kept.{IsRecipe}
-use Rattle.recipe.specs.declared.contents.Said.{Said}
-use Rattle.save_text.specs.Spelled.{text_of_save}
+use Rattle.recipe.specs.declared.contents.RecipeContents.{RecipeContents}
+use Rattle.save_format.specs.Spelled.{text_of_save}
 use Rattle.audit_run.specs.declared.save.reading.SaveRefusal.{SaveRefusal}
 use Rattle.audit_run.specs.declared.save.reading.SaveRefusal.TheVariants.{Form, OtherRecipe, State, OutOfMemory}
 use Rattle.audit_run.specs.Save.Saves.{IsResumedAs, save_of}
 use Rattle.audit_run.proofs.SaveLemmas.Answered.{answered}
 use Rattle.audit_run.proofs.SaveLemmas.Exactly.{is_only}
 use Rattle.audit_run.proofs.SaveLemmas.SaveLengths.{short}
-use Rattle.wheeler.specs.Bench.{bench}
-use Rattle.wheeler.specs.Positions.{Position, Standing, On, beginning, forward, forward_from, position}
-use Rattle.wheeler.specs.Valid.{IsInputs, IsPosition, IsStanding}
-use Rattle.wheeler.proofs.Forwards.{forward_from-sum}
-use Rattle.wheeler.proofs.Places.{beginning-standing, from-standing}
-use Rattle.wheeler.proofs.Rules.{rules}
+use Rattle.audit_rules.specs.Bench.{bench}
+use Rattle.audit_rules.specs.Positions.{Position, Standing, On, beginning, forward, forward_from, position}
+use Rattle.audit_rules.specs.Valid.{IsInputs, IsPosition, IsStanding}
+use Rattle.audit_rules.proofs.Forwards.{forward_from-sum}
+use Rattle.audit_rules.proofs.Places.{beginning-standing, from-standing}
+use Rattle.audit_rules.proofs.Rules.{rules}
 use Rattle.command_plan.specs.declared.status.Status.TheVariants.{SaveRefused}
 use Rattle.command_plan.specs.Plan.{LoadsBytes, Plan, answers, needs, outcome, unless_refused}
 use Rattle.command_plan.specs.Words.{are_three_files, usage}
@@ -34,13 +34,13 @@ use Rattle.ddc_app.proofs.Pieces.{Settles, alike, piece_of, settles}
 
 -- ---- the save
 
-pub is_place : (said : Said) (inputs : List (List ℕ)) (count : ℕ) (p : Position) → IsRecipe said → IsInputs said inputs → position said inputs count ≡ On p → IsPosition said p
+pub is_place : (said : RecipeContents) (inputs : List (List ℕ)) (count : ℕ) (p : Position) → IsRecipe said → IsInputs said inputs → position said inputs count ≡ On p → IsPosition said p
 is_place said inputs count p is given stands =
     let kept = rules said is in
     subst (IsStanding said) stands (from-standing said kept inputs given (beginning said inputs) (beginning-standing said kept inputs given) count)
 
 -- the text of a position is read as it
-pub reads_again : (said : Said) (inputs : List (List ℕ)) (p : Position) → IsRecipe said → IsInputs said inputs → IsPosition said p
+pub reads_again : (said : RecipeContents) (inputs : List (List ℕ)) (p : Position) → IsRecipe said → IsInputs said inputs → IsPosition said p
     → read_as said inputs (text_of_save (save_of said inputs p)) ≡ Ok p
 unfolding read_as
 reads_again said inputs p is given place =
@@ -53,15 +53,15 @@ reads_again said inputs p is given place =
       by (Err OtherRecipe) same settled = absurd same
       by (Err State) same settled = absurd same
 
--- from the position behind so many steps the audit goes on to the one behind more
-pub goes_on : (said : Said) (inputs : List (List ℕ)) (count steps : ℕ) (p : Position) → position said inputs count ≡ On p
+-- from the position after so many steps the audit goes on to the one after more
+pub goes_on : (said : RecipeContents) (inputs : List (List ℕ)) (count steps : ℕ) (p : Position) → position said inputs count ≡ On p
     → forward said inputs p steps ≡ position said inputs (count + steps)
 goes_on said inputs count steps p stands =
     sym (ap (λ (o : Standing). forward_from said inputs o steps) stands) ∙ forward_from-sum said inputs (beginning said inputs) count steps (count + steps) refl
 
 -- ---- the words
 
-module _ (recipe save report : List ℕ) (files : NamedFiles) (three : IsTrue (are_three_files recipe save report)) (said : Said) (inputs : List (List ℕ))
+module _ (recipe save report : List ℕ) (files : NamedFiles) (three : IsTrue (are_three_files recipe save report)) (said : RecipeContents) (inputs : List (List ℕ))
     (h : Holds recipe said inputs files) (clash : Bool) (is : is_input said report ≡ clash) where
   -- both commands go on from the recipe, and end alike where the report is one of its inputs
   pub resume_opens : (steps : ℕ) → IsStepCount steps
@@ -82,7 +82,7 @@ module _ (recipe save report : List ℕ) (files : NamedFiles) (three : IsTrue (a
 
 -- ---- the piece
 
--- the save of the position behind so many steps leads on to the one behind more
+-- the save of the position after so many steps leads on to the one after more
 pub resumes_at : (recipe save report : List ℕ) (c : Case recipe save report) (files : NamedFiles) → IsInputs c.said c.inputs
     → Holds recipe c.said c.inputs files → (count : ℕ) (p : Position) → position c.said c.inputs count ≡ On p
     → finite.get files save ≡ Some (text_of_save (save_of c.said c.inputs p)) → (steps : ℕ) → IsStepCount steps

@@ -6,18 +6,18 @@ use Rattle.ddc_base.specs.declared.outside.Loaded.TheVariants.{Bytes}
 use Rattle.ddc_base.specs.Outside.{NamedFiles, loaded}
 use Rattle.recipe.specs.Kept.{IsRecipe}
 use Rattle.recipe.specs.Reading.{recipe_of}
-use Rattle.recipe.specs.declared.contents.Said.{Said}
+use Rattle.recipe.specs.declared.contents.RecipeContents.{RecipeContents}
 use Rattle.report.specs.declared.types.CompareLine.{CompareLine}
 use Rattle.report.specs.declared.types.Report.{Report}
 use Rattle.report.specs.Reading.{report_of}
-use Rattle.wheeler.specs.Bench.{all_equal}
-use Rattle.wheeler.specs.Valid.{IsInputs}
+use Rattle.audit_rules.specs.Bench.{all_equal}
+use Rattle.audit_rules.specs.Valid.{IsInputs}
 use Rattle.verifier.specs.declared.part.Part.{Part}
 use Rattle.verifier.specs.declared.part.Verdict.TheVariants as verdict
 use Rattle.verifier.specs.Faults.{first_fault}
 use Rattle.verifier.specs.Verdicts.{true_verdict}
-use Rattle.meaning.specs.Meaning.{Compiles, Prescribes}
-use Rattle.meaning.proofs.ComparedStages.{has-compared}
+use Rattle.wheeler.specs.Meaning.{Compiles, Prescribes}
+use Rattle.wheeler.proofs.ComparedStages.{has-compared}
 use Rattle.verifier.specs.Conclusion.Verdicts.{Shows}
 use Rattle.command_plan.specs.declared.status.Status.{Status}
 use Rattle.command_plan.specs.declared.status.Status.TheVariants as status
@@ -39,7 +39,7 @@ use Rattle.ddc_app.proofs.Walks.{IsRefusal, both_need, both_need_apart, both_nee
 -- ---- a replay that comes to a comparison
 
 pub record Replayed (recipe report : List ℕ) (files : NamedFiles) (answer : Outcome) : Type 0 where
-  pub said : Said
+  pub said : RecipeContents
   pub inputs : List (List ℕ)
   pub holds : Holds recipe said inputs files
   pub apart : is_input said report ≡ false
@@ -57,7 +57,7 @@ module _ (recipe report : List ℕ) (files : NamedFiles) where
   refused : (status : Status) (text : List ℕ) → IsRefusal status → Goes (told files status text) (told files status text)
   refused status text refusal compared = let both : false ≡ true = sym refusal.1 ∙ compared in absurd cc
 
-  module _ (bytes : List ℕ) (said : Said) (held : loaded files recipe 1_048_576 ≡ Bytes bytes) (reads : recipe_of bytes ≡ Ok said) (apart : is_input said report ≡ false)
+  module _ (bytes : List ℕ) (said : RecipeContents) (held : loaded files recipe 1_048_576 ≡ Bytes bytes) (reads : recipe_of bytes ≡ Ok said) (apart : is_input said report ≡ false)
       (text : List ℕ) (text_held : loaded files report 1_073_741_824 ≡ Bytes text) where
     by_fault : (made : Report) → report_of text ≡ Ok made → (inputs : List (List ℕ)) → AreHeld 268_435_456 1_073_741_824 files (paths said) inputs
         → (fault : Option (Part × ℕ)) → first_fault said inputs made ≡ fault
@@ -76,7 +76,7 @@ module _ (recipe report : List ℕ) (files : NamedFiles) where
     }
     by_fault made text_reads inputs inputs_held (Some (part, place)) none compared = absurd cc
 
-  by_recipe : (bytes : List ℕ) (said : Said) → loaded files recipe 1_048_576 ≡ Bytes bytes → recipe_of bytes ≡ Ok said
+  by_recipe : (bytes : List ℕ) (said : RecipeContents) → loaded files recipe 1_048_576 ≡ Bytes bytes → recipe_of bytes ≡ Ok said
       → Goes (outcome (needs_apart said report (λ _. needs_report report (λ made. needs_inputs said (λ inputs. verified said inputs made)))) files)
       (outcome (needs_apart said report (λ _. needs_report report (λ made. needs_inputs said (λ inputs. verified said inputs made)))) files)
   by_recipe bytes said held reads =
@@ -95,7 +95,7 @@ module _ (recipe report : List ℕ) (files : NamedFiles) where
   unfolding verify_files
   replayed false compared = absurd cc
   replayed true compared =
-      let next : Said → Plan = λ said. needs_apart said report (λ _. needs_report report (λ made. needs_inputs said (λ inputs. verified said inputs made))) in
+      let next : RecipeContents → Plan = λ said. needs_apart said report (λ _. needs_report report (λ made. needs_inputs said (λ inputs. verified said inputs made))) in
       both_need_recipe Goes files refused recipe next next by_recipe compared
 
   -- the inputs are bytes where the plan's loads found bytes
@@ -107,7 +107,7 @@ module _ (recipe report : List ℕ) (files : NamedFiles) where
       let last : Report → List (List ℕ) → Plan = λ made inputs. verified r.said inputs made in
       let loads : Report → Plan = λ made. needs_inputs r.said (last made) in
       let refuse : ℕ → Plan = λ number. answers status.ReportRefused (report_line number) in
-      let next : Said → Plan = λ said. needs_apart said report (λ _. needs_report report (λ made. needs_inputs said (λ inputs. verified said inputs made))) in
+      let next : RecipeContents → Plan = λ said. needs_apart said report (λ _. needs_report report (λ made. needs_inputs said (λ inputs. verified said inputs made))) in
       let reported : LoadsBytes (needs_report report loads) files =
       apart_loads r.said report (λ _. needs_report report loads) files r.apart (recipe_loads recipe r.said r.inputs files r.holds next bytes) in
       let made = (loads_bytes report 1_073_741_824 (λ text. unless_refused (report_of text) refuse loads) files r.text r.text_held reported).1 in
@@ -123,7 +123,7 @@ all-held room files (name ∷ names) (content ∷ contents) held =
     ((within _ (finite.get files name) content held.0).0, all-held (room - length content) files names contents held.1)
 
 module _ (prescribes : Prescribes) (compiles : Compiles) where
-  by-status : (said : Said) (inputs : List (List ℕ)) (lines : List CompareLine) → Shows prescribes compiles said inputs lines (true_verdict lines)
+  by-status : (said : RecipeContents) (inputs : List (List ℕ)) (lines : List CompareLine) → Shows prescribes compiles said inputs lines (true_verdict lines)
       → ShownBy prescribes compiles said inputs lines (compared_status lines)
   by-status said inputs lines = by (all_equal lines) where
     by : (b : Bool) → Shows prescribes compiles said inputs lines (cond b verdict.Yes verdict.TrueButDiffers)
@@ -132,7 +132,7 @@ module _ (prescribes : Prescribes) (compiles : Compiles) where
     by false shown = shown
 
   abbrev pub Shown : Type 0
-  Shown = (said : Said) (inputs : List (List ℕ)) (made : Report) → IsRecipe said → IsInputs said inputs → first_fault said inputs made ≡ None
+  Shown = (said : RecipeContents) (inputs : List (List ℕ)) (made : Report) → IsRecipe said → IsInputs said inputs → first_fault said inputs made ≡ None
       → Shows prescribes compiles said inputs made.compare (true_verdict made.compare)
 
   pub verifies : Shown → (recipe report : List ℕ) (files : NamedFiles) → LoadsBytes (plan_of (codes "verify" ∷ recipe ∷ report ∷ [])) files

@@ -4,7 +4,7 @@ use Rattle.ddc_base.specs.declared.outside.Loaded.{Loaded}
 use Rattle.ddc_base.specs.declared.outside.Loaded.TheVariants.{Bytes, Absent, TooLong}
 use Rattle.ddc_base.specs.Outside.{NamedFiles, loaded}
 use Rattle.recipe.specs.Reading.{recipe_of}
-use Rattle.recipe.specs.declared.contents.Said.{Said}
+use Rattle.recipe.specs.declared.contents.RecipeContents.{RecipeContents}
 use Rattle.command_plan.specs.declared.status.Status.{Status}
 use Rattle.command_plan.specs.declared.status.Status.TheVariants.{FileRefused, RecipeRefused, Usage}
 use Rattle.command_plan.specs.Plan.{Plan, Outcome, answers, follow, needs, needs_all, outcome, unless_refused}
@@ -52,15 +52,15 @@ module _ (Both : Outcome → Outcome → Type 0) (files : NamedFiles)
   both_read (Ok value) status text first second refusal both = both value refl
   both_read (Err e) status text first second refusal both = refused status (text e) refusal
 
-  pub both_need_recipe : (recipe : List ℕ) (first second : Said → Plan)
-      → ((bytes : List ℕ) (said : Said) → loaded files recipe 1_048_576 ≡ Bytes bytes → recipe_of bytes ≡ Ok said → Both (outcome (first said) files) (outcome (second said) files))
+  pub both_need_recipe : (recipe : List ℕ) (first second : RecipeContents → Plan)
+      → ((bytes : List ℕ) (said : RecipeContents) → loaded files recipe 1_048_576 ≡ Bytes bytes → recipe_of bytes ≡ Ok said → Both (outcome (first said) files) (outcome (second said) files))
       → Both (outcome (needs_recipe recipe first) files) (outcome (needs_recipe recipe second) files)
   both_need_recipe recipe first second both =
       both_need recipe 1_048_576 (λ bytes. unless_refused (recipe_of bytes) (λ e. answers RecipeRefused (recipe_line e)) first)
       (λ bytes. unless_refused (recipe_of bytes) (λ e. answers RecipeRefused (recipe_line e)) second)
       (λ bytes held. both_read (recipe_of bytes) RecipeRefused recipe_line first second (refl, refl) (λ said reads. both bytes said held reads))
 
-  pub both_need_apart : (said : Said) (file : List ℕ) (first second : Unit {0} → Plan)
+  pub both_need_apart : (said : RecipeContents) (file : List ℕ) (first second : Unit {0} → Plan)
       → (is_input said file ≡ false → Both (outcome (first tt) files) (outcome (second tt) files))
       → Both (outcome (needs_apart said file first) files) (outcome (needs_apart said file second) files)
   unfolding needs_apart
@@ -69,7 +69,7 @@ module _ (Both : Outcome → Outcome → Type 0) (files : NamedFiles)
     by true is = refused Usage usage_line (refl, refl)
     by false is = both is
 
-  pub both_need_inputs : (said : Said) (first second : List (List ℕ) → Plan)
+  pub both_need_inputs : (said : RecipeContents) (first second : List (List ℕ) → Plan)
       → ((inputs : List (List ℕ)) → AreHeld 268_435_456 1_073_741_824 files (paths said) inputs → Both (outcome (first inputs) files) (outcome (second inputs) files))
       → Both (outcome (needs_inputs said first) files) (outcome (needs_inputs said second) files)
   both_need_inputs said first second both = both_need_all 268_435_456 1_073_741_824 (paths said) first second both

@@ -9,7 +9,7 @@ use Rattle.command_plan.specs.Lists.{list_of}
 use Rattle.command_plan.specs.Words.{is_file_word}
 use Rattle.recipe_plan.specs.Recipes.{paths}
 use Rattle.verify_commands.specs.declared.pair.Pair.{Pair}
-use Rattle.verify_commands.specs.Chain.{pair_of, room_behind}
+use Rattle.verify_commands.specs.Chain.{pair_of, room_after}
 use Rattle.ddc_app.specs.Accepting.{verify}
 use Rattle.ddc_app.specs.Holding.{AreHeld}
 
@@ -28,7 +28,7 @@ pub record HoldsInputs (room : ℕ) (files : NamedFiles) (pair : Pair) (link : L
 abbrev pub AllHoldInputs : ℕ → NamedFiles → List Pair → List Link → Type 0
 AllHoldInputs room files [] [] = Unit {0}
 AllHoldInputs room files (pair ∷ pairs) (link ∷ links) =
-    HoldsInputs room files pair link × AllHoldInputs (room_behind room link.inputs) files pairs links
+    HoldsInputs room files pair link × AllHoldInputs (room_after room link.inputs) files pairs links
 AllHoldInputs room files _ _ = ⊥
 
 -- a word for a list; the files hold it, it reads and has a line; they hold the inputs of all lines, of at most 1,073,741,824 bytes together; and

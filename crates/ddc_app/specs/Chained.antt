@@ -7,10 +7,10 @@ use Rattle.recipe.specs.Kept.{IsRecipe}
 use Rattle.recipe.specs.Reading.{recipe_of}
 use Rattle.report.specs.declared.types.Report.{Report}
 use Rattle.report.specs.Reading.{report_of}
-use Rattle.wheeler.specs.Bench.{all_equal}
-use Rattle.wheeler.specs.Valid.{IsInputs}
+use Rattle.audit_rules.specs.Bench.{all_equal}
+use Rattle.audit_rules.specs.Valid.{IsInputs}
 use Rattle.verifier.specs.Faults.{first_fault}
-use Rattle.meaning.specs.Meaning.{Compiles, Prescribes}
+use Rattle.wheeler.specs.Meaning.{Compiles, Prescribes}
 use Rattle.audit_chain.specs.declared.link.Link.{Link}
 use Rattle.audit_chain.specs.Composed.{EachConcludes, RemainingHold}
 use Rattle.command_plan.specs.Lists.{list_of}

@@ -1,11 +1,11 @@
--- An audit in pieces behind one whole save, of which only what differs from that save is kept: what `delta-start` and `delta-resume` come to over
+-- An audit in pieces after one whole save, of which only what differs from that save is kept: what `delta-start` and `delta-resume` come to over
 -- files, beside what the undivided `audit` comes to. docs/reference/command-line.md says the same for people.
 use Rattle.std.specs.Prelude.{◌≡◌, ◌≢◌, ℕ, ◌⊎◌, IsTrue, List, [], ◌∷◌, Some, codes, decimal, sum, if◌then◌else◌}
 use Rattle.std.specs.FinMap as map
 use Rattle.ddc_base.specs.Outside.{NamedFiles}
 use Rattle.audit_run.specs.Delta.Deltas.{delta_text_of}
-use Rattle.wheeler.specs.Positions as positions
-use Rattle.wheeler.specs.Positions.{Position, On}
+use Rattle.audit_rules.specs.Positions as positions
+use Rattle.audit_rules.specs.Positions.{Position, On}
 use Rattle.command_plan.specs.declared.status.Status.TheVariants.{Paused}
 use Rattle.command_plan.specs.Plan.{Outcome, outcome}
 use Rattle.command_plan.specs.Words.{are_two_files}
@@ -31,8 +31,8 @@ pub record AreDeltaWords (recipe base patch report : List ℕ) (files : NamedFil
   pub with_patch : AreWords recipe patch report files
   pub apart : IsTrue (are_two_files base patch)
 
--- the files hold what `IsSavedAt` says of the base, and as the patch the delta of the position behind so many steps against that of the base
-pub record IsSavedBeside (recipe base patch : List ℕ) (files : NamedFiles) (first count : ℕ) : Type 0 where
+-- the files hold what `IsSavedAt` says of the base, and as the patch the delta of the position after so many steps against that of the base
+pub record IsSavedRelative (recipe base patch : List ℕ) (files : NamedFiles) (first count : ℕ) : Type 0 where
   pub whole : IsSavedAt recipe base files first
   pub position : Position
   pub stands : positions.position whole.said whole.inputs count ≡ On position
@@ -40,10 +40,10 @@ pub record IsSavedBeside (recipe base patch : List ℕ) (files : NamedFiles) (fi
 
 -- ---- what the pieces come to
 
--- a piece of the audit over files pauses behind so many steps in all, or comes to the same as the undivided audit
+-- a piece of the audit over files pauses after so many steps in all, or comes to the same as the undivided audit
 abbrev pub DeltaPieces : List ℕ → List ℕ → List ℕ → List ℕ → NamedFiles → ℕ → ℕ → Outcome → Type 0
 DeltaPieces recipe base patch report files first count piece =
-    ((piece.status ≡ Paused) × IsSavedBeside recipe base patch piece.files first count) ⊎ AreSame report piece (audit recipe report files)
+    ((piece.status ≡ Paused) × IsSavedRelative recipe base patch piece.files first count) ⊎ AreSame report piece (audit recipe report files)
 
 -- one `delta-resume` after the other, as long as the audit pauses, each over the files that the command before it left
 abbrev pub differing_in_turn : List ℕ → List ℕ → List ℕ → List ℕ → Outcome → List ℕ → Outcome
@@ -51,22 +51,22 @@ differing_in_turn recipe base patch report piece [] = piece
 differing_in_turn recipe base patch report piece (steps ∷ counts) =
     if is_paused piece.status then differing_in_turn recipe base patch report (delta_resume recipe base patch report steps piece.files) counts else piece
 
--- behind a whole save `delta-start`, and then `delta-resume`
-abbrev pub behind_save : List ℕ → List ℕ → List ℕ → List ℕ → Outcome → List ℕ → Outcome
-behind_save recipe base patch report piece [] = piece
-behind_save recipe base patch report piece (steps ∷ counts) =
+-- after a whole save `delta-start`, and then `delta-resume`
+abbrev pub after_save : List ℕ → List ℕ → List ℕ → List ℕ → Outcome → List ℕ → Outcome
+after_save recipe base patch report piece [] = piece
+after_save recipe base patch report piece (steps ∷ counts) =
     if is_paused piece.status then differing_in_turn recipe base patch report (delta_start recipe base patch report steps piece.files) counts else piece
 
 -- an audit by differences: `part`, whose save is the base, then `delta-start`, and then `delta-resume`
 abbrev pub in_differences : List ℕ → List ℕ → List ℕ → List ℕ → ℕ → List ℕ → NamedFiles → Outcome
-in_differences recipe base patch report steps counts files = behind_save recipe base patch report (part recipe base report steps files) counts
+in_differences recipe base patch report steps counts files = after_save recipe base patch report (part recipe base report steps files) counts
 
--- what such an audit has kept: behind its first piece the whole save, and behind further ones that save and a delta
+-- what such an audit has kept: after its first piece the whole save, and after further ones that save and a delta
 abbrev pub AreKept : List ℕ → List ℕ → List ℕ → NamedFiles → ℕ → List ℕ → Type 0
 AreKept recipe base patch files first [] = IsSavedAt recipe base files first
-AreKept recipe base patch files first (steps ∷ counts) = IsSavedBeside recipe base patch files first (sum (first ∷ steps ∷ counts))
+AreKept recipe base patch files first (steps ∷ counts) = IsSavedRelative recipe base patch files first (sum (first ∷ steps ∷ counts))
 
--- it pauses behind all its steps, or comes to the same as the undivided audit
+-- it pauses after all its steps, or comes to the same as the undivided audit
 abbrev pub Differences : List ℕ → List ℕ → List ℕ → List ℕ → NamedFiles → ℕ → List ℕ → Outcome → Type 0
 Differences recipe base patch report files first counts piece =
     ((piece.status ≡ Paused) × AreKept recipe base patch piece.files first counts) ⊎ AreSame report piece (audit recipe report files)

@@ -2,7 +2,7 @@
 use Rattle.std.specs.Prelude.{◌≡◌, ℕ, IsTrue, false, Ok, List}
 use Rattle.ddc_base.specs.declared.outside.Loaded.TheVariants.{Bytes}
 use Rattle.ddc_base.specs.Outside.{NamedFiles, loaded}
-use Rattle.recipe.specs.declared.contents.Said.{Said}
+use Rattle.recipe.specs.declared.contents.RecipeContents.{RecipeContents}
 use Rattle.recipe.specs.Reading.{recipe_of}
 use Rattle.report.specs.declared.types.Report.{Report}
 use Rattle.report.specs.Reading.{report_of}
@@ -12,7 +12,7 @@ use Rattle.ddc_app.specs.Holding.{AreHeld}
 
 -- two words for two files. The files hold a recipe that reads, of which the report is no input, a report that reads, and the contents of the
 -- recipe's inputs, within their limits; this is what they say
-pub record HoldsReport (recipe report : List ℕ) (files : NamedFiles) (said : Said) (inputs : List (List ℕ)) (made : Report) : Type 0 where
+pub record HoldsReport (recipe report : List ℕ) (files : NamedFiles) (said : RecipeContents) (inputs : List (List ℕ)) (made : Report) : Type 0 where
   pub two : IsTrue (are_two_files recipe report)
   pub recipe_bytes : List ℕ
   pub recipe_held : loaded files recipe 1_048_576 ≡ Bytes recipe_bytes

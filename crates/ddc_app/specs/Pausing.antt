@@ -5,11 +5,11 @@ use Rattle.std.specs.FinMap as map
 use Rattle.ddc_base.specs.declared.outside.Loaded.TheVariants.{Bytes}
 use Rattle.ddc_base.specs.Outside.{NamedFiles, loaded}
 use Rattle.recipe.specs.Reading.{recipe_of}
-use Rattle.recipe.specs.declared.contents.Said.{Said}
-use Rattle.save_text.specs.Spelled.{text_of_save}
+use Rattle.recipe.specs.declared.contents.RecipeContents.{RecipeContents}
+use Rattle.save_format.specs.Spelled.{text_of_save}
 use Rattle.audit_run.specs.Save.Saves.{save_of}
-use Rattle.wheeler.specs.Positions as positions
-use Rattle.wheeler.specs.Positions.{Position, On}
+use Rattle.audit_rules.specs.Positions as positions
+use Rattle.audit_rules.specs.Positions.{Position, On}
 use Rattle.command_plan.specs.declared.status.Status.{Status}
 use Rattle.command_plan.specs.declared.status.Status.TheVariants.{Paused}
 use Rattle.command_plan.specs.Words.{are_three_files}
@@ -35,13 +35,13 @@ IsStepCount steps = (1 ≤ steps) × (steps ≤ 2 ^ 48)
 -- words that are no usage: they can name three files, and the save is no input of a recipe that the files hold
 pub record AreWords (recipe save report : List ℕ) (files : NamedFiles) : Type 0 where
   pub three : IsTrue (are_three_files recipe save report)
-  pub apart : (bytes : List ℕ) (said : Said) → loaded files recipe 1_048_576 ≡ Bytes bytes → recipe_of bytes ≡ Ok said → is_input said save ≡ false
+  pub apart : (bytes : List ℕ) (said : RecipeContents) → loaded files recipe 1_048_576 ≡ Bytes bytes → recipe_of bytes ≡ Ok said → is_input said save ≡ false
 
--- the files hold a recipe that reads, its inputs within their limits, and the save of the position behind so many steps of their audit
+-- the files hold a recipe that reads, its inputs within their limits, and the save of the position after so many steps of their audit
 pub record IsSavedAt (recipe save : List ℕ) (files : NamedFiles) (count : ℕ) : Type 0 where
   pub bytes : List ℕ
   pub recipe_held : loaded files recipe 1_048_576 ≡ Bytes bytes
-  pub said : Said
+  pub said : RecipeContents
   pub recipe_reads : recipe_of bytes ≡ Ok said
   pub inputs : List (List ℕ)
   pub inputs_held : AreHeld 268_435_456 1_073_741_824 files (paths said) inputs
@@ -57,7 +57,7 @@ pub record AreSame (report : List ℕ) (first second : Outcome) : Type 0 where
   pub text : first.text ≡ second.text
   pub held : map.get first.files report ≡ map.get second.files report
 
--- a piece of the audit over files pauses behind so many steps in all, or comes to the same as the undivided audit
+-- a piece of the audit over files pauses after so many steps in all, or comes to the same as the undivided audit
 abbrev pub Pieces : List ℕ → List ℕ → List ℕ → NamedFiles → ℕ → Outcome → Type 0
 Pieces recipe save report files count piece =
     ((piece.status ≡ Paused) × IsSavedAt recipe save piece.files count) ⊎ AreSame report piece (audit recipe report files)

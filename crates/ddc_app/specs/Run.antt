@@ -13,16 +13,16 @@ abbrev pub plan_for : List (Bor (List ℕ)) → Plan
 plan_for words = plan_of (map (λ word. word.now) words)
 
 -- what they come to over what a shelf holds, which is settled where it tells or nothing is asked of it
-abbrev pub due : List (Bor (List ℕ)) → ShelfState → Outcome
-due words shelf = outcome (plan_for words) shelf.files
+abbrev pub expected : List (Bor (List ℕ)) → ShelfState → Outcome
+expected words shelf = outcome (plan_for words) shelf.files
 
-abbrev pub IsDue : List (Bor (List ℕ)) → ShelfState → Type 0
-IsDue words shelf = IsSettled (plan_for words) shelf.tells
+abbrev pub IsExpected : List (Bor (List ℕ)) → ShelfState → Type 0
+IsExpected words shelf = IsSettled (plan_for words) shelf.tells
 
 -- one text is all that these words say: they are of another command than `step`, or of a `step` that comes to no session
 abbrev pub IsOneText : List (Bor (List ℕ)) → ShelfState → Type 0
 IsOneText words shelf =
-    IsFalse (is_step (map (λ word. word.now) words)) ⊎ (IsDue words shelf × (talk_of (plan_for words) shelf.files ≡ None))
+    IsFalse (is_step (map (λ word. word.now) words)) ⊎ (IsExpected words shelf × (talk_of (plan_for words) shelf.files ≡ None))
 
 -- a sink took exactly one piece, whole
 abbrev pub TakesOne : SinkState → SinkState → Type 0

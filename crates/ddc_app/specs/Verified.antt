@@ -3,17 +3,17 @@ use Rattle.std.specs.Prelude.{◌≡◌, ℕ, None, Some, Ok, List, All}
 use Rattle.std.specs.List.{AllZip}
 use Rattle.std.specs.FinMap as map
 use Rattle.ddc_base.specs.Outside.{NamedFiles}
-use Rattle.recipe.specs.declared.contents.Said.{Said}
+use Rattle.recipe.specs.declared.contents.RecipeContents.{RecipeContents}
 use Rattle.recipe.specs.Kept.{IsRecipe}
 use Rattle.recipe.specs.Reading.{recipe_of}
 use Rattle.report.specs.declared.types.CompareLine.{CompareLine}
 use Rattle.report.specs.declared.types.Report.{Report}
 use Rattle.report.specs.Reading.{report_of}
-use Rattle.wheeler.specs.Valid.{IsInputs}
+use Rattle.audit_rules.specs.Valid.{IsInputs}
 use Rattle.verifier.specs.Faults.{first_fault}
-use Rattle.meaning.specs.Concludes.{Concludes, ConcludesYes}
-use Rattle.meaning.specs.Follows.{HasCompared}
-use Rattle.meaning.specs.Meaning.{Compiles, Prescribes}
+use Rattle.wheeler.specs.Concludes.{Concludes, ConcludesYes}
+use Rattle.wheeler.specs.Follows.{HasCompared}
+use Rattle.wheeler.specs.Meaning.{Compiles, Prescribes}
 use Rattle.command_plan.specs.declared.status.Status.{Status}
 use Rattle.command_plan.specs.declared.status.Status.TheVariants.{Yes, Differs}
 use Rattle.command_plan.specs.Plan.{Outcome}
@@ -22,7 +22,7 @@ use Rattle.recipe_plan.specs.Reports.{compared_status}
 use Rattle.verify_commands.specs.Texts.{true_text}
 
 -- what a status shows of a recipe and its inputs, by a report with these compare lines
-abbrev pub ShownBy : Prescribes → Compiles → Said → List (List ℕ) → List CompareLine → Status → Type 0
+abbrev pub ShownBy : Prescribes → Compiles → RecipeContents → List (List ℕ) → List CompareLine → Status → Type 0
 ShownBy prescribes compiles said inputs lines Yes = ConcludesYes prescribes compiles said inputs
 ShownBy prescribes compiles said inputs lines Differs = Concludes prescribes compiles said inputs lines
 ShownBy prescribes compiles said inputs lines _ = Unit {0}
@@ -33,7 +33,7 @@ ShownBy prescribes compiles said inputs lines _ = Unit {0}
 pub record Verified (prescribes : Prescribes) (compiles : Compiles) (recipe report : List ℕ) (files : NamedFiles) (answer : Outcome) : Type 0 where
   pub recipe_bytes : List ℕ
   pub recipe_held : map.get files recipe ≡ Some recipe_bytes
-  pub said : Said
+  pub said : RecipeContents
   pub recipe_reads : recipe_of recipe_bytes ≡ Ok said
   pub rules : IsRecipe said
   pub compared : All (HasCompared said) said.compare.stages

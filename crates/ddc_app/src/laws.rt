@@ -6,7 +6,7 @@ ghost use Rattle.ddc_app.specs.Accepting.{audit, is_compared, verify};
 ghost use Rattle.ddc_app.specs.ChainJudged.{AllVerified};
 ghost use Rattle.ddc_app.specs.Chained.{Chained, chain};
 ghost use Rattle.ddc_app.specs.Commands.{plan_of};
-ghost use Rattle.ddc_app.specs.Differences.{AreDeltaWords, DeltaPieces, Differences, IsSavedBeside, LeavesAllBut, delta_resume, delta_start, in_differences};
+ghost use Rattle.ddc_app.specs.Differences.{AreDeltaWords, DeltaPieces, Differences, IsSavedRelative, LeavesAllBut, delta_resume, delta_start, in_differences};
 ghost use Rattle.ddc_app.specs.Judged.{HoldsReport};
 ghost use Rattle.ddc_app.specs.Pausing.{AreWords, IsStepCount, LeavesOthers, LeavesUnwritten, Pieces, IsSavedAt, in_pieces, part, resume};
 ghost use Rattle.ddc_app.specs.Scripted.{ChangesReportAlone, HoldsScript, IsScriptTrue, ScriptReported, ScriptVerified, kaem, kaem_ended, kaem_verify};
@@ -17,10 +17,10 @@ ghost use Rattle.ddc_base.specs.Outside.{NamedFiles};
 ghost use Rattle.ddc_base.specs.Lines.{line};
 ghost use Rattle.kaem_script.specs.FilesListed.{FilesListed};
 ghost use Rattle.kaem_script.specs.Fold.{folded};
-ghost use Rattle.kaem_script.specs.Script.{Said};
-ghost use Rattle.recipe.specs.declared.contents.Said.{Said as Recipe};
+ghost use Rattle.kaem_script.specs.Script.{RecipeContents};
+ghost use Rattle.recipe.specs.declared.contents.RecipeContents.{RecipeContents as Recipe};
 ghost use Rattle.report.specs.Lines.{line_words};
-ghost use Rattle.report.specs.declared.line.Line.TheVariants.{Left, Stream1, Stream2};
+ghost use Rattle.report.specs.declared.line.ReportLine.TheVariants.{Left, Stream1, Stream2};
 ghost use Rattle.report.specs.declared.types.Report.{Report};
 ghost use Rattle.std.specs.FinMap as map;
 ghost use Rattle.std.specs.Prelude.{◌≡◌, ◌+◌, ◌↔◌, [], ◌∷◌, All, IsTrue, List, None, Some, codes, decimal, false, length, sum, true, ℕ};
@@ -30,10 +30,10 @@ ghost use Rattle.report.specs.Marks.{mark_of};
 ghost use Rattle.verifier.specs.Faults.{first_fault};
 ghost use Rattle.verifier.specs.declared.part.Part.{Part};
 ghost use Rattle.verify_commands.specs.ChainTexts.{chain_text};
-ghost use Rattle.wheeler.specs.Bench.{all_equal};
+ghost use Rattle.audit_rules.specs.Bench.{all_equal};
 
 use audit_chain::laws::composed;
-use meaning::Meaning;
+use wheeler::Meaning;
 use verifier::conclusion::laws::a_true_report_shows;
 
 /// An audit's own report is accepted: where `audit RECIPE REPORT` over files, of which those that it loads are found to be bytes, comes to 0 or 3,
@@ -87,15 +87,15 @@ pub fn chains_verified()
     ensures text { (list : List ℕ) (files : NamedFiles) (all : AllVerified list files) → (chain list files).text ≡ chain_text all.links }
 {}
 
-/// A piece of an audit: `part` by some steps over files pauses behind as many and leaves the save of that position, or it comes to the same
+/// A piece of an audit: `part` by some steps over files pauses after as many and leaves the save of that position, or it comes to the same
 /// as `audit`.
 pub fn parts()
     ensures { (recipe save report : List ℕ) (steps : ℕ) (files : NamedFiles) → AreWords recipe save report files → IsStepCount steps
         → Pieces recipe save report files steps (part recipe save report steps files) }
 {}
 
-/// A further piece: over files that hold the save of the position behind `count` steps, and of which those that `audit` loads are bytes, `resume` by
-/// some steps pauses behind as many more, or it comes to the same as `audit` over these files.
+/// A further piece: over files that hold the save of the position after `count` steps, and of which those that `audit` loads are bytes, `resume` by
+/// some steps pauses after as many more, or it comes to the same as `audit` over these files.
 pub fn resumes()
     ensures { (recipe save report : List ℕ) (count steps : ℕ) (files : NamedFiles) → AreWords recipe save report files → IsStepCount steps
         → LoadsBytes (plan_of (codes "audit" ∷ recipe ∷ report ∷ [])) files
@@ -121,7 +121,7 @@ pub fn unwritten_stays()
         → map.get (in_pieces recipe save report steps counts files).files report ≡ map.get files report }
 {}
 
-/// An audit in any pieces, whose first one finds bytes in what it loads, comes to the same as the undivided audit, or pauses behind all the steps that
+/// An audit in any pieces, whose first one finds bytes in what it loads, comes to the same as the undivided audit, or pauses after all the steps that
 /// were asked for. Its report is accepted: where it comes to 0 or 3, so does `verify` over the files afterwards.
 pub fn pauses()
     ensures same { (recipe save report : List ℕ) (steps : ℕ) (counts : List ℕ) (files : NamedFiles) → AreWords recipe save report files
@@ -134,19 +134,19 @@ pub fn pauses()
         ≡ (in_pieces recipe save report steps counts files).status }
 {}
 
-/// A piece behind a whole save: over files whose BASE holds the save of the position behind `first` steps, and of which those that `audit` loads are
-/// bytes, `delta-start` by some steps pauses behind as many more and leaves their delta against that save, or it comes to the same as `audit` over these files.
+/// A piece after a whole save: over files whose BASE holds the save of the position after `first` steps, and of which those that `audit` loads are
+/// bytes, `delta-start` by some steps pauses after as many more and leaves their delta against that save, or it comes to the same as `audit` over these files.
 pub fn delta_starts()
     ensures { (recipe base patch report : List ℕ) (first steps : ℕ) (files : NamedFiles) → AreDeltaWords recipe base patch report files
         → IsStepCount steps → LoadsBytes (plan_of (codes "audit" ∷ recipe ∷ report ∷ [])) files → IsSavedAt recipe base files first
         → DeltaPieces recipe base patch report files first (first + steps) (delta_start recipe base patch report steps files) }
 {}
 
-/// A further piece: over such files whose BASE holds such a save, and PATCH the delta of the position behind `count` steps against it,
-/// `delta-resume` by some steps pauses behind as many more and leaves their delta, or it comes to the same as `audit` over these files.
+/// A further piece: over such files whose BASE holds such a save, and PATCH the delta of the position after `count` steps against it,
+/// `delta-resume` by some steps pauses after as many more and leaves their delta, or it comes to the same as `audit` over these files.
 pub fn delta_resumes()
     ensures { (recipe base patch report : List ℕ) (first count steps : ℕ) (files : NamedFiles) → AreDeltaWords recipe base patch report files
-        → IsStepCount steps → LoadsBytes (plan_of (codes "audit" ∷ recipe ∷ report ∷ [])) files → IsSavedBeside recipe base patch files first count
+        → IsStepCount steps → LoadsBytes (plan_of (codes "audit" ∷ recipe ∷ report ∷ [])) files → IsSavedRelative recipe base patch files first count
         → DeltaPieces recipe base patch report files first (count + steps) (delta_resume recipe base patch report steps files) }
 {}
 
@@ -170,7 +170,7 @@ pub fn deltas_leave_unwritten()
         → LeavesUnwritten patch report files (delta_resume recipe base patch report steps files) }
 {}
 
-/// An audit by differences in any pieces, whose first one finds bytes in what it loads, comes to the same as the undivided audit, or pauses behind all
+/// An audit by differences in any pieces, whose first one finds bytes in what it loads, comes to the same as the undivided audit, or pauses after all
 /// the steps that were asked for. Its report is accepted: where it comes to 0 or 3, so does `verify` over the files afterwards.
 pub fn differences()
     ensures same { (recipe base patch report : List ℕ) (steps : ℕ) (counts : List ℕ) (files : NamedFiles)
@@ -188,7 +188,7 @@ pub fn differences()
 /// `kaem` ends exactly as the fold of its script's commands over the listed files does, each command within STEPS: where all ran, their report is
 /// held, and where one stopped the script, nothing is changed.
 pub fn scripts_fold()
-    ensures { (script list report : List ℕ) (steps : ℕ) (files : NamedFiles) (said : Said) (listed : FilesListed)
+    ensures { (script list report : List ℕ) (steps : ℕ) (files : NamedFiles) (said : RecipeContents) (listed : FilesListed)
         → HoldsScript script list report files said listed → IsStepCount steps
         → kaem script list report steps files ≡ kaem_ended report files said listed (folded steps listed.world said.commands) }
 {}
@@ -196,11 +196,11 @@ pub fn scripts_fold()
 /// `kaem-verify` over files that hold a script, and of which those that `kaem` loads are bytes, says yes exactly where what is held as the report is the
 /// text of what the script's commands come to, and its yes says how many they are.
 pub fn scripts_verified()
-    ensures yes { (script list report : List ℕ) (steps : ℕ) (files : NamedFiles) (said : Said) (listed : FilesListed)
+    ensures yes { (script list report : List ℕ) (steps : ℕ) (files : NamedFiles) (said : RecipeContents) (listed : FilesListed)
         → HoldsScript script list report files said listed → IsStepCount steps
         → LoadsBytes (plan_of (codes "kaem" ∷ script ∷ list ∷ report ∷ decimal steps ∷ [])) files
         → ((kaem_verify script list report files).status ≡ Yes) ↔ IsScriptTrue report files said listed }
-    ensures text { (script list report : List ℕ) (files : NamedFiles) (said : Said) (listed : FilesListed)
+    ensures text { (script list report : List ℕ) (files : NamedFiles) (said : RecipeContents) (listed : FilesListed)
         → HoldsScript script list report files said listed → (kaem_verify script list report files).status ≡ Yes
         → (kaem_verify script list report files).text ≡ commands_true_line (length said.commands) }
 {}
@@ -220,7 +220,7 @@ pub fn scripts_accepted()
     ensures yes { (script list report : List ℕ) (steps : ℕ) (files : NamedFiles)
         → LoadsBytes (plan_of (codes "kaem" ∷ script ∷ list ∷ report ∷ decimal steps ∷ [])) files → (kaem script list report steps files).status ≡ Yes
         → (kaem_verify script list report (kaem script list report steps files).files).status ≡ Yes }
-    ensures text { (script list report : List ℕ) (steps : ℕ) (files : NamedFiles) (said : Said) (listed : FilesListed)
+    ensures text { (script list report : List ℕ) (steps : ℕ) (files : NamedFiles) (said : RecipeContents) (listed : FilesListed)
         → HoldsScript script list report files said listed → LoadsBytes (plan_of (codes "kaem" ∷ script ∷ list ∷ report ∷ decimal steps ∷ [])) files
         → (kaem script list report steps files).status ≡ Yes
         → (kaem_verify script list report (kaem script list report steps files).files).text ≡ commands_true_line (length said.commands) }

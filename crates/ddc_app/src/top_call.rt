@@ -12,14 +12,14 @@ ghost use Rattle.ddc_app.specs.Commands.{is_step, text_plan};
 ghost use Rattle.ddc_app.specs.Chained.{Chained};
 ghost use Rattle.ddc_app.specs.Scripted.{ScriptReported, ScriptVerified, kaem_verify};
 ghost use Rattle.ddc_app.specs.Verified.{Verified};
-ghost use Rattle.ddc_app.specs.Run.{plan_for, due, IsDue, IsOneText, LosesText, NamesFault, TakesOne};
+ghost use Rattle.ddc_app.specs.Run.{plan_for, expected, IsExpected, IsOneText, LosesText, NamesFault, TakesOne};
 ghost use Rattle.ddc_app.specs.Inside.Concluding.{Closes, Leaves, PutEnds, SaysEnding, unless_lost};
 
 use crate::laws::{chained, verified};
 use audit_commands::{audit, delta_resume, delta_start, demo, part, resume, show};
 use command_plan::{Answer, Status, Stop, usage};
 use ddc_base::{PutFail, Shelf, Sink};
-use meaning::Meaning;
+use wheeler::Meaning;
 use prompt::Prompt;
 use stage_commands::{cut, ends, left, segment, step};
 use std::alloc::Global;
@@ -45,16 +45,16 @@ pub fn run<M: Meaning, S: Shelf, K: Sink, P: Prompt>(
     prompt: &mut P,
 ) -> Status
     // An answer is the plan's outcome, given after exactly the plan's calls, none of which failed, and in one piece where it is a text.
-    ensures status { IsDue words.now (S.state shelf.old) → IsTrue (is_answer result)
-        → result ≡ (due words.now (S.state shelf.old)).status }
-    ensures text { IsOneText words.now (S.state shelf.old) → IsDue words.now (S.state shelf.old) → IsTrue (is_answer result)
-        → K.state out.new ≡ after_piece (due words.now (S.state shelf.old)).text (K.state out.old) }
+    ensures status { IsExpected words.now (S.state shelf.old) → IsTrue (is_answer result)
+        → result ≡ (expected words.now (S.state shelf.old)).status }
+    ensures text { IsOneText words.now (S.state shelf.old) → IsExpected words.now (S.state shelf.old) → IsTrue (is_answer result)
+        → K.state out.new ≡ after_piece (expected words.now (S.state shelf.old)).text (K.state out.old) }
     ensures calls { IsTrue (is_answer result)
         → Completes (plan_for words.now) (S.state shelf.old) (S.state shelf.new) }
     ensures one_put { IsOneText words.now (S.state shelf.old) → IsTrue (is_answer result) → TakesOne (K.state out.old) (K.state out.new) }
 
     // A session that is answered was held to its end: each reply in a piece of its own, in order, and the lines taken.
-    ensures session { IsDue words.now (S.state shelf.old) → (talk : List ℕ → Talk)
+    ensures session { IsExpected words.now (S.state shelf.old) → (talk : List ℕ → Talk)
         → talk_of (plan_for words.now) (S.state shelf.old).files ≡ Some talk → IsTrue (is_answer result)
         → SaysAll talk (K.state out.old) (K.state out.new) (P.state prompt.old) (P.state prompt.new) }
     ensures replies { IsTrue (is_answer result)
@@ -68,14 +68,14 @@ pub fn run<M: Meaning, S: Shelf, K: Sink, P: Prompt>(
     ensures out_fault { IsOneText words.now (S.state shelf.old) → result ≡ Status.OutFault
         → LosesText (plan_for words.now) (S.state shelf.old) (S.state shelf.new) (K.state out.old) (K.state out.new) }
 
-    // In a session the sink failed in a reply behind whole ones, or the prompt behind whole replies, and nothing more was put.
+    // In a session the sink failed in a reply after whole ones, or the prompt after whole replies, and nothing more was put.
     ensures talk_fault { result ≡ Status.OutFault
         → (LosesText (plan_for words.now) (S.state shelf.old) (S.state shelf.new) (K.state out.old) (K.state out.new)
         × (P.state prompt.new ≡ P.state prompt.old))
         ⊎ HoldsTalk (plan_for words.now) (S.state shelf.old) (S.state shelf.new) (K.state out.old) (K.state out.new)
         (P.state prompt.old) (P.state prompt.new) (Err putting.Failed) }
 
-    // Want of memory says nothing, or nothing behind the whole replies of a session, and comes after a front part of the plan's calls.
+    // Want of memory says nothing, or nothing after the whole replies of a session, and comes after a front part of the plan's calls.
     ensures silent { IsOneText words.now (S.state shelf.old) → result ≡ Status.OutOfMemory → K.state out.new ≡ K.state out.old }
     ensures talk_want { result ≡ Status.OutOfMemory
         → ((K.state out.new ≡ K.state out.old) × (P.state prompt.new ≡ P.state prompt.old))
@@ -85,32 +85,32 @@ pub fn run<M: Meaning, S: Shelf, K: Sink, P: Prompt>(
         → WantsMemory (plan_for words.now) (S.state shelf.old) (S.state shelf.new) }
 
     // What an answer of `verify` shows, whatever sources mean.
-    ensures shown { IsDue words.now (S.state shelf.old) → (recipe report : List ℕ)
+    ensures shown { IsExpected words.now (S.state shelf.old) → (recipe report : List ℕ)
         → map (λ word. word.now) words.now ≡ codes "verify" ∷ recipe ∷ report ∷ [] → IsTrue (is_compared result)
-        → Verified M.prescribes M.compiles recipe report (S.state shelf.old).files (due words.now (S.state shelf.old)) }
+        → Verified M.prescribes M.compiles recipe report (S.state shelf.old).files (expected words.now (S.state shelf.old)) }
 
     // What `audit` accepts, `verify` accepts: a 0 or a 3 is what it comes to over the files that are left.
-    ensures accepted { IsDue words.now (S.state shelf.old) → (recipe report : List ℕ)
+    ensures accepted { IsExpected words.now (S.state shelf.old) → (recipe report : List ℕ)
         → map (λ word. word.now) words.now ≡ codes "audit" ∷ recipe ∷ report ∷ [] → IsTrue (is_compared result)
-        → (verify recipe report (due words.now (S.state shelf.old)).files).status ≡ result }
+        → (verify recipe report (expected words.now (S.state shelf.old)).files).status ≡ result }
 
     // What a yes of `chain` shows.
-    ensures chained { IsDue words.now (S.state shelf.old) → (list : List ℕ) → map (λ word. word.now) words.now ≡ codes "chain" ∷ list ∷ []
+    ensures chained { IsExpected words.now (S.state shelf.old) → (list : List ℕ) → map (λ word. word.now) words.now ≡ codes "chain" ∷ list ∷ []
         → result ≡ Status.Yes
-        → Chained M.prescribes M.compiles list (S.state shelf.old).files (due words.now (S.state shelf.old)) }
+        → Chained M.prescribes M.compiles list (S.state shelf.old).files (expected words.now (S.state shelf.old)) }
 
     // What a yes of `kaem` and of `kaem-verify` shows.
-    ensures reported { IsDue words.now (S.state shelf.old) → (script list report steps : List ℕ)
+    ensures reported { IsExpected words.now (S.state shelf.old) → (script list report steps : List ℕ)
         → map (λ word. word.now) words.now ≡ codes "kaem" ∷ script ∷ list ∷ report ∷ steps ∷ [] → result ≡ Status.Yes
-        → ScriptReported script list report steps (S.state shelf.old).files (due words.now (S.state shelf.old)) }
-    ensures replayed { IsDue words.now (S.state shelf.old) → (script list report : List ℕ)
+        → ScriptReported script list report steps (S.state shelf.old).files (expected words.now (S.state shelf.old)) }
+    ensures replayed { IsExpected words.now (S.state shelf.old) → (script list report : List ℕ)
         → map (λ word. word.now) words.now ≡ codes "kaem-verify" ∷ script ∷ list ∷ report ∷ [] → result ≡ Status.Yes
-        → ScriptVerified script list report (S.state shelf.old).files (due words.now (S.state shelf.old)) }
+        → ScriptVerified script list report (S.state shelf.old).files (expected words.now (S.state shelf.old)) }
 
     // And what `kaem` accepts, `kaem-verify` accepts.
-    ensures replays { IsDue words.now (S.state shelf.old) → (script list report steps : List ℕ)
+    ensures replays { IsExpected words.now (S.state shelf.old) → (script list report steps : List ℕ)
         → map (λ word. word.now) words.now ≡ codes "kaem" ∷ script ∷ list ∷ report ∷ steps ∷ [] → result ≡ Status.Yes
-        → (kaem_verify script list report (due words.now (S.state shelf.old)).files).status ≡ Status.Yes }
+        → (kaem_verify script list report (expected words.now (S.state shelf.old)).files).status ≡ Status.Yes }
 
     // The prompt is asked in a session alone.
     ensures prompt_stays { IsOneText words.now (S.state shelf.old) ⊎ (result ≡ Status.ShelfFault)
@@ -148,7 +148,7 @@ fn act<M: Meaning, S: Shelf, K: Sink, P: Prompt>(
     }
 }
 
-/// The words behind `step`, where it is the first.
+/// The words after `step`, where it is the first.
 fn after_step<'a, 'w>(words: &'a [&'w str]) -> Option<&'a [&'w str]>
     ensures { MatchOption result (IsFalse (is_step (map (λ word. word.now) words.now)))
         (λ rest. IsTrue (is_step (map (λ word. word.now) words.now))

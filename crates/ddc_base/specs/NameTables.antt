@@ -8,6 +8,6 @@ use Rattle.std.specs.declared.hash.DefaultHasher.{DefaultHasher}
 abbrev pub framed : List ℕ → List ℕ
 framed name = if nat_lt (length name) 255 then length name ∷ name else 255 ∷ to_le_bytes w64 (length name) ++ name
 
--- SipHash with both keys 0, behind these bytes
+-- SipHash with both keys 0, after these bytes
 abbrev pub begun_with : List ℕ → DefaultHasher
 begun_with bytes = sip.write sip.initial bytes

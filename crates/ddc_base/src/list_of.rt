@@ -50,7 +50,7 @@ impl<T> ListOf<T> {
         self.items.get(index)
     }
 
-    /// All values, lent.
+    /// All values, borrowed.
     pub fn as_slice(&self) -> &[T]
         ensures { result.now ≡ self.now }
     {

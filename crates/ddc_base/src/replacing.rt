@@ -34,26 +34,26 @@ fn look_at<R: Files>(rt: &R, path: &str) -> io::Result<Standing> {
     }
 }
 
-/// A path with `.ddc-` and a number behind it, which is in most cases 0.
-fn path_beside(path: &str, number: u32) -> io::Result<ArrayString<270>> {
+/// A path with `.ddc-` and a number after it, which is in most cases 0.
+fn path_relative(path: &str, number: u32) -> io::Result<ArrayString<270>> {
     let mut digits = Buffer::new();
-    let mut beside = ArrayString::new();
-    let fits = beside.try_push_str(path).is_ok()
-        && beside.try_push_str(".ddc-").is_ok()
-        && beside.try_push_str(digits.format(number)).is_ok();
+    let mut relative = ArrayString::new();
+    let fits = relative.try_push_str(path).is_ok()
+        && relative.try_push_str(".ddc-").is_ok()
+        && relative.try_push_str(digits.format(number)).is_ok();
     if fits {
-        Ok(beside)
+        Ok(relative)
     } else {
         Err(io::Error::from(ErrorKind::InvalidFilename))
     }
 }
 
 /// Makes a file beside the one of a path, under the first name that was not there, which is given back with it.
-fn make_beside<R: Files>(rt: &R, path: &str) -> io::Result<(ArrayString<270>, R::File)> {
+fn make_relative<R: Files>(rt: &R, path: &str) -> io::Result<(ArrayString<270>, R::File)> {
     for number in 0..=u32::MAX {
-        let beside = path_beside(path, number)?;
-        match File::create_new(rt, beside.as_str()) {
-            Ok(file) => return Ok((beside, file)),
+        let relative = path_relative(path, number)?;
+        match File::create_new(rt, relative.as_str()) {
+            Ok(file) => return Ok((relative, file)),
             Err(error) if error.kind() == ErrorKind::AlreadyExists => {}
             Err(error) => return Err(error),
         }
@@ -87,13 +87,13 @@ fn replace_file<R: Files>(
 ) -> io::Result<()>
     ensures { OnOk result (TakesAll R.File.contents content.now) }
 {
-    let (beside, file) = make_beside(rt, path)?;
+    let (relative, file) = make_relative(rt, path)?;
     let filled = fill(file, permissions, content);
-    match filled.and_then(|()| fs::rename(rt, beside.as_str(), path)) {
+    match filled.and_then(|()| fs::rename(rt, relative.as_str(), path)) {
         Ok(()) => Ok(()),
         Err(error) => {
             // The first error is told, whether the file beside can be removed or not.
-            fs::remove_file(rt, beside.as_str()).ok();
+            fs::remove_file(rt, relative.as_str()).ok();
             Err(error)
         }
     }

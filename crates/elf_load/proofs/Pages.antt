@@ -28,11 +28,11 @@ unfolding page_end
 page_end_low segment low = page_up_low (segment_end segment) low
 
 -- the cases of a segment that is out of range
-pub out_by_size : (size : ℕ) (segment : Segment) → segment.in_memory < segment.in_file → is_out_of_range size segment ≡ true
+pub out_by_size : (size : ℕ) (segment : Segment) → segment.memory_size < segment.file_size → is_out_of_range size segment ≡ true
 unfolding is_out_of_range
 out_by_size size segment h = grind (arith, nat_tests)
 
-pub out_by_file : (size : ℕ) (segment : Segment) → size < segment.offset + segment.in_file → is_out_of_range size segment ≡ true
+pub out_by_file : (size : ℕ) (segment : Segment) → size < segment.offset + segment.file_size → is_out_of_range size segment ≡ true
 unfolding is_out_of_range
 out_by_file size segment h = grind (arith, nat_tests)
 
@@ -42,23 +42,23 @@ out_by_memory size segment h =
     let high : 2 ^ 37 < page_up (segment_end segment) = page_up_high (segment_end segment) h in
     grind (arith, nat_tests)
 
-pub in_range : (size : ℕ) (segment : Segment) → segment.in_file ≤ segment.in_memory
-    → segment.offset + segment.in_file ≤ size → segment_end segment ≤ 2 ^ 37 → is_out_of_range size segment ≡ false
+pub in_range : (size : ℕ) (segment : Segment) → segment.file_size ≤ segment.memory_size
+    → segment.offset + segment.file_size ≤ size → segment_end segment ≤ 2 ^ 37 → is_out_of_range size segment ≡ false
 unfolding is_out_of_range page_end
-in_range size segment in_file in_size low =
+in_range size segment file_size in_size low =
     let fits : page_up (segment_end segment) ≤ 2 ^ 37 = page_up_low (segment_end segment) low in
     grind (arith, nat_tests)
 
 -- what a segment in range is
 pub record InRange (size : ℕ) (segment : Segment) : Type 0 where
-  pub in_file : segment.in_file ≤ segment.in_memory
-  pub in_size : segment.offset + segment.in_file ≤ size
+  pub file_size : segment.file_size ≤ segment.memory_size
+  pub in_size : segment.offset + segment.file_size ≤ size
   pub low : page_end segment ≤ 2 ^ 37
 
 pub range_of : (size : ℕ) (segment : Segment) → is_out_of_range size segment ≡ false → InRange size segment
 unfolding is_out_of_range
 range_of size segment h = record {
-  in_file = grind (arith, nat_tests);
+  file_size = grind (arith, nat_tests);
   in_size = grind (arith, nat_tests);
   low = grind (arith, nat_tests);
 }

@@ -26,11 +26,11 @@ all_onto P x xs first others (suc k) d lt = others k d (omega arith)
 some_memory : (file : List ℕ) (header : ℕ) → is_load file header ≡ true → 0 < p_memsz file header
 some_memory file header is = grind (arith, nat_tests)
 
-takes_memory : (file : List ℕ) (offsets : List ℕ) → All (λ segment. 0 < segment.in_memory) (loads_among file offsets)
+takes_memory : (file : List ℕ) (offsets : List ℕ) → All (λ segment. 0 < segment.memory_size) (loads_among file offsets)
 unfolding loads_among
 takes_memory file [] k d lt = absurd (omega arith)
 takes_memory file (header ∷ rest) k d lt =
-    let P : Segment → Type 0 = λ segment. 0 < segment.in_memory in
+    let P : Segment → Type 0 = λ segment. 0 < segment.memory_size in
     let others : All P (loads_among file rest) = takes_memory file rest in
     let cases : (b : Bool) → is_load file header ≡ b → All P (loads_among file (header ∷ rest)) =
     λ b. elim b as (λ v. is_load file header ≡ v → All P (loads_among file (header ∷ rest))) [
@@ -147,7 +147,7 @@ sound file size table placing entry =
           let here = range_of size (get_or (segments_of file) k d) (none_at (is_out_of_range size) (segments_of file) ranged.0 k d lt) in
           record {
             is_there = takes_memory file _ k d lt;
-            in_file = here.in_file;
+            file_size = here.file_size;
             in_range = here.in_size;
             low = here.low;
           };

@@ -19,8 +19,8 @@ abbrev pub segment_at : List ℕ → ℕ → Segment
 segment_at file header = record {
   at = p_vaddr file header;
   offset = p_offset file header;
-  in_file = p_filesz file header;
-  in_memory = p_memsz file header;
+  file_size = p_filesz file header;
+  memory_size = p_memsz file header;
 }
 
 -- the segments that those of the program headers describe that take memory
@@ -37,11 +37,11 @@ page_down n = n / 4096 * 4096
 
 -- where a segment ends in memory
 abbrev pub segment_end : Segment → ℕ
-segment_end segment = segment.at + segment.in_memory
+segment_end segment = segment.address + segment.memory_size
 
 -- the segment's pages: from the page of its first byte to the end of the page of its last
 unfoldable pub first_page : Segment → ℕ
-first_page segment = page_down segment.at
+first_page segment = page_down segment.address
 
 unfoldable pub page_end : Segment → ℕ
 page_end segment = page_up (segment_end segment)
@@ -53,8 +53,8 @@ paged_size segment = page_end segment - first_page segment
 -- more bytes in the file than in memory, bytes past the end of a file of `size` bytes, or pages above 2^37
 unfoldable pub is_out_of_range : ℕ → Segment → Bool
 is_out_of_range size segment =
-    nat_lt segment.in_memory segment.in_file
-    || nat_lt size (segment.offset + segment.in_file)
+    nat_lt segment.memory_size segment.file_size
+    || nat_lt size (segment.offset + segment.file_size)
     || nat_lt (2 ^ 37) (page_end segment)
 
 -- two segments have a page in common
@@ -68,7 +68,7 @@ any_share (segment ∷ rest) = list_any (share_page segment) rest || any_share r
 
 -- the address is one of the segment's bytes in memory
 abbrev pub holds_address : ℕ → Segment → Bool
-holds_address address segment = nat_le segment.at address && nat_lt address (segment_end segment)
+holds_address address segment = nat_le segment.address address && nat_lt address (segment_end segment)
 
 -- where the last of the segments ends, whole pages: the first byte of the heap
 abbrev pub break_after : List Segment → ℕ
@@ -76,9 +76,9 @@ break_after segments = page_up (fold (λ most segment. max most (segment_end seg
 
 -- the segment's bytes stand in a file of `size` bytes, and its pages below 2^37
 pub record IsPlaced (size : ℕ) (segment : Segment) : Type 0 where
-  pub is_there : 0 < segment.in_memory
-  pub in_file : segment.in_file ≤ segment.in_memory
-  pub in_range : segment.offset + segment.in_file ≤ size
+  pub is_there : 0 < segment.memory_size
+  pub file_size : segment.file_size ≤ segment.memory_size
+  pub in_range : segment.offset + segment.file_size ≤ size
   pub low : page_end segment ≤ 2 ^ 37
 
 -- the pages of one lie below those of the other

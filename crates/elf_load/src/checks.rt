@@ -93,11 +93,11 @@ fn any_out_of_range(segments: &[Segment], size: u64) -> bool
 fn is_out_of_range(segment: &Segment, size: u64) -> bool
     ensures { result ≡ is_out_of_range size segment.now }
 {
-    segment.in_file > segment.in_memory
-        || segment.in_file > size
-        || segment.offset > size - segment.in_file
-        || segment.in_memory > HIGHEST
-        || segment.at > HIGHEST - segment.in_memory
+    segment.file_size > segment.memory_size
+        || segment.file_size > size
+        || segment.offset > size - segment.file_size
+        || segment.memory_size > HIGHEST
+        || segment.address > HIGHEST - segment.memory_size
 }
 
 /// The bytes of the segments' pages together.
@@ -156,7 +156,7 @@ fn shares_with_one(segment: &Segment, others: &[Segment]) -> bool
 fn first_page(segment: &Segment) -> u64
     ensures { result ≡ first_page segment.now }
 {
-    segment.at / PAGE * PAGE
+    segment.address / PAGE * PAGE
 }
 
 /// The address that follows the segment's last page.
@@ -165,7 +165,7 @@ fn page_end(segment: &Segment) -> u64
     requires { IsLow segment.now }
     ensures { result ≡ page_end segment.now }
 {
-    page_up(segment.at + segment.in_memory)
+    page_up(segment.address + segment.memory_size)
 }
 
 /// Refuses an entry that is no multiple of 4, or in no segment.
@@ -195,7 +195,7 @@ fn any_holds(segments: &[Segment], address: u64) -> bool
 fn holds_address(address: u64, segment: &Segment) -> bool
     ensures { result ≡ holds_address address segment.now }
 {
-    segment.at <= address && address - segment.at < segment.in_memory
+    segment.address <= address && address - segment.address < segment.memory_size
 }
 
 /// The end of the last segment, rounded up to whole pages.
@@ -205,7 +205,7 @@ pub(crate) fn break_after(segments: &[Segment]) -> u64
 {
     let mut end = 0;
     for segment in segments {
-        end = end.max(segment.at + segment.in_memory);
+        end = end.max(segment.address + segment.memory_size);
     }
     page_up(end)
 }

@@ -91,9 +91,9 @@ pub(crate) fn segment(file: &[u8], header: usize) -> Segment
 {
     Segment {
         offset: double_at(file, header + 8),
-        at: double_at(file, header + 16),
-        in_file: double_at(file, header + 32),
-        in_memory: memory_size(file, header),
+        address: double_at(file, header + 16),
+        file_size: double_at(file, header + 32),
+        memory_size: memory_size(file, header),
     }
 }
 

@@ -20,13 +20,13 @@ pub use refusal::ElfRefusal;
 #[derive(Clone, Copy, PartialEq, Eq, Default)]
 pub struct Segment {
     /// The address of its first byte (p_vaddr).
-    pub at: u64,
+    pub address: u64,
     /// The offset of its first byte in the file (p_offset).
     pub offset: u64,
     /// How many bytes the file holds (p_filesz); zeros follow them in memory.
-    pub in_file: u64,
+    pub file_size: u64,
     /// How many bytes it takes in memory (p_memsz).
-    pub in_memory: u64,
+    pub memory_size: u64,
 }
 
 /// What an accepted file asks for.

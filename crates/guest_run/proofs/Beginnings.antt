@@ -12,7 +12,7 @@ use Rattle.paged_mem.proofs.Mapped.{length-zeros}
 use Rattle.paged_mem.proofs.Maps.{each_by_maps, maps_by_each}
 use Rattle.paged_mem.proofs.Numbers.{length-bytes_of}
 use Rattle.linux_calls.specs.declared.Heap.{Heap}
-use Rattle.linux_calls.specs.HeapOf.{IsHeapOf, is_beside_heap}
+use Rattle.linux_calls.specs.HeapOf.{IsHeapOf, is_apart_from_heap}
 use Rattle.paged_mem.specs.Memory.{page_up}
 use Rattle.paged_mem.proofs.Wholes.{same_after_write}
 use Rattle.elf_load.specs.declared.Segment.{Segment}
@@ -21,9 +21,9 @@ use Rattle.elf_load.specs.Segments.{first_page, page_end, paged_size, IsPlaced}
 use Rattle.elf_load.specs.Image.{IsLoadable}
 use Rattle.guest_run.specs.Stack.{addresses, gap, ended_texts, stack_bytes, stack_end, stack_pointer, stack_size, start_size, texts_at, word_count, stack_words}
 use Rattle.guest_run.specs.Placed.{with_segments, with_stack}
-use Rattle.guest_run.specs.Valid.{Fits, pages_beside, pages_from}
+use Rattle.guest_run.specs.Valid.{Fits, pages_apart, pages_from}
 use Rattle.elf_load.proofs.Pages.{none_at}
-use Rattle.guest_run.proofs.Places.{first_page-is, IsBeside, maps-within, page_end-is, unmapped_beside}
+use Rattle.guest_run.proofs.Places.{first_page-is, IsApart, maps-within, page_end-is, unmapped_apart}
 
 -- the stack's bytes end at its end
 length-addresses : (at : ℕ) (texts : List (List ℕ)) → length (addresses at texts) ≡ length texts
@@ -169,8 +169,8 @@ count_of_some (segment ∷ rest) pages number count are =
     omega (arith, both, later, here, at, first, end, more)
 
 -- an address in no segment's pages
-beside_of : (segment : Segment) (page : ℕ) → is_of segment page ≡ false → IsBeside (4096 * page) segment
-beside_of segment page gone =
+apart_of : (segment : Segment) (page : ℕ) → is_of segment page ≡ false → IsApart (4096 * page) segment
+apart_of segment page gone =
     let first = first_page-is segment in
     let end = page_end-is segment in
     elim (cases_lt page (first_page segment / 4096)) [
@@ -184,32 +184,32 @@ beside_of segment page gone =
 segments_unmapped : (program : List ℕ) (segments : List Segment) (page : ℕ) → All (IsPlaced (length program)) segments
     → is_of_some segments page ≡ false → get (with_segments program segments) (4096 * page) ≡ None
 segments_unmapped program segments page placed gone =
-    unmapped_beside program segments (4096 * page) placed
-    (λ k d lt. beside_of (get_or segments k d) page (none_at (λ segment. is_of segment page) segments gone k d lt))
+    unmapped_apart program segments (4096 * page) placed
+    (λ k d lt. apart_of (get_or segments k d) page (none_at (λ segment. is_of segment page) segments gone k d lt))
 
 -- a page that is mapped is a segment's or the stack's
 either : (b c : Bool) → (b ≡ false → c ≡ true) → (b || c) ≡ true
 either true c h = refl
 either false c h = h refl
 
-not_mapped : (o : Option ℕ) (beside : Bool) → o ≡ None → (is_some o && beside) ≡ true → ⊥
-not_mapped None beside gone is = cc
-not_mapped (Some byte) beside gone is = cc
+not_mapped : (o : Option ℕ) (clear : Bool) → o ≡ None → (is_some o && clear) ≡ true → ⊥
+not_mapped None clear gone is = cc
+not_mapped (Some byte) clear gone is = cc
 
-mapped_page : (program : List ℕ) (segments : List Segment) (at : ℕ) (bytes : List ℕ) (page : ℕ) (beside : Bool)
+mapped_page : (program : List ℕ) (segments : List Segment) (at : ℕ) (bytes : List ℕ) (page : ℕ) (clear : Bool)
     → All (IsPlaced (length program)) segments → stack_end - stack_size ≤ at → at + length bytes ≡ stack_end
-    → (contains_key (with_stack (with_segments program segments) at bytes) (4096 * page) && beside) ≡ true
+    → (contains_key (with_stack (with_segments program segments) at bytes) (4096 * page) && clear) ≡ true
     → (is_of_some segments page || within 67106816 67108864 page) ≡ true
-mapped_page program segments at bytes page beside placed low ends is =
+mapped_page program segments at bytes page clear placed low ends is =
     either (is_of_some segments page) (within 67106816 67108864 page)
     (λ gone.
     let none = segments_unmapped program segments page placed gone in
     elim (cases_lt page 67106816) [
-      | inl below ↦ absurd (not_mapped (get (with_stack (with_segments program segments) at bytes) (4096 * page)) beside
+      | inl below ↦ absurd (not_mapped (get (with_stack (with_segments program segments) at bytes) (4096 * page)) clear
           (below_stack (with_segments program segments) at bytes (4096 * page) low (omega arith) ∙ none) is)
       | inr from ↦ elim (cases_lt page 67108864) [
         | inl lt ↦ grind (arith, nat_tests)
-        | inr above ↦ absurd (not_mapped (get (with_stack (with_segments program segments) at bytes) (4096 * page)) beside
+        | inr above ↦ absurd (not_mapped (get (with_stack (with_segments program segments) at bytes) (4096 * page)) clear
             (above_stack (with_segments program segments) at bytes (4096 * page) ends (omega arith) ∙ none) is)
       ]
     ])
@@ -217,12 +217,12 @@ mapped_page program segments at bytes page beside placed low ends is =
 few_from : (program : List ℕ) (segments : List Segment) (at : ℕ) (bytes : List ℕ) (heap' : Heap) (count : ℕ)
     → All (IsPlaced (length program)) segments → stack_end - stack_size ≤ at → at + length bytes ≡ stack_end
     → sum_by paged_size segments ≤ 268435456
-    → count_by (λ page. contains_key (with_stack (with_segments program segments) at bytes) (4096 * page) && is_beside_heap heap' (4096 * page)) (pages_from 0 count) ≤ 67584
+    → count_by (λ page. contains_key (with_stack (with_segments program segments) at bytes) (4096 * page) && is_apart_from_heap heap' (4096 * page)) (pages_from 0 count) ≤ 67584
 few_from program segments at bytes heap' count placed low ends together =
     let both = count_le
-    (λ page. contains_key (with_stack (with_segments program segments) at bytes) (4096 * page) && is_beside_heap heap' (4096 * page))
+    (λ page. contains_key (with_stack (with_segments program segments) at bytes) (4096 * page) && is_apart_from_heap heap' (4096 * page))
     (is_of_some segments) (within 67106816 67108864) (pages_from 0 count)
-    (λ page is. mapped_page program segments at bytes page (is_beside_heap heap' (4096 * page)) placed low ends is) in
+    (λ page is. mapped_page program segments at bytes page (is_apart_from_heap heap' (4096 * page)) placed low ends is) in
     let some = count_of_some segments (pages_from 0 count) 0 count refl in
     let stack = (count_within 67106816 67108864 0 count).0 in
     omega (arith, both, some, stack)
@@ -230,8 +230,8 @@ few_from program segments at bytes heap' count placed low ends together =
 few_pages : (program : List ℕ) (segments : List Segment) (at : ℕ) (bytes : List ℕ) (heap' : Heap)
     → All (IsPlaced (length program)) segments → stack_end - stack_size ≤ at → at + length bytes ≡ stack_end
     → sum_by paged_size segments ≤ 268435456
-    → pages_beside (with_stack (with_segments program segments) at bytes) heap' ≤ 67584
-unfolding pages_beside
+    → pages_apart (with_stack (with_segments program segments) at bytes) heap' ≤ 67584
+unfolding pages_apart
 few_pages program segments at bytes heap' placed low ends together =
     few_from program segments at bytes heap' (2 ^ 26) placed low ends together
 
@@ -253,7 +253,7 @@ heap_starts program image at bytes limit sound small low =
           (page_up image.first_break - image.first_break) (λ q from to. absurd (omega arith));
       free = λ q from to.
           below_stack (with_segments program image.segments.items) at bytes q low (omega arith)
-          ∙ unmapped_beside program image.segments.items q sound.placed
+          ∙ unmapped_apart program image.segments.items q sound.placed
           (λ k d lt. let above = sound.break_above k d lt in inr (omega arith));
     }
 

@@ -9,8 +9,8 @@ use Rattle.paged_mem.specs.Memory.{Memory, IsFree}
 use Rattle.paged_mem.specs.Ram.{IsRun, RunsFrom}
 use Rattle.paged_mem.proofs.Maps.{each_by_maps}
 use Rattle.linux_calls.specs.declared.Heap.{Heap}
-use Rattle.linux_calls.specs.HeapOf.{is_beside_heap}
-use Rattle.guest_run.specs.Valid.{pages_beside, pages_from}
+use Rattle.linux_calls.specs.HeapOf.{is_apart_from_heap}
+use Rattle.guest_run.specs.Valid.{pages_apart, pages_from}
 
 -- nothing is mapped from an address on, up to the first page that is found and not further
 pub free_before : (m : Memory) (at first pages count : ℕ) → at % 4096 ≡ 0 → IsRun m at first pages → at + count ≤ first → IsFree m at count
@@ -80,21 +80,21 @@ nothing n (suc count) = sum_by-cons (λ page. 0) n (pages_from (suc n) count) �
 
 module _ (m : Memory) (heap : Heap) where
   abbrev counted : ℕ → Bool
-  counted page = contains_key m (4096 * page) && is_beside_heap heap (4096 * page)
+  counted page = contains_key m (4096 * page) && is_apart_from_heap heap (4096 * page)
 
-  abbrev beside : ℕ → Bool
-  beside page = is_beside_heap heap (4096 * page)
+  abbrev clear : ℕ → Bool
+  clear page = is_apart_from_heap heap (4096 * page)
 
   unmapped : (page : ℕ) → get m (4096 * page) ≡ None → counted page ≡ false
-  unmapped page none = ap (λ o. is_some o && beside page) none
+  unmapped page none = ap (λ o. is_some o && clear page) none
 
-  mapped : (page : ℕ) → contains_key m (4096 * page) ≡ true → counted page ≡ beside page
-  mapped page is = ap (λ b. b && beside page) is
+  mapped : (page : ℕ) → contains_key m (4096 * page) ≡ true → counted page ≡ clear page
+  mapped page is = ap (λ b. b && clear page) is
 
-  -- a run that is found, behind what was counted
+  -- a run that is found, after what was counted
   pub run_counted : (page first pages : ℕ) → page ≤ 2 ^ 26 → IsRun m (4096 * page) first pages
-      → count_by (λ page. contains_key m (4096 * page) && is_beside_heap heap (4096 * page)) (pages_from 0 (first / 4096 + pages))
-      ≡ count_by (λ page. contains_key m (4096 * page) && is_beside_heap heap (4096 * page)) (pages_from 0 page) + count_by (λ page. is_beside_heap heap (4096 * page)) (pages_from (first / 4096) pages)
+      → count_by (λ page. contains_key m (4096 * page) && is_apart_from_heap heap (4096 * page)) (pages_from 0 (first / 4096 + pages))
+      ≡ count_by (λ page. contains_key m (4096 * page) && is_apart_from_heap heap (4096 * page)) (pages_from 0 page) + count_by (λ page. is_apart_from_heap heap (4096 * page)) (pages_from (first / 4096) pages)
   run_counted page first pages low run =
       let gap : ℕ = first / 4096 - page in
       let aligned : first % 4096 ≡ 0 = run.aligned in
@@ -103,17 +103,17 @@ module _ (m : Memory) (heap : Heap) where
       let again : count_by counted (pages_from (0 + page) (gap + pages)) ≡ count_by counted (pages_from (0 + page) gap) + count_by counted (pages_from (0 + page + gap) pages) = count_row counted (0 + page) gap pages in
       let none : count_by counted (pages_from (0 + page) gap) ≡ 0 =
       same_count counted (λ page. false) (0 + page) gap (λ k less. unmapped (0 + page + k) (run.before (4096 * (0 + page + k)) (omega arith) (omega arith))) ∙ nothing (0 + page) gap in
-      let all : count_by counted (pages_from (0 + page + gap) pages) ≡ count_by beside (pages_from (0 + page + gap) pages) =
-      same_count counted beside (0 + page + gap) pages (λ k less. mapped (0 + page + gap + k) (each_by_maps m first (4096 * pages) run.mapped (4096 * (0 + page + gap + k)) (omega arith) (omega arith))) in
-      let place : count_by beside (pages_from (0 + page + gap) pages) ≡ count_by beside (pages_from (first / 4096) pages) = ap (count_by beside) (same_row (0 + page + gap) (first / 4096) pages pages (omega arith) refl) in
+      let all : count_by counted (pages_from (0 + page + gap) pages) ≡ count_by clear (pages_from (0 + page + gap) pages) =
+      same_count counted clear (0 + page + gap) pages (λ k less. mapped (0 + page + gap + k) (each_by_maps m first (4096 * pages) run.mapped (4096 * (0 + page + gap + k)) (omega arith) (omega arith))) in
+      let place : count_by clear (pages_from (0 + page + gap) pages) ≡ count_by clear (pages_from (first / 4096) pages) = ap (count_by clear) (same_row (0 + page + gap) (first / 4096) pages pages (omega arith) refl) in
       ap (count_by counted) (same_row 0 0 (first / 4096 + pages) (page + (gap + pages)) refl (omega arith)) ∙ omega (arith, split, again, none, all, place)
 
   pub run_low : (page first pages : ℕ) → IsRun m (4096 * page) first pages → first / 4096 + pages ≤ 2 ^ 26
   run_low page first pages run = omega (arith, run.low)
 
   -- no run is left
-  pub none_counted : (page : ℕ) → page ≤ 2 ^ 26 → RunsFrom m (4096 * page) None → pages_beside m heap ≡ count_by (λ page. contains_key m (4096 * page) && is_beside_heap heap (4096 * page)) (pages_from 0 page)
-  unfolding pages_beside
+  pub none_counted : (page : ℕ) → page ≤ 2 ^ 26 → RunsFrom m (4096 * page) None → pages_apart m heap ≡ count_by (λ page. contains_key m (4096 * page) && is_apart_from_heap heap (4096 * page)) (pages_from 0 page)
+  unfolding pages_apart
   none_counted page low free =
       let left : ℕ = 2 ^ 26 - page in
       let split : count_by counted (pages_from 0 (page + left)) ≡ count_by counted (pages_from 0 page) + count_by counted (pages_from (0 + page) left) = count_row counted 0 page left in

@@ -20,7 +20,7 @@ use Rattle.mem_files.proofs.Directory.{from_sorted-put, len-from_sorted}
 use Rattle.mem_files.specs.Sound.{IsSound}
 use Rattle.mem_files.proofs.KeepingCalls.{stripped-is}
 use Rattle.mem_files.proofs.Rules.{first-sound, placed-sound}
-use Rattle.mem_files.specs.declared.slot.PlaceRefusal.TheVariants.{BadName, Twice, Full}
+use Rattle.mem_files.specs.declared.open_file.PlaceRefusal.TheVariants.{BadName, Twice, Full}
 use Rattle.mem_files.proofs.Totals.{total-insert}
 use Rattle.guest_run.specs.Setting.{file_size, FileMap, files_size, IsBoxFile}
 use Rattle.guest_run.specs.Inside.Given.{IsGiven}

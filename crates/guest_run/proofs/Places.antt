@@ -17,26 +17,26 @@ use Rattle.guest_run.specs.Stack.{stack_end, stack_size}
 use Rattle.guest_run.specs.Placed.{segment_bytes, with_segment, with_segments}
 
 -- where a segment's pages are, as numbers of pages
-pub first_page-is : (segment : Segment) → first_page segment ≡ segment.at / 4096 * 4096
+pub first_page-is : (segment : Segment) → first_page segment ≡ segment.address / 4096 * 4096
 unfolding first_page
 first_page-is segment = refl
 
-pub page_end-is : (segment : Segment) → page_end segment ≡ (segment.at + segment.in_memory + 4095) / 4096 * 4096
+pub page_end-is : (segment : Segment) → page_end segment ≡ (segment.address + segment.memory_size + 4095) / 4096 * 4096
 unfolding page_end
 page_end-is segment = refl
 
 pub pages-are : (segment : Segment)
-    → paged_size segment ≡ 4096 * ((segment.at + segment.in_memory + 4095) / 4096 - segment.at / 4096)
+    → paged_size segment ≡ 4096 * ((segment.address + segment.memory_size + 4095) / 4096 - segment.address / 4096)
 pages-are segment =
     let first = first_page-is segment in
     let end = page_end-is segment in
     omega arith
 
-pub length-segment_bytes : (program : List ℕ) (segment : Segment) → segment.offset + segment.in_file ≤ length program
-    → length (segment_bytes program segment) ≡ segment.in_file
+pub length-segment_bytes : (program : List ℕ) (segment : Segment) → segment.offset + segment.file_size ≤ length program
+    → length (segment_bytes program segment) ≡ segment.file_size
 length-segment_bytes program segment within =
     let dropped = length-drop segment.offset program in
-    let taken = length-take segment.in_file (drop segment.offset program) in
+    let taken = length-take segment.file_size (drop segment.offset program) in
     omega arith
 
 -- an address that is mapped by a write of bytes
@@ -57,44 +57,44 @@ maps-within m first count at len from to =
     (λ q low high. written m first (zeros count) q (omega arith) (omega arith))
 
 -- the pages of a segment hold its bytes
-pub segment_within : (segment : Segment) (len : ℕ) → len ≤ segment.in_memory
-    → (first_page segment ≤ segment.at) × (segment.at + len ≤ first_page segment + paged_size segment)
+pub segment_within : (segment : Segment) (len : ℕ) → len ≤ segment.memory_size
+    → (first_page segment ≤ segment.address) × (segment.address + len ≤ first_page segment + paged_size segment)
 segment_within segment len short =
     let first = first_page-is segment in
     let end = page_end-is segment in
     (omega arith, omega arith)
 
 -- an address in none of a segment's pages
-abbrev pub IsBeside : ℕ → Segment → Type 0
-IsBeside q segment = (q < first_page segment) ⊎ (page_end segment ≤ q)
+abbrev pub IsApart : ℕ → Segment → Type 0
+IsApart q segment = (q < first_page segment) ⊎ (page_end segment ≤ q)
 
-segment_beside : (program : List ℕ) (m : Memory) (segment : Segment) (q : ℕ) → IsPlaced (length program) segment → IsBeside q segment
+segment_apart : (program : List ℕ) (m : Memory) (segment : Segment) (q : ℕ) → IsPlaced (length program) segment → IsApart q segment
     → get (with_segment program m segment) q ≡ get m q
 unfolding with_segment
-segment_beside program m segment q placed beside =
+segment_apart program m segment q placed clear =
     let size = length-segment_bytes program segment placed.in_range in
     let pages = length-zeros (paged_size segment) in
-    let short = placed.in_file in
+    let short = placed.file_size in
     let first = first_page-is segment in
     let end = page_end-is segment in
-    outside (with_bytes m (first_page segment) (zeros (paged_size segment))) segment.at (segment_bytes program segment) q
-    (elim beside [ inl below ↦ inl (omega arith) | inr above ↦ inr (omega arith) ])
+    outside (with_bytes m (first_page segment) (zeros (paged_size segment))) segment.address (segment_bytes program segment) q
+    (elim clear [ inl below ↦ inl (omega arith) | inr above ↦ inr (omega arith) ])
     ∙ outside m (first_page segment) (zeros (paged_size segment)) q
-    (elim beside [ inl below ↦ inl below | inr above ↦ inr (omega arith) ])
+    (elim clear [ inl below ↦ inl below | inr above ↦ inr (omega arith) ])
 
 -- an address beside all segments is as before
-folded_beside : (program : List ℕ) (m : Memory) (segments : List Segment) (q : ℕ) → All (IsPlaced (length program)) segments
-    → All (IsBeside q) segments → get (fold (with_segment program) m segments) q ≡ get m q
-folded_beside program m [] q placed beside = refl
-folded_beside program m (segment ∷ rest) q placed beside =
-    folded_beside program (with_segment program m segment) rest q (λ k d lt. placed (suc k) d (omega arith)) (λ k d lt. beside (suc k) d (omega arith))
-    ∙ segment_beside program m segment q (placed 0 segment (omega arith)) (beside 0 segment (omega arith))
+folded_apart : (program : List ℕ) (m : Memory) (segments : List Segment) (q : ℕ) → All (IsPlaced (length program)) segments
+    → All (IsApart q) segments → get (fold (with_segment program) m segments) q ≡ get m q
+folded_apart program m [] q placed clear = refl
+folded_apart program m (segment ∷ rest) q placed clear =
+    folded_apart program (with_segment program m segment) rest q (λ k d lt. placed (suc k) d (omega arith)) (λ k d lt. clear (suc k) d (omega arith))
+    ∙ segment_apart program m segment q (placed 0 segment (omega arith)) (clear 0 segment (omega arith))
 
-pub unmapped_beside : (program : List ℕ) (segments : List Segment) (q : ℕ) → All (IsPlaced (length program)) segments
-    → All (IsBeside q) segments → get (with_segments program segments) q ≡ None
-unmapped_beside program segments q placed beside = folded_beside program empty segments q placed beside ∙ get-empty nat_cmp q
+pub unmapped_apart : (program : List ℕ) (segments : List Segment) (q : ℕ) → All (IsPlaced (length program)) segments
+    → All (IsApart q) segments → get (with_segments program segments) q ≡ None
+unmapped_apart program segments q placed clear = folded_apart program empty segments q placed clear ∙ get-empty nat_cmp q
 
-pub placed_low : (size : ℕ) (segment : Segment) → IsPlaced size segment → segment.at + segment.in_memory ≤ 2 ^ 37
+pub placed_low : (size : ℕ) (segment : Segment) → IsPlaced size segment → segment.address + segment.memory_size ≤ 2 ^ 37
 placed_low size segment placed = low_of segment placed.low
 
 -- two segments of a list are apart, so the pages of a later one are free
@@ -103,13 +103,13 @@ pub free_ahead : (program : List ℕ) (segments : List Segment) (i : ℕ) (d : S
     → IsFree (with_segments program (take i segments)) (first_page (get_or segments i d)) (paged_size (get_or segments i d))
 free_ahead program segments i d lt placed apart q from to =
     let below = first_below_end (get_or segments i d) in
-    unmapped_beside program (take i segments) q
+    unmapped_apart program (take i segments) q
     (All-take (IsPlaced (length program)) i segments placed)
     (λ k d' lt'.
     let len = length-take i segments in
     let at : get_or (take i segments) k d' ≡ get_or segments k d' = get_or-take i segments k d' (omega arith) in
     let same : get_or segments i d' ≡ get_or segments i d = get_or_default segments i d' d lt in
-    subst (IsBeside q) (sym at)
+    subst (IsApart q) (sym at)
     (elim (apart k i d' (omega arith) lt) [
       | inl before ↦ inr (let b : page_end (get_or segments k d') ≤ first_page (get_or segments i d) = subst (λ (s : Segment). page_end (get_or segments k d') ≤ first_page s) same before in omega arith)
       | inr after ↦ inl (let b : page_end (get_or segments i d) ≤ first_page (get_or segments k d') = subst (λ (s : Segment). page_end s ≤ first_page (get_or segments k d')) same after in omega arith)
@@ -119,5 +119,5 @@ free_ahead program segments i d lt placed apart q from to =
 pub stack_free : (program : List ℕ) (segments : List Segment) → All (IsPlaced (length program)) segments
     → IsFree (with_segments program segments) (stack_end - stack_size) stack_size
 stack_free program segments placed q from to =
-    unmapped_beside program segments q placed
+    unmapped_apart program segments q placed
     (λ k d lt. let low = (placed k d lt).low in inr (omega arith))

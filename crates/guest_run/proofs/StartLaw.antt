@@ -85,11 +85,11 @@ segment-whole program m segment are placed whole =
     let first = first_page-is segment in
     let end = page_end-is segment in
     let low = placed.low in
-    let few = placed.in_file in
-    let size : length (segment_bytes program segment) ≤ segment.in_file = omega (arith, length-take segment.in_file (drop segment.offset program)) in
-    paged-whole m (first_page segment) (paged_size segment) segment.at (segment_bytes program segment) whole
+    let few = placed.file_size in
+    let size : length (segment_bytes program segment) ≤ segment.file_size = omega (arith, length-take segment.file_size (drop segment.offset program)) in
+    paged-whole m (first_page segment) (paged_size segment) segment.address (segment_bytes program segment) whole
     (omega arith) (omega arith) (omega arith) (omega arith) (omega arith)
-    (All-take IsByte segment.in_file (drop segment.offset program) (All-drop IsByte segment.offset program are))
+    (All-take IsByte segment.file_size (drop segment.offset program) (All-drop IsByte segment.offset program are))
 
 segments-whole : (program : List ℕ) (segments : List Segment) (m : Memory) → AreBytes program → All (IsPlaced (length program)) segments → IsWhole m
     → IsWhole (fold (with_segment program) m segments)
@@ -109,7 +109,7 @@ memory-whole program segments args env are placed of_args of_env fits =
     (segments-whole program segments empty are placed empty-whole) refl refl (omega arith) low (omega arith) (stack-bytes args env of_args of_env)
 
 -- an address in a segment is low
-held_below : (entry : ℕ) (segment : Segment) → holds_address entry segment ≡ true → entry < segment.at + segment.in_memory
+held_below : (entry : ℕ) (segment : Segment) → holds_address entry segment ≡ true → entry < segment.address + segment.memory_size
 held_below entry segment held = grind (arith, nat_tests)
 
 entry_low : (size : ℕ) (segments : List Segment) (entry : ℕ) → All (IsPlaced size) segments → Any (λ segment. holds_address entry segment ≡ true) segments → entry < 2 ^ 64

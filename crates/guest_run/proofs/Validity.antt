@@ -8,7 +8,7 @@ use Rattle.paged_mem.proofs.Maps.{each_by_maps, maps_by_each}
 use Rattle.rv64_machine.specs.Hart.{Act, IsHart, act}
 use Rattle.rv64_machine.specs.Hart as hart
 use Rattle.linux_calls.specs.declared.Heap.{Heap}
-use Rattle.linux_calls.specs.HeapOf.{IsHeapOf, is_beside_heap}
+use Rattle.linux_calls.specs.HeapOf.{IsHeapOf, is_apart_from_heap}
 use Rattle.linux_calls.specs.Calls.{CallOutcome, CallState, answer_of, state}
 use Rattle.linux_calls.specs.Rules.{IsState, LeavesNumber, LeavesState}
 use Rattle.linux_calls.specs.Calls as call
@@ -17,7 +17,7 @@ use Rattle.linux_calls.proofs.StateLaw.{syscall-state}
 use Rattle.linux_calls.proofs.SmallAnswers.{syscall-small}
 use Rattle.guest_run.specs.Stack.{stack_end, stack_size}
 use Rattle.guest_run.specs.State.{GuestState}
-use Rattle.guest_run.specs.Valid.{Fits, IsValid, pages_beside, pages_from}
+use Rattle.guest_run.specs.Valid.{Fits, IsValid, pages_apart, pages_from}
 use Rattle.guest_run.specs.Run.{End, Exited, Trapped, UnknownCall, Next, Goes, Ends, after, step_of_act, step_of_call, next, outcome_of, call_number, call_arguments}
 use Rattle.rv64_machine.proofs.ActLemmas.{act-mapping}
 use Rattle.std.proofs.lemmas.Option.{same_Some}
@@ -27,16 +27,16 @@ use Rattle.rv64_machine.proofs.Keeping.{act-hart, answered-hart}
 use Rattle.rv64_machine.proofs.Numbers.{act-numbers, answered-numbers}
 
 -- heaps at one place with one limit have the same pages beside them
-same_beside : (one other : Heap) (q : ℕ) → other.first ≡ one.first → other.limit ≡ one.limit → is_beside_heap other q ≡ is_beside_heap one q
-same_beside one other q first limit = λ i. nat_lt q (first i) || nat_le (page_up (first i + limit i)) q
+same_apart : (one other : Heap) (q : ℕ) → other.first ≡ one.first → other.limit ≡ one.limit → is_apart_from_heap other q ≡ is_apart_from_heap one q
+same_apart one other q first limit = λ i. nat_lt q (first i) || nat_le (page_up (first i + limit i)) q
 
 -- what is mapped beside the heap is what counts
 same_pages : (m n : Memory) (one other : Heap) → other.first ≡ one.first → other.limit ≡ one.limit
-    → ((q : ℕ) → is_beside_heap one q ≡ true → contains_key n q ≡ contains_key m q) → pages_beside n other ≡ pages_beside m one
-unfolding pages_beside
+    → ((q : ℕ) → is_apart_from_heap one q ≡ true → contains_key n q ≡ contains_key m q) → pages_apart n other ≡ pages_apart m one
+unfolding pages_apart
 same_pages m n one other first limit same =
-    let each : (page : ℕ) → (contains_key n (4096 * page) && is_beside_heap other (4096 * page)) ≡ (contains_key m (4096 * page) && is_beside_heap one (4096 * page)) =
-    λ page. at (is_beside_heap one (4096 * page)) refl page in
+    let each : (page : ℕ) → (contains_key n (4096 * page) && is_apart_from_heap other (4096 * page)) ≡ (contains_key m (4096 * page) && is_apart_from_heap one (4096 * page)) =
+    λ page. at (is_apart_from_heap one (4096 * page)) refl page in
     λ i. count_by (λ page. each page i) (pages_from 0 (2 ^ 26))
   where
     both : (a b c : Bool) → (b ≡ true → a ≡ c) → (a && b) ≡ (c && b)
@@ -46,25 +46,25 @@ same_pages m n one other first limit same =
     both false false true eq = refl
     both false false false eq = refl
 
-    at : (b : Bool) → b ≡ b → (page : ℕ) → (contains_key n (4096 * page) && is_beside_heap other (4096 * page)) ≡ (contains_key m (4096 * page) && is_beside_heap one (4096 * page))
+    at : (b : Bool) → b ≡ b → (page : ℕ) → (contains_key n (4096 * page) && is_apart_from_heap other (4096 * page)) ≡ (contains_key m (4096 * page) && is_apart_from_heap one (4096 * page))
     at b e page =
-        ap (λ x. contains_key n (4096 * page) && x) (same_beside one other (4096 * page) first limit)
-        ∙ both (contains_key n (4096 * page)) (is_beside_heap one (4096 * page)) (contains_key m (4096 * page)) (same (4096 * page))
+        ap (λ x. contains_key n (4096 * page) && x) (same_apart one other (4096 * page) first limit)
+        ∙ both (contains_key n (4096 * page)) (is_apart_from_heap one (4096 * page)) (contains_key m (4096 * page)) (same (4096 * page))
 
 -- the stack lies beside the heap
-stack_beside : (m : Memory) (heap : Heap) (q : ℕ) → IsHeapOf m heap → stack_end - stack_size ≤ q → is_beside_heap heap q ≡ true
-stack_beside m heap q is from =
+stack_apart : (m : Memory) (heap : Heap) (q : ℕ) → IsHeapOf m heap → stack_end - stack_size ≤ q → is_apart_from_heap heap q ≡ true
+stack_apart m heap q is from =
     let low = is.low in
     let whole : page_up (heap.first + heap.limit) ≤ q = omega arith in
     grind (arith, nat_tests)
 
 -- a memory that is mapped alike beside its heap fits it too
 pub fits_too : (m n : Memory) (one other : Heap) → Fits m one → other.first ≡ one.first → other.limit ≡ one.limit → IsHeapOf n other
-    → ((q : ℕ) → is_beside_heap one q ≡ true → contains_key n q ≡ contains_key m q) → Fits n other
+    → ((q : ℕ) → is_apart_from_heap one q ≡ true → contains_key n q ≡ contains_key m q) → Fits n other
 fits_too m n one other fits first limit heap_of same = record {
   heap_of = heap_of;
   stack = maps_by_each n (stack_end - stack_size) stack_size
-      (λ q from to. same q (stack_beside m one q fits.heap_of from) ∙ each_by_maps m (stack_end - stack_size) stack_size fits.stack q from to);
+      (λ q from to. same q (stack_apart m one q fits.heap_of from) ∙ each_by_maps m (stack_end - stack_size) stack_size fits.stack q from to);
   few = let pages = same_pages m n one other first limit same in let few = fits.few in omega arith;
 }
 
@@ -88,7 +88,7 @@ valid_after_call guest (call.goes answer left) valid leaves number keeps =
     record {
       hart = answered-hart (record guest.hart { memory = left.memory }) (answer_of answer) moved;
       numbers = answered-numbers (record guest.hart { memory = left.memory }) (answer_of answer) number (record { registers = valid.numbers.registers; pc = valid.numbers.pc });
-      fits = fits_too guest.hart.memory left.memory guest.heap left.heap valid.fits keeps.first keeps.limit keeps.heap_of keeps.beside;
+      fits = fits_too guest.hart.memory left.memory guest.heap left.heap valid.fits keeps.first keeps.limit keeps.heap_of keeps.clear;
       files = leaves.files;
     }
 valid_after_call guest (call.exits status) valid leaves number keeps = number

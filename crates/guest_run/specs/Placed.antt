@@ -10,12 +10,12 @@ use Rattle.guest_run.specs.Stack.{stack_end, stack_size}
 
 -- the segment's bytes in the file
 abbrev pub segment_bytes : List ℕ → Segment → List ℕ
-segment_bytes program segment = take segment.in_file (drop segment.offset program)
+segment_bytes program segment = take segment.file_size (drop segment.offset program)
 
 -- a memory with a segment's pages, which hold the segment's bytes in the file and zeros else
 unfoldable pub with_segment : List ℕ → Memory → Segment → Memory
 with_segment program memory segment =
-    with_bytes (with_bytes memory (first_page segment) (zeros (paged_size segment))) segment.at (segment_bytes program segment)
+    with_bytes (with_bytes memory (first_page segment) (zeros (paged_size segment))) segment.address (segment_bytes program segment)
 
 -- the memory of the segments alone
 abbrev pub with_segments : List ℕ → List Segment → Memory

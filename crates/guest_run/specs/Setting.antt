@@ -3,8 +3,8 @@
 use Rattle.std.specs.Prelude.{◌≡◌, ℕ, ◌^◌, ◌≤◌, ◌==◌, Bool, ◌||◌, nat_le, nat_lt, not, if◌then◌else◌, IsTrue, Option, Some, None, List, length, All, Result, Ok, Err, sum_by}
 use Rattle.std.specs.List.{list_any}
 use Rattle.std.specs.FinMap as map
-use Rattle.mem_files.specs.declared.slot.PlaceRefusal.{PlaceRefusal}
-use Rattle.mem_files.specs.declared.slot.PlaceRefusal.TheVariants.{BadName, Twice, Full, OutOfMemory}
+use Rattle.mem_files.specs.declared.open_file.PlaceRefusal.{PlaceRefusal}
+use Rattle.mem_files.specs.declared.open_file.PlaceRefusal.TheVariants.{BadName, Twice, Full, OutOfMemory}
 use Rattle.mem_files.specs.Limits.{most_content, most_names}
 use Rattle.mem_files.specs.Names.{bytes_cmp, is_file_name, is_stripped_name}
 use Rattle.mem_files.specs.Sound.{AreBytes}

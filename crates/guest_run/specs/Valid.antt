@@ -6,7 +6,7 @@ use Rattle.paged_mem.specs.Memory.{Memory, maps}
 use Rattle.rv64_machine.specs.Hart.{HasNumbers, IsHart}
 use Rattle.mem_files.specs.Sound.{IsSound}
 use Rattle.linux_calls.specs.declared.Heap.{Heap}
-use Rattle.linux_calls.specs.HeapOf.{IsHeapOf, is_beside_heap}
+use Rattle.linux_calls.specs.HeapOf.{IsHeapOf, is_apart_from_heap}
 use Rattle.guest_run.specs.Stack.{stack_end, stack_size}
 use Rattle.guest_run.specs.State.{GuestState}
 
@@ -16,15 +16,15 @@ pages_from number zero = []
 pages_from number (suc count) = number ∷ pages_from (suc number) count
 
 -- how many pages are mapped beside the heap
-unfoldable pub pages_beside : Memory → Heap → ℕ
-pages_beside memory heap =
-    count_by (λ page. contains_key memory (4096 * page) && is_beside_heap heap (4096 * page)) (pages_from 0 (2 ^ 26))
+unfoldable pub pages_apart : Memory → Heap → ℕ
+pages_apart memory heap =
+    count_by (λ page. contains_key memory (4096 * page) && is_apart_from_heap heap (4096 * page)) (pages_from 0 (2 ^ 26))
 
 -- memory and heap fit together, the stack is mapped, and segments and stack have at most 65,536 and 2,048 pages, 67,584 together
 pub record Fits (memory : Memory) (heap : Heap) : Type 0 where
   pub heap_of : IsHeapOf memory heap
   pub stack : maps memory (stack_end - stack_size) stack_size ≡ true
-  pub few : pages_beside memory heap ≤ 67584
+  pub few : pages_apart memory heap ≤ 67584
 
 -- a valid state: a hart, a memory that fits its heap, and files within their limits that fit together
 pub record IsValid (guest : GuestState) : Type 0 where

@@ -1,8 +1,8 @@
 //! Whether a memory and a heap fit together.
 
-ghost use Rattle.guest_run.specs.Valid.{Fits, pages_beside, pages_from};
+ghost use Rattle.guest_run.specs.Valid.{Fits, pages_apart, pages_from};
 ghost use Rattle.guest_run.specs.Inside.Bounds.{HasBounds};
-ghost use Rattle.linux_calls.specs.HeapOf.{IsHeapOf, is_beside_heap};
+ghost use Rattle.linux_calls.specs.HeapOf.{IsHeapOf, is_apart_from_heap};
 ghost use Rattle.paged_mem.specs.Memory.{IsFree, page_up};
 ghost use Rattle.std.specs.Prelude.{◌≡◌, ◌+◌, ◌-◌, ◌*◌, ◌%◌, ◌^◌, ◌≤◌, ◌↔◌, count_by, true, IsTrue};
 
@@ -32,7 +32,7 @@ pub fn fit_together<R: Ram>(hart: &Hart<R>, heap: &Heap) -> bool
     if !ram.mapped(stack::END - STACK_SIZE, STACK_SIZE) {
         return false;
     }
-    pages_beside(ram, heap) <= MAX_PAGES
+    pages_apart(ram, heap) <= MAX_PAGES
 }
 
 /// Whether a heap's numbers are in their bounds.
@@ -82,37 +82,37 @@ fn page_up(address: u64) -> u64
 }
 
 /// How many pages are mapped beside a heap.
-fn pages_beside<R: Ram>(ram: &R, heap: &Heap) -> u64
+fn pages_apart<R: Ram>(ram: &R, heap: &Heap) -> u64
     requires { HasBounds heap.now }
-    ensures { result ≡ pages_beside (R.bytes ram.now) heap.entry.now }
+    ensures { result ≡ pages_apart (R.bytes ram.now) heap.entry.now }
 {
     let mut count = 0;
     let mut page = 0;
     while let Some((first, pages)) = ram.run_from(PAGE * page) {
-        count += beside_in_row(heap, first / PAGE, pages);
+        count += apart_in_row(heap, first / PAGE, pages);
         page = first / PAGE + pages;
     }
     count
 }
 
 /// How many of the pages in a row lie beside a heap.
-fn beside_in_row(heap: &Heap, first: u64, pages: u64) -> u64
+fn apart_in_row(heap: &Heap, first: u64, pages: u64) -> u64
     requires bounds { HasBounds heap.now }
     requires low { first + pages ≤ 2 ^ 26 }
-    ensures value { result ≡ count_by (λ page. is_beside_heap heap.entry.now (4096 * page)) (pages_from first pages) }
+    ensures value { result ≡ count_by (λ page. is_apart_from_heap heap.entry.now (4096 * page)) (pages_from first pages) }
     ensures few { result ≤ pages }
 {
     let mut count = 0;
     for i in 0..pages {
-        count += u64::from(is_beside(heap, PAGE * (first + i)));
+        count += u64::from(is_apart(heap, PAGE * (first + i)));
     }
     count
 }
 
 /// Whether an address is in none of the pages that a heap has or may have.
-fn is_beside(heap: &Heap, at: u64) -> bool
+fn is_apart(heap: &Heap, at: u64) -> bool
     requires { HasBounds heap.now }
-    ensures { result ≡ is_beside_heap heap.entry.now at }
+    ensures { result ≡ is_apart_from_heap heap.entry.now at }
 {
     at < heap.first || page_up(heap.first + heap.limit) <= at
 }

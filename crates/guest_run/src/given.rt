@@ -8,17 +8,17 @@ ghost use Rattle.mem_files.specs.Names.{is_stripped_name};
 ghost use Rattle.std.specs.FinMap as map;
 ghost use Rattle.std.specs.Prelude.{◌≡◌, ◌<◌, ◌≤◌, false, length, All, IsTrue, Ok, IfOk, OnErr, OnOk};
 
-use crate::lent::Lent;
+use crate::borrowed::Borrowed;
 use ddc_base::OutOfMemory;
 use mem_files::{Files, PlaceRefusal};
 use std::alloc::Global;
 use std::collections::BTreeMap;
 use std::marker::Model;
 
-/// Files by name, in the order of the names' bytes. Their contents are lent.
+/// Files by name, in the order of the names' bytes. Their contents are borrowed.
 #[derive(Drop)]
 pub(crate) struct GivenFiles<'a> {
-    entries: BTreeMap<Vec<u8>, Lent<'a>>,
+    entries: BTreeMap<Vec<u8>, Borrowed<'a>>,
     size: u64,
     alloc: Global,
 }
@@ -83,7 +83,7 @@ impl<'a> GivenFiles<'a> {
         ensures each { OnOk result (All IsBoxFile (map.entries self.new)) }
     {
         let key = Vec::from_slice(self.alloc, name)?;
-        self.entries.insert(key, Lent::new(content))?;
+        self.entries.insert(key, Borrowed::new(content))?;
         self.size += content.len() as u64;
         Ok(())
     }

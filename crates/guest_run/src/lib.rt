@@ -7,7 +7,7 @@ mod fitting;
 mod given;
 mod guest;
 pub mod laws;
-mod lent;
+mod borrowed;
 mod placing;
 mod run;
 mod run_box;

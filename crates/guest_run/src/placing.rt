@@ -39,12 +39,12 @@ fn place_segment<R: Ram>(ram: &mut R, program: &[u8], segment: &Segment) -> Resu
     requires free { IsFree (R.bytes ram.old) (first_page segment.now) (paged_size segment.now) }
     ensures { OnOk result (R.bytes ram.new ≡ with_segment program.now (R.bytes ram.old) segment.now) }
 {
-    let first = segment.at / PAGE;
-    let end = (segment.at + segment.in_memory + (PAGE - 1)) / PAGE;
+    let first = segment.address / PAGE;
+    let end = (segment.address + segment.memory_size + (PAGE - 1)) / PAGE;
     ram.map_zero(first * PAGE, end - first)?;
     let offset = segment.offset as usize;
-    let bytes = &program[offset..offset + segment.in_file as usize];
-    write_mapped(ram, segment.at, bytes)
+    let bytes = &program[offset..offset + segment.file_size as usize];
+    write_mapped(ram, segment.address, bytes)
 }
 
 /// Maps the stack's pages and puts its first bytes there.

@@ -4,7 +4,7 @@ ghost use Rattle.std.specs.FinMap as map;
 ghost use Rattle.std.specs.Prelude.{◌≡◌, ◌^◌, ◌≤◌, [], ◌∷◌, ◌++◌, All, OnErr, OnOk};
 
 use crate::given::GivenFiles;
-use crate::lent::Lent;
+use crate::borrowed::Borrowed;
 use ddc_base::OutOfMemory;
 use mem_files::{MAX_CONTENT, MAX_NAMES, PlaceRefusal, is_file_name, strip};
 use std::alloc::Global;
@@ -13,12 +13,12 @@ use std::marker::Model;
 /// What a program is given when it starts: arguments, environment texts, files by name, and the most
 /// bytes of its heap.
 ///
-/// Texts and contents are lent to it for `'a`, and none of their bytes is copied before a start. It keeps the allocator that its
+/// Texts and contents are borrowed to it for `'a`, and none of their bytes is copied before a start. It keeps the allocator that its
 /// constructor took.
 #[derive(Drop)]
 pub struct RunBox<'a> {
-    args: Vec<Lent<'a>>,
-    env: Vec<Lent<'a>>,
+    args: Vec<Borrowed<'a>>,
+    env: Vec<Borrowed<'a>>,
     files: GivenFiles<'a>,
     heap: u64,
     alloc: Global,
@@ -58,7 +58,7 @@ impl<'a> RunBox<'a> {
         ensures ok { OnOk result (self.new ≡ record self.old { args = self.old.args ++ text.now ∷ [] }) }
         ensures err { OnErr result (self.new ≡ self.old) }
     {
-        self.args.push(Lent::new(text))?;
+        self.args.push(Borrowed::new(text))?;
         Ok(())
     }
 
@@ -68,7 +68,7 @@ impl<'a> RunBox<'a> {
         ensures ok { OnOk result (self.new ≡ record self.old { env = self.old.env ++ text.now ∷ [] }) }
         ensures err { OnErr result (self.new ≡ self.old) }
     {
-        self.env.push(Lent::new(text))?;
+        self.env.push(Borrowed::new(text))?;
         Ok(())
     }
 
@@ -84,14 +84,14 @@ impl<'a> RunBox<'a> {
     }
 
     /// The arguments.
-    pub(crate) fn args(&self) -> &[Lent<'a>]
+    pub(crate) fn args(&self) -> &[Borrowed<'a>]
         ensures { result.now ≡ self.now.args }
     {
         self.args.as_slice()
     }
 
     /// The texts of the environment.
-    pub(crate) fn env(&self) -> &[Lent<'a>]
+    pub(crate) fn env(&self) -> &[Borrowed<'a>]
         ensures { result.now ≡ self.now.env }
     {
         self.env.as_slice()

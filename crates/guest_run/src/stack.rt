@@ -6,7 +6,7 @@ ghost use Rattle.paged_mem.specs.Memory.{bytes_of, zeros};
 ghost use Rattle.std.specs.List.{flat_map};
 ghost use Rattle.std.specs.Prelude.{◌≡◌, ◌+◌, ◌*◌, ◌^◌, ◌<◌, ◌≤◌, ◌++◌, length, sum_by, nat_le, ◌-◌, IfOk, OnOk, SomeIff};
 
-use crate::lent::Lent;
+use crate::borrowed::Borrowed;
 use ddc_base::OutOfMemory;
 use std::alloc::Global;
 
@@ -25,7 +25,7 @@ pub(crate) struct Stack {
 }
 
 /// Whether texts and words take few enough bytes.
-pub(crate) fn fits(args: &[Lent], env: &[Lent]) -> bool
+pub(crate) fn fits(args: &[Borrowed], env: &[Borrowed]) -> bool
     ensures { result ≡ nat_le (start_size args.now env.now) 131072 }
 {
     match left_after(args, MOST - 8 * OTHER_WORDS) {
@@ -36,7 +36,7 @@ pub(crate) fn fits(args: &[Lent], env: &[Lent]) -> bool
 
 /// What is left of `most` bytes after each text's bytes, its zero byte and its address; `None` where
 /// they are too many.
-fn left_after(texts: &[Lent], most: u64) -> Option<u64>
+fn left_after(texts: &[Borrowed], most: u64) -> Option<u64>
     ensures { SomeIff result (sum_by cost texts.now ≤ most) (most - sum_by cost texts.now) }
 {
     let mut left = most;
@@ -51,7 +51,7 @@ fn left_after(texts: &[Lent], most: u64) -> Option<u64>
 }
 
 /// The stack of a program with these texts, which fit.
-pub(crate) fn stack_of(alloc: Global, args: &[Lent], env: &[Lent]) -> Result<Stack, OutOfMemory>
+pub(crate) fn stack_of(alloc: Global, args: &[Borrowed], env: &[Borrowed]) -> Result<Stack, OutOfMemory>
     requires { start_size args.now env.now ≤ 131072 }
     ensures { IfOk result (λ stack. (stack.at ≡ stack_pointer args.now env.now) × (stack.bytes.items ≡ stack_bytes args.now env.now)) }
 {
@@ -71,7 +71,7 @@ pub(crate) fn stack_of(alloc: Global, args: &[Lent], env: &[Lent]) -> Result<Sta
 }
 
 /// The bytes of the texts, each with its zero byte.
-fn joined_size(texts: &[Lent]) -> u64
+fn joined_size(texts: &[Borrowed]) -> u64
     requires { length (ended_texts texts.now) < 2 ^ 64 }
     ensures { result ≡ length (ended_texts texts.now) }
 {
@@ -91,7 +91,7 @@ fn put_word(bytes: &mut Vec<u8>, word: u64) -> Result<(), OutOfMemory>
 }
 
 /// Appends the addresses of texts in a row from `at` on.
-fn put_addresses(bytes: &mut Vec<u8>, at: u64, texts: &[Lent]) -> Result<(), OutOfMemory>
+fn put_addresses(bytes: &mut Vec<u8>, at: u64, texts: &[Borrowed]) -> Result<(), OutOfMemory>
     requires { at + length (ended_texts texts.now) < 2 ^ 64 }
     ensures { OnOk result (bytes.new.items ≡ bytes.old.items ++ flat_map (bytes_of 8) (addresses at texts.now)) }
 {
@@ -115,7 +115,7 @@ fn put_zeros(bytes: &mut Vec<u8>, count: u64) -> Result<(), OutOfMemory>
 }
 
 /// Appends the texts, each with its zero byte.
-fn put_texts(bytes: &mut Vec<u8>, texts: &[Lent]) -> Result<(), OutOfMemory>
+fn put_texts(bytes: &mut Vec<u8>, texts: &[Borrowed]) -> Result<(), OutOfMemory>
     ensures { OnOk result (bytes.new.items ≡ bytes.old.items ++ ended_texts texts.now) }
 {
     for text in texts {

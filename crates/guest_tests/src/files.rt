@@ -78,7 +78,7 @@ fn open(files: &mut Files, name: &[u8], flags: u32) -> i64 {
 
 fn seek(files: &mut Files, fd: u32, offset: i64, whence: u32) -> i64 {
     match files.seek(fd, offset, whence) {
-        Ok(cursor) => i64::try_from(cursor).unwrap_or(WRONG),
+        Ok(file_offset) => i64::try_from(file_offset).unwrap_or(WRONG),
         Err(errno) => -i64::from(errno),
     }
 }

@@ -8,8 +8,8 @@ use std::test::Fail;
 const SEGMENT: Segment = Segment {
     at: 0x10000,
     offset: 0,
-    in_file: 132,
-    in_memory: 132,
+    file_size: 132,
+    memory_size: 132,
 };
 
 fn is_exit(image: &Image) -> bool {
@@ -51,7 +51,7 @@ fn refuses_altered_programs(rt: HostRuntime) {
     }
 }
 
-/// exit.elf has a header of 64 bytes, one program header of 56 behind it, and a segment of all its 132 bytes.
+/// exit.elf has a header of 64 bytes, one program header of 56 after it, and a segment of all its 132 bytes.
 #[test]
 fn refuses_programs_that_are_cut(rt: HostRuntime) {
     for size in 0..EXIT.len() {

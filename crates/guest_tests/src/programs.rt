@@ -360,7 +360,7 @@ static ATOMIC: [([u32; 2], Cause); 2] = [
     ([0x0021_0113, 0x0051_22af], Cause::StoreUnmapped(MISALIGNED)),
 ];
 
-/// Asserts that a program traps behind its first step.
+/// Asserts that a program traps after its first step.
 fn check_trap(
     rt: &impl Abort,
     alloc: Global,

@@ -299,7 +299,7 @@ fn is_verified(
 }
 
 /// The same where the others have another `in`.
-fn is_verified_beside(
+fn is_verified_apart(
     rt: &impl Abort,
     alloc: Global,
     source: &[u8],
@@ -313,11 +313,11 @@ fn is_verified_beside(
 /// Asserts the same of copy.elf and this file `in`.
 fn check_verified(rt: &impl Abort, alloc: Global, source: &[u8], input: &[u8], reversed: bool) {
     let files = listed(rt, alloc, Some(input), reversed);
-    check_beside(rt, alloc, source, &files, reversed);
+    check_apart(rt, alloc, source, &files, reversed);
 }
 
-fn check_beside(rt: &impl Abort, alloc: Global, source: &[u8], files: &FileList, reversed: bool) {
-    assert!(rt; is_verified_beside(rt, alloc, source, files, reversed));
+fn check_apart(rt: &impl Abort, alloc: Global, source: &[u8], files: &FileList, reversed: bool) {
+    assert!(rt; is_verified_apart(rt, alloc, source, files, reversed));
 }
 
 #[test]

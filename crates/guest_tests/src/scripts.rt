@@ -89,7 +89,7 @@ fn read_many_as(
     Ok(read_as(alloc, text.as_slice()))
 }
 
-/// A piece, how often it stands, and what stands behind it, with the number of commands or the fault.
+/// A piece, how often it stands, and what stands after it, with the number of commands or the fault.
 type Limit = (
     &'static [u8],
     u64,

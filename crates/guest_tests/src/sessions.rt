@@ -3,7 +3,7 @@
 use ddc_base::{Bytes, MemSink, OutOfMemory, PutFail, read_hex};
 use guest_run::RunBox;
 use prompt::{MemPrompt, converse};
-use session::Session;
+use step_debug::Session;
 use std::alloc::Global;
 use std::process::Abort;
 
@@ -121,7 +121,7 @@ static ROWS: [Row; 24] = [
         100,
         "unknown\nunknown\nunknown\nunknown\nunknown\nunknown\nunknown\n",
     ),
-    // Nothing is said of `quit`, nor of a line behind it.
+    // Nothing is said of `quit`, nor of a line after it.
     (
         "where\nquit\nwhere",
         100,
@@ -272,9 +272,9 @@ fn what_is_left_stays(rt: HostRuntime) {
     assert!(rt; leaves(&rt, rt.alloc(), b"where\nquit\nwhere\n", 0, 1, b"where\n"));
 }
 
-/// Behind `quit` and behind the end no line is asked for, so none fails.
+/// After `quit` and after the end no line is asked for, so none fails.
 #[test]
-fn no_line_behind_the_last_fails(rt: HostRuntime) {
+fn no_line_after_the_last_fails(rt: HostRuntime) {
     assert!(rt; leaves(&rt, rt.alloc(), b"where\nquit\n", 3, 1, b""));
     assert!(rt; leaves(&rt, rt.alloc(), b"where\n", 3, 1, b""));
 }
@@ -292,7 +292,7 @@ fn has_whole(out: &MemSink, put_fails: u64, count: usize) -> bool {
     out.pieces().len() == count && out.written().len() == whole.saturating_add(half)
 }
 
-/// Whether a session over a prompt into a sink is cut behind so many whole lines.
+/// Whether a session over a prompt into a sink is cut after so many whole lines.
 fn is_cut_into(
     rt: &impl Abort,
     alloc: Global,

@@ -9,7 +9,7 @@ mod reader;
 mod token;
 mod words;
 
-pub use item::{Item, Kind, Name};
+pub use item::{Item, Kind, LabelName};
 pub use items::{Items, MOST_ITEMS};
 pub use reader::{HexRefusal, LONGEST_SOURCE, items1, items2};
 pub use token::{Dialect, Token, TokenFault, byte_of, gap_length, is_blank, token_at};

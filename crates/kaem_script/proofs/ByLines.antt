@@ -8,13 +8,13 @@ use Rattle.std.proofs.lemmas.List.Elements.{All-cons, All-drop, All-head, All-ni
 use Rattle.std.proofs.lemmas.List.Splits.{slice_split_at, slice_split_none}
 use Rattle.kaem_script.specs.declared.refusal.ScriptFault.{ScriptFault}
 use Rattle.kaem_script.specs.declared.refusal.ScriptFault.TheVariants.{BadWord, LongWord, OpenQuote, TooMany, TooManyWords}
-use Rattle.kaem_script.specs.ByLines.{LineWords, WordOfLine, and_word, and_words, behind_blanks, commands_by_line, commands_of_lines, fitting_of, is_double_quote, plain_of, quoted_of, read_of, unless_over, words_of_line}
-use Rattle.kaem_script.specs.Script.{Commands, ScriptWord, begins, behind_word, between_quotes, commands_from, commands_of, ends_line, ends_or_begins, ends_quoted, ends_word, fitting, is_wrong, most_commands, most_words, names_nothing, next_word, parts_words, plain_text, plain_word, quoted_word, with_line, word_at}
+use Rattle.kaem_script.specs.ByLines.{LineWords, WordOfLine, and_word, and_words, after_blanks, commands_by_line, commands_of_lines, fitting_of, is_double_quote, plain_of, quoted_of, read_of, unless_over, words_of_line}
+use Rattle.kaem_script.specs.Script.{Commands, ScriptWord, begins, after_word, between_quotes, commands_from, commands_of, ends_line, ends_or_begins, ends_quoted, ends_word, fitting, is_wrong, most_commands, most_words, names_nothing, next_word, parts_words, plain_text, plain_word, quoted_word, with_line, word_at}
 
 abbrev Lists : Type 0
 Lists = List (List ℕ)
 
--- a line has no LF, and behind it the text ends, or an LF stands
+-- a line has no LF, and after it the text ends, or an LF stands
 abbrev NoEnd : ℕ → Type 0
 NoEnd byte = ends_line byte ≡ false
 
@@ -72,9 +72,9 @@ module _ (p : ℕ → Bool) where
     by true here rest = let at = first-yes p byte line here in ap (λ n. take n (byte ∷ line ++ later)) at ∙ ap (λ n. take n (byte ∷ line)) (sym at)
     by false here rest = let at = first-no p byte line here in ap (λ n. take n (byte ∷ line ++ later)) at ∙ ap (λ l. byte ∷ l) rest ∙ ap (λ n. take n (byte ∷ line)) (sym at)
 
-  behind : (line later : List ℕ) → drop (position_or_len p line) (line ++ later) ≡ drop (position_or_len p line) line ++ later
-  behind [] later = refl
-  behind (byte ∷ line) later = by (p byte) refl (behind line later) where
+  following : (line later : List ℕ) → drop (position_or_len p line) (line ++ later) ≡ drop (position_or_len p line) line ++ later
+  following [] later = refl
+  following (byte ∷ line) later = by (p byte) refl (following line later) where
     by : (b : Bool) → p byte ≡ b → drop (position_or_len p line) (line ++ later) ≡ drop (position_or_len p line) line ++ later
         → drop (position_or_len p (byte ∷ line)) (byte ∷ line ++ later) ≡ drop (position_or_len p (byte ∷ line)) (byte ∷ line) ++ later
     by true here rest = let at = first-yes p byte line here in ap (λ n. drop n (byte ∷ line ++ later)) at ∙ ap (λ n. drop n (byte ∷ line) ++ later) (sym at)
@@ -84,23 +84,23 @@ module _ (p : ℕ → Bool) where
   taken line later is ends = ap (λ n. take n (line ++ later)) (place line later is ends) ∙ front line later
 
   left : (line later : List ℕ) → IsLine line → AreLater later → drop (position_or_len or_end (line ++ later)) (line ++ later) ≡ drop (position_or_len p line) line ++ later
-  left line later is ends = ap (λ n. drop n (line ++ later)) (place line later is ends) ∙ behind line later
+  left line later is ends = ap (λ n. drop n (line ++ later)) (place line later is ends) ∙ following line later
 
 -- ---- a word
 
--- the same is read of the text and of a line of which this stands behind the word's first byte
+-- the same is read of the text and of a line of which this stands after the word's first byte
 abbrev Alike : List ℕ → Result ScriptWord ScriptFault → Result WordOfLine ScriptFault → Type 0
 Alike line (Err fault) (Err other) = fault ≡ other
-Alike line (Ok word) (Ok found) = (word.text ≡ found.text) × ((more : List ℕ) × (line ≡ more ++ found.behind) × (word.size ≡ suc (length more)))
+Alike line (Ok word) (Ok found) = (word.text ≡ found.text) × ((more : List ℕ) × (line ≡ more ++ found.following) × (word.size ≡ suc (length more)))
 Alike line (Ok word) (Err other) = ⊥
 Alike line (Err fault) (Ok found) = ⊥
 
 abbrev plain_found : List ℕ → List ℕ → Result WordOfLine ScriptFault
-plain_found text rest = cond (list_any is_wrong text) (Err BadWord) (Ok (record { text = text; behind = rest }))
+plain_found text rest = cond (list_any is_wrong text) (Err BadWord) (Ok (record { text = text; following = rest }))
 
 plain-text : (byte : ℕ) (line more rest : List ℕ) → line ≡ more ++ rest → Alike line (plain_text (byte ∷ more)) (plain_found (byte ∷ more) rest)
 plain-text byte line more rest is = by (list_any is_wrong (byte ∷ more)) where
-  by : (wrong : Bool) → Alike line (cond wrong (Err BadWord) (Ok (record { text = byte ∷ more; size = length (byte ∷ more) }))) (cond wrong (Err BadWord) (Ok (record { text = byte ∷ more; behind = rest })))
+  by : (wrong : Bool) → Alike line (cond wrong (Err BadWord) (Ok (record { text = byte ∷ more; size = length (byte ∷ more) }))) (cond wrong (Err BadWord) (Ok (record { text = byte ∷ more; following = rest })))
   by true = refl
   by false = (refl, (more, is, refl))
 
@@ -160,7 +160,7 @@ abbrev no_zero : List ℕ → Bool
 no_zero text = not (list_any (λ byte. byte == 0) text)
 
 abbrev quoted_found : Bool → List ℕ → List ℕ → Result WordOfLine ScriptFault
-quoted_found good text rest = cond good (Ok (record { text = text; behind = rest })) (Err BadWord)
+quoted_found good text rest = cond good (Ok (record { text = text; following = rest })) (Err BadWord)
 
 quoted-alike : (line later : List ℕ) → IsLine line → AreLater later → Alike line (quoted_word (line ++ later)) (quoted_of line)
 unfolding quoted_word quoted_of
@@ -228,8 +228,8 @@ word-alike first byte line later is ends word = by (is_double_quote byte) where
 abbrev from_here : ℕ → List Lists → Lists → List ℕ → Commands
 from_here at commands words rest = commands_from at 0 commands words rest
 
-abbrev behind_here : ℕ → List Lists → Lists → List ℕ → ScriptWord → Commands
-behind_here at commands words rest word = commands_from (at + 1) (word.size - 1) commands (words ++ word.text ∷ []) rest
+abbrev after_here : ℕ → List Lists → Lists → List ℕ → ScriptWord → Commands
+after_here at commands words rest word = commands_from (at + 1) (word.size - 1) commands (words ++ word.text ∷ []) rest
 
 module _ (at : ℕ) (commands : List Lists) (words : Lists) (byte : ℕ) (rest : List ℕ) where
   reads-end : ends_line byte ≡ true → from_here at commands words (byte ∷ rest) ≡ from_here (at + 1) (with_line commands words) [] rest
@@ -246,7 +246,7 @@ module _ (at : ℕ) (commands : List Lists) (words : Lists) (byte : ℕ) (rest :
   reads-comment ends parts comment = unless (ends_line byte) _ _ ends ∙ unless (parts_words byte) _ _ parts ∙ when (byte == 35) _ _ comment
 
   reads-word : ends_line byte ≡ false → parts_words byte ≡ false → (byte == 35) ≡ false
-      → from_here at commands words (byte ∷ rest) ≡ behind_word at (next_word (length commands) (length words) (byte ∷ rest)) (behind_here at commands words rest)
+      → from_here at commands words (byte ∷ rest) ≡ after_word at (next_word (length commands) (length words) (byte ∷ rest)) (after_here at commands words rest)
   unfolding commands_from
   reads-word ends parts comment = unless (ends_line byte) _ _ ends ∙ unless (parts_words byte) _ _ parts ∙ unless (byte == 35) _ _ comment
 
@@ -274,16 +274,16 @@ ended at commands words (byte ∷ rest) ends = reads-end at commands words byte 
 -- ---- the words of a line
 
 module _ {A : Type 0} (over : A) (next : List ℕ → A) (byte : ℕ) (line : List ℕ) where
-  blank-skips : parts_words byte ≡ true → unless_over over next (behind_blanks (byte ∷ line)) ≡ unless_over over next (behind_blanks line)
+  blank-skips : parts_words byte ≡ true → unless_over over next (after_blanks (byte ∷ line)) ≡ unless_over over next (after_blanks line)
   blank-skips parts =
       let one : 1 + prefix_len parts_words line ≡ suc (prefix_len parts_words line) = omega arith in
       ap (λ b. unless_over over next (drop (cond b (1 + prefix_len parts_words line) 0) (byte ∷ line))) parts ∙ ap (λ n. unless_over over next (drop n (byte ∷ line))) one
 
-  comment-ends : parts_words byte ≡ false → (byte == 35) ≡ true → unless_over over next (behind_blanks (byte ∷ line)) ≡ over
+  comment-ends : parts_words byte ≡ false → (byte == 35) ≡ true → unless_over over next (after_blanks (byte ∷ line)) ≡ over
   comment-ends parts comment =
       ap (λ b. unless_over over next (drop (cond b (1 + prefix_len parts_words line) 0) (byte ∷ line))) parts ∙ when (byte == 35) over (next (byte ∷ line)) comment
 
-  word-begins : parts_words byte ≡ false → (byte == 35) ≡ false → unless_over over next (behind_blanks (byte ∷ line)) ≡ next (byte ∷ line)
+  word-begins : parts_words byte ≡ false → (byte == 35) ≡ false → unless_over over next (after_blanks (byte ∷ line)) ≡ next (byte ∷ line)
   word-begins parts comment =
       ap (λ b. unless_over over next (drop (cond b (1 + prefix_len parts_words line) 0) (byte ∷ line))) parts ∙ unless (byte == 35) over (next (byte ∷ line)) comment
 
@@ -294,7 +294,7 @@ module _ (commands end : ℕ) (words : Lists) where
   abbrev one_more : ℕ → List ℕ → LineWords
   one_more more here =
       cond (length words == 0 && commands == most_commands) (Err (TooMany, end - length here))
-      (and_word (end - length here) (fitting_of (length words == 0) (read_of here)) (λ word. words_of_line more commands end (words ++ word.text ∷ []) word.behind))
+      (and_word (end - length here) (fitting_of (length words == 0) (read_of here)) (λ word. words_of_line more commands end (words ++ word.text ∷ []) word.following))
 
   no-word : (most : ℕ) → words_of_line most commands end words [] ≡ Ok words
   unfolding words_of_line
@@ -342,9 +342,9 @@ no-more n room = grind (arith, nat_tests)
 some-more : (more n : ℕ) → suc more + n ≡ most_words → (n == most_words) ≡ false
 some-more more n room = grind (arith, nat_tests)
 
-behind-line : (more rest : List ℕ) → IsLine (more ++ rest) → IsLine rest
-behind-line [] rest is = is
-behind-line (byte ∷ more) rest is = behind-line more rest (All-tail NoEnd byte (more ++ rest) is)
+following-line : (more rest : List ℕ) → IsLine (more ++ rest) → IsLine rest
+following-line [] rest is = is
+following-line (byte ∷ more) rest is = following-line more rest (All-tail NoEnd byte (more ++ rest) is)
 
 module _ (n : ℕ) (reads : Reads n) (byte : ℕ) (line later : List ℕ) (few : length line ≤ n) (is : IsLine (byte ∷ line)) (ends : AreLater later)
     (at : ℕ) (commands : List Lists) (words : Lists) where
@@ -379,8 +379,8 @@ module _ (n : ℕ) (reads : Reads n) (byte : ℕ) (line later : List ℕ) (few :
 
   -- what one word leads to
   found : (more : ℕ) → suc more + length words ≡ most_words → (word : Result ScriptWord ScriptFault) (other : Result WordOfLine ScriptFault) → Alike line word other
-      → behind_word at word (behind_here at commands words (line ++ later))
-      ≡ and_words (and_word (end - length (byte ∷ line)) other (λ w. words_of_line more (length commands) end (words ++ w.text ∷ []) w.behind)) (line_end end commands later)
+      → after_word at word (after_here at commands words (line ++ later))
+      ≡ and_words (and_word (end - length (byte ∷ line)) other (λ w. words_of_line more (length commands) end (words ++ w.text ∷ []) w.following)) (line_end end commands later)
   found more room (Ok word) (Err other) alike = absurd alike
   found more room (Err fault) (Ok other) alike = absurd alike
   found more room (Err fault) (Err other) alike =
@@ -389,34 +389,34 @@ module _ (n : ℕ) (reads : Reads n) (byte : ℕ) (line later : List ℕ) (few :
       first ∙ second
   found more room (Ok word) (Ok other) (text, (front, parts, size)) =
       let taken : word.size - 1 ≡ length front = omega (arith, size) in
-      let long : length line ≡ length front + length other.behind = ap length parts ∙ length-append front other.behind in
-      let last : at + 1 + length front + length other.behind ≡ end = omega (arith, long) in
+      let long : length line ≡ length front + length other.following = ap length parts ∙ length-append front other.following in
+      let last : at + 1 + length front + length other.following ≡ end = omega (arith, long) in
       let left : more + length (words ++ other.text ∷ []) ≡ most_words = omega (arith, room, length-append words (other.text ∷ [])) in
-      let after : IsLine other.behind = behind-line front other.behind (subst IsLine parts (All-tail NoEnd byte line is)) in
+      let after : IsLine other.following = following-line front other.following (subst IsLine parts (All-tail NoEnd byte line is)) in
       ap (λ k. commands_from (at + 1) k commands (words ++ word.text ∷ []) (line ++ later)) taken
       ∙ ap (λ l. commands_from (at + 1) (length front) commands (words ++ word.text ∷ []) (l ++ later)) parts
-      ∙ ap (λ l. commands_from (at + 1) (length front) commands (words ++ word.text ∷ []) l) (append_assoc front other.behind later)
-      ∙ skips front (other.behind ++ later) (at + 1) commands (words ++ word.text ∷ [])
-      ∙ ap (λ t. from_here (at + 1 + length front) commands (words ++ t ∷ []) (other.behind ++ later)) text
-      ∙ reads other.behind later (omega (arith, long, few)) after ends more (at + 1 + length front) commands (words ++ other.text ∷ []) left
-      ∙ ap (λ e. by_line more e commands (words ++ other.text ∷ []) other.behind later) last
+      ∙ ap (λ l. commands_from (at + 1) (length front) commands (words ++ word.text ∷ []) l) (append_assoc front other.following later)
+      ∙ skips front (other.following ++ later) (at + 1) commands (words ++ word.text ∷ [])
+      ∙ ap (λ t. from_here (at + 1 + length front) commands (words ++ t ∷ []) (other.following ++ later)) text
+      ∙ reads other.following later (omega (arith, long, few)) after ends more (at + 1 + length front) commands (words ++ other.text ∷ []) left
+      ∙ ap (λ e. by_line more e commands (words ++ other.text ∷ []) other.following later) last
 
   at-word : (most : ℕ) → most + length words ≡ most_words → parts_words byte ≡ false → (byte == 35) ≡ false
-      → behind_word at (next_word (length commands) (length words) (byte ∷ line ++ later)) (behind_here at commands words (line ++ later)) ≡ by_line most end commands words (byte ∷ line) later
+      → after_word at (next_word (length commands) (length words) (byte ∷ line ++ later)) (after_here at commands words (line ++ later)) ≡ by_line most end commands words (byte ∷ line) later
   unfolding next_word
   at-word zero room parts comment =
-      ap (λ (w : Result ScriptWord ScriptFault). behind_word at w (behind_here at commands words (line ++ later))) (when (length words == most_words) _ _ (no-more (length words) room))
+      ap (λ (w : Result ScriptWord ScriptFault). after_word at w (after_here at commands words (line ++ later))) (when (length words == most_words) _ _ (no-more (length words) room))
       ∙ ap (λ k. Err (TooManyWords, k)) (sym starts)
       ∙ sym (ap (λ w. and_words w (line_end end commands later)) (line-full (length commands) end words byte line parts comment))
   at-word (suc more) room parts comment =
-      ap (λ (w : Result ScriptWord ScriptFault). behind_word at w (behind_here at commands words (line ++ later))) (unless (length words == most_words) _ _ (some-more more (length words) room))
-      ∙ ap (λ (first : Bool). behind_word at (cond (first && length commands == most_commands) (Err TooMany) (word_at first (byte ∷ line ++ later))) (behind_here at commands words (line ++ later))) (is-first (length words))
+      ap (λ (w : Result ScriptWord ScriptFault). after_word at w (after_here at commands words (line ++ later))) (unless (length words == most_words) _ _ (some-more more (length words) room))
+      ∙ ap (λ (first : Bool). after_word at (cond (first && length commands == most_commands) (Err TooMany) (word_at first (byte ∷ line ++ later))) (after_here at commands words (line ++ later))) (is-first (length words))
       ∙ by (length words == 0 && length commands == most_commands)
       ∙ sym (ap (λ w. and_words w (line_end end commands later)) (line-word (length commands) end words more byte line parts comment))
     where
-      by : (full : Bool) → behind_word at (cond full (Err TooMany) (word_at (length words == 0) (byte ∷ line ++ later))) (behind_here at commands words (line ++ later))
+      by : (full : Bool) → after_word at (cond full (Err TooMany) (word_at (length words == 0) (byte ∷ line ++ later))) (after_here at commands words (line ++ later))
           ≡ and_words (cond full (Err (TooMany, end - length (byte ∷ line)))
-          (and_word (end - length (byte ∷ line)) (fitting_of (length words == 0) (read_of (byte ∷ line))) (λ w. words_of_line more (length commands) end (words ++ w.text ∷ []) w.behind))) (line_end end commands later)
+          (and_word (end - length (byte ∷ line)) (fitting_of (length words == 0) (read_of (byte ∷ line))) (λ w. words_of_line more (length commands) end (words ++ w.text ∷ []) w.following))) (line_end end commands later)
       by true = ap (λ k. Err (TooMany, k)) (sym starts)
       by false = found more room (word_at (length words == 0) (byte ∷ line ++ later)) (fitting_of (length words == 0) (read_of (byte ∷ line))) (word-alike (length words == 0) byte line later is ends parts)
 

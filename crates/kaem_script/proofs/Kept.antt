@@ -9,7 +9,7 @@ use Rattle.std.specs.Prelude.{nat_le, nat_lt, IsTrue}
 use Rattle.mem_files.specs.Names.{is_file_name, stripped}
 use Rattle.kaem_script.specs.declared.refusal.ScriptFault.{ScriptFault}
 use Rattle.kaem_script.specs.declared.refusal.ScriptFault.TheVariants.{BadWord, LongWord, OpenQuote, TooMany, TooManyWords}
-use Rattle.kaem_script.specs.Script.{ScriptWord, begins, behind_word, commands_from, ends_line, ends_or_begins, ends_quoted, ends_word, fitting, parts_words, is_wrong, most_commands, most_words, names_nothing, next_word, plain_word, quoted_word, with_line, word_at}
+use Rattle.kaem_script.specs.Script.{ScriptWord, begins, after_word, commands_from, ends_line, ends_or_begins, ends_quoted, ends_word, fitting, parts_words, is_wrong, most_commands, most_words, names_nothing, next_word, plain_word, quoted_word, with_line, word_at}
 use Rattle.kaem_script.specs.Kept.{AreCommands, IsCommand, IsLine, IsWord, NamesProgram}
 
 abbrev has_zero : List ℕ → Bool
@@ -207,7 +207,7 @@ kept at zero commands words (byte ∷ rest) found are begun is =
     (λ size text. kept (at + 1) size commands (words ++ text ∷ []) rest found)
   where
     more : (next : Result ScriptWord ScriptFault) → next_word (length commands) (length words) (byte ∷ rest) ≡ next
-        → behind_word at next (λ word. commands_from (at + 1) (word.size - 1) commands (words ++ word.text ∷ []) rest) ≡ Ok found
+        → after_word at next (λ word. commands_from (at + 1) (word.size - 1) commands (words ++ word.text ∷ []) rest) ≡ Ok found
         → ((size : ℕ) (text : List ℕ) → AreCommands commands → IsOpen commands (words ++ text ∷ [])
         → commands_from (at + 1) size commands (words ++ text ∷ []) rest ≡ Ok found → AreCommands found)
         → AreCommands found
@@ -218,7 +218,7 @@ kept at zero commands words (byte ∷ rest) found are begun is =
     by : (l b c : Bool)
         → cond l (commands_from (at + 1) 0 (with_line commands words) [] rest) (cond b (commands_from (at + 1) 0 commands words rest)
         (cond c (commands_from (at + 1) (position_or_len ends_line rest) commands words rest)
-        (behind_word at (next_word (length commands) (length words) (byte ∷ rest)) (λ word. commands_from (at + 1) (word.size - 1) commands (words ++ word.text ∷ []) rest)))) ≡ Ok found
+        (after_word at (next_word (length commands) (length words) (byte ∷ rest)) (λ word. commands_from (at + 1) (word.size - 1) commands (words ++ word.text ∷ []) rest)))) ≡ Ok found
         → (AreCommands (with_line commands words) → IsOpen (with_line commands words) [] → commands_from (at + 1) 0 (with_line commands words) [] rest ≡ Ok found → AreCommands found)
         → (AreCommands commands → IsOpen commands words → commands_from (at + 1) 0 commands words rest ≡ Ok found → AreCommands found)
         → (AreCommands commands → IsOpen commands words → commands_from (at + 1) (position_or_len ends_line rest) commands words rest ≡ Ok found → AreCommands found)

@@ -10,8 +10,8 @@ use Rattle.mem_files.specs.World.{World, lowest_unused}
 use Rattle.mem_files.specs.Calls.{is_full, placed, with_file}
 use Rattle.mem_files.specs.Names.{bytes_cmp, is_file_name, is_stripped_name, stripped}
 use Rattle.mem_files.specs.Replies.{Places}
-use Rattle.mem_files.specs.declared.slot.PlaceRefusal.{PlaceRefusal}
-use Rattle.mem_files.specs.declared.slot.PlaceRefusal.TheVariants.{BadName, Twice, Full, OutOfMemory}
+use Rattle.mem_files.specs.declared.open_file.PlaceRefusal.{PlaceRefusal}
+use Rattle.mem_files.specs.declared.open_file.PlaceRefusal.TheVariants.{BadName, Twice, Full, OutOfMemory}
 use Rattle.guest_run.proofs.GivenLists.{good_name}
 use Rattle.kaem_script.specs.FilesListed.{AreNames, IsList, FilesListed, Pushes}
 

@@ -6,7 +6,7 @@ use Rattle.std.proofs.lemmas.List.Elements.{All-drop, All-nil, All-push, All-tai
 use Rattle.mem_files.specs.Sound.{AreBytes}
 use Rattle.kaem_script.specs.declared.refusal.ScriptFault.{ScriptFault}
 use Rattle.kaem_script.specs.declared.refusal.ScriptFault.TheVariants.{BadWord, LongWord, OpenQuote, TooMany, TooManyWords}
-use Rattle.kaem_script.specs.Script.{Commands, ScriptWord, begins, behind_word, commands_from, commands_of, ends_line, ends_or_begins, ends_quoted, ends_word, fitting, is_wrong, most_commands, most_words, names_nothing, next_word, parts_words, plain_word, quoted_word, with_line, word_at}
+use Rattle.kaem_script.specs.Script.{Commands, ScriptWord, begins, after_word, commands_from, commands_of, ends_line, ends_or_begins, ends_quoted, ends_word, fitting, is_wrong, most_commands, most_words, names_nothing, next_word, parts_words, plain_word, quoted_word, with_line, word_at}
 
 abbrev IsByte : ℕ → Type 0
 IsByte byte = byte < 256
@@ -78,10 +78,10 @@ either : (b : Bool) (one other : Commands) → AllBytes one → AllBytes other �
 either true one other first second = first
 either false one other first second = second
 
-behind : (at : ℕ) (word : Result ScriptWord ScriptFault) (next : ScriptWord → Commands) → HasBytes word → ((found : ScriptWord) → AreBytes found.text → AllBytes (next found))
-    → AllBytes (behind_word at word next)
-behind at (Err fault) next are later = tt
-behind at (Ok word) next are later = later word are
+following : (at : ℕ) (word : Result ScriptWord ScriptFault) (next : ScriptWord → Commands) → HasBytes word → ((found : ScriptWord) → AreBytes found.text → AllBytes (next found))
+    → AllBytes (after_word at word next)
+following at (Err fault) next are later = tt
+following at (Ok word) next are later = later word are
 
 from-bytes : (at inside : ℕ) (commands : List (List (List ℕ))) (words : List (List ℕ)) (rest : List ℕ) → All (All AreBytes) commands → All AreBytes words → AreBytes rest
     → AllBytes (commands_from at inside commands words rest)
@@ -95,11 +95,11 @@ from-bytes at zero commands words (byte ∷ rest) are line bytes =
     let ended = commands_from (at + 1) 0 (with_line commands words) [] rest in
     let blank = commands_from (at + 1) 0 commands words rest in
     let comment = commands_from (at + 1) (position_or_len ends_line rest) commands words rest in
-    either (ends_line byte) ended (cond (parts_words byte) blank (cond (byte == 35) comment (behind_word at found next)))
+    either (ends_line byte) ended (cond (parts_words byte) blank (cond (byte == 35) comment (after_word at found next)))
     (from-bytes (at + 1) 0 (with_line commands words) [] rest (line-bytes commands words are line) (All-nil AreBytes) later)
-    (either (parts_words byte) blank (cond (byte == 35) comment (behind_word at found next)) (from-bytes (at + 1) 0 commands words rest are line later)
-    (either (byte == 35) comment (behind_word at found next) (from-bytes (at + 1) (position_or_len ends_line rest) commands words rest are line later)
-    (behind at found next (next-bytes (length commands) (length words) (byte ∷ rest) bytes)
+    (either (parts_words byte) blank (cond (byte == 35) comment (after_word at found next)) (from-bytes (at + 1) 0 commands words rest are line later)
+    (either (byte == 35) comment (after_word at found next) (from-bytes (at + 1) (position_or_len ends_line rest) commands words rest are line later)
+    (following at found next (next-bytes (length commands) (length words) (byte ∷ rest) bytes)
     (λ word text. from-bytes (at + 1) (word.size - 1) commands (words ++ word.text ∷ []) rest are (All-push AreBytes words word.text line text) later))))
 
 pub commands-bytes : (script : List ℕ) → AreBytes script → AllBytes (commands_of script)

@@ -42,11 +42,11 @@ at-blank script here at commands words within is other blank =
     let passes : parts_words (get_or script at 0) ≡ true = ap parts_words (sym same) ∙ blank in
     rw (front script at within) (rw ends (rw passes refl))
 
-pub at-comment : (script here behind : List ℕ) (at size : ℕ) (commands : List (List (List ℕ))) (words : List (List ℕ)) → at < length script
-    → here ≡ drop at script → behind ≡ drop (at + 1) script → get_or here 0 0 ≡ 35 → size ≡ position_or_len ends_line behind
+pub at-comment : (script here following : List ℕ) (at size : ℕ) (commands : List (List (List ℕ))) (words : List (List ℕ)) → at < length script
+    → here ≡ drop at script → following ≡ drop (at + 1) script → get_or here 0 0 ≡ 35 → size ≡ position_or_len ends_line following
     → commands_from at 0 commands words (drop at script) ≡ commands_from (at + (1 + size)) 0 commands words (drop (at + (1 + size)) script)
 unfolding commands_from
-at-comment script here behind at size commands words within is later begins size_is =
+at-comment script here following at size commands words within is later begins size_is =
     let byte : get_or script at 0 ≡ 35 = sym (first-byte script here at within is) ∙ begins in
     let moved : at + 1 + size ≡ at + (1 + size) = omega arith in
     let same : position_or_len ends_line (drop (at + 1) script) ≡ size = ap (position_or_len ends_line) (sym later) ∙ sym size_is in
@@ -104,8 +104,8 @@ at-end script at commands words past = rw (drop_all at script past) refl
 pub rest_is : (script : List ℕ) (at : ℕ) → take (length script - at) (drop at script) ≡ drop at script
 rest_is script at = take_rest script at
 
-pub behind_is : (script : List ℕ) (at : ℕ)
+pub after_is : (script : List ℕ) (at : ℕ)
     → take (length (take (length script - at) (drop at script)) - 1) (drop 1 (take (length script - at) (drop at script))) ≡ drop (at + 1) script
-behind_is script at =
+after_is script at =
     let here = rest_is script at in
     ap (λ (l : List ℕ). take (length l - 1) (drop 1 l)) here ∙ rest_is (drop at script) 1 ∙ drop-drop 1 at script

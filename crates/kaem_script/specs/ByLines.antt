@@ -8,26 +8,26 @@ use Rattle.kaem_script.specs.Script.{Commands, ends_line, ends_or_begins, is_wro
 
 -- ---- a word, with which this rest of its line begins
 
--- what a word says, and what of its line stands behind it
+-- what a word says, and what of its line stands after it
 pub record WordOfLine : Type 0 where
   pub text : List ℕ
-  pub behind : List ℕ
+  pub following : List ℕ
 
 -- a plain word ends before the next blank, tab or CR, or with the line
 unfoldable pub plain_of : List ℕ → Result WordOfLine ScriptFault
 plain_of line =
     if list_any is_wrong (before_first parts_words line) then Err BadWord
-    else Ok (record { text = before_first parts_words line; behind = drop (position_or_len parts_words line) line })
+    else Ok (record { text = before_first parts_words line; following = drop (position_or_len parts_words line) line })
 
 abbrev pub is_double_quote : ℕ → Bool
 is_double_quote byte = byte == 34
 
--- a quoted word, of which this stands behind the opening quote, ends at the next quote, which ends the line or has a blank, tab or CR behind it
+-- a quoted word, of which this stands after the opening quote, ends at the next quote, which ends the line or has a blank, tab or CR after it
 unfoldable pub quoted_of : List ℕ → Result WordOfLine ScriptFault
 quoted_of line =
     if not (list_any is_double_quote line) then Err OpenQuote
     else (if ends_or_begins parts_words (after_first is_double_quote line) && not (list_any (λ byte. byte == 0) (before_first is_double_quote line))
-    then Ok (record { text = before_first is_double_quote line; behind = after_first is_double_quote line }) else Err BadWord)
+    then Ok (record { text = before_first is_double_quote line; following = after_first is_double_quote line }) else Err BadWord)
 
 abbrev pub read_of : List ℕ → Result WordOfLine ScriptFault
 read_of [] = plain_of []
@@ -46,8 +46,8 @@ fitting_of first (Ok word) =
 abbrev pub LineWords : Type 0
 LineWords = Result (List (List ℕ)) (ScriptFault × ℕ)
 
-abbrev pub behind_blanks : List ℕ → List ℕ
-behind_blanks line = drop (prefix_len parts_words line) line
+abbrev pub after_blanks : List ℕ → List ℕ
+after_blanks line = drop (prefix_len parts_words line) line
 
 -- no word follows at the end of a line and at a comment
 abbrev pub unless_over : {A : Type 0} → A → (List ℕ → A) → List ℕ → A
@@ -58,15 +58,15 @@ abbrev pub and_word : ℕ → Result WordOfLine ScriptFault → (WordOfLine → 
 and_word at (Err fault) next = Err (fault, at)
 and_word at (Ok word) next = next word
 
--- the words of a line from here to its end, which stands at this offset, behind the words before them: so many more may come. The first word
+-- the words of a line from here to its end, which stands at this offset, after the words before them: so many more may come. The first word
 -- begins a command, and a script has at most 4,096 of them
 unfoldable pub words_of_line : ℕ → ℕ → ℕ → List (List ℕ) → List ℕ → LineWords
-words_of_line zero commands end words line = unless_over (Ok words) (λ here. Err (TooManyWords, end - length here)) (behind_blanks line)
+words_of_line zero commands end words line = unless_over (Ok words) (λ here. Err (TooManyWords, end - length here)) (after_blanks line)
 words_of_line (suc more) commands end words line =
     unless_over (Ok words) (λ here.
     if length words == 0 && commands == most_commands then Err (TooMany, end - length here)
     else and_word (end - length here) (fitting_of (length words == 0) (read_of here)) (λ word.
-    words_of_line more commands end (words ++ word.text ∷ []) word.behind)) (behind_blanks line)
+    words_of_line more commands end (words ++ word.text ∷ []) word.following)) (after_blanks line)
 
 -- ---- all lines
 
@@ -74,7 +74,7 @@ abbrev pub and_words : LineWords → (List (List ℕ) → Commands) → Commands
 and_words (Err fault) next = Err fault
 and_words (Ok words) next = next words
 
--- the commands of these lines, the first of which begins at this offset, behind the commands before them
+-- the commands of these lines, the first of which begins at this offset, after the commands before them
 unfoldable pub commands_of_lines : ℕ → List (List (List ℕ)) → List (List ℕ) → Commands
 commands_of_lines at commands [] = Ok commands
 commands_of_lines at commands (line ∷ lines) =

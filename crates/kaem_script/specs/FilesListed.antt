@@ -4,8 +4,8 @@ use Rattle.std.specs.FinMap as map_of
 use Rattle.mem_files.specs.World.{World}
 use Rattle.mem_files.specs.Calls.{content_at, first_world, placed}
 use Rattle.mem_files.specs.Names.{is_stripped_name, stripped}
-use Rattle.mem_files.specs.declared.slot.PlaceRefusal.{PlaceRefusal}
-use Rattle.mem_files.specs.declared.slot.PlaceRefusal.TheVariants.{OutOfMemory}
+use Rattle.mem_files.specs.declared.open_file.PlaceRefusal.{PlaceRefusal}
+use Rattle.mem_files.specs.declared.open_file.PlaceRefusal.TheVariants.{OutOfMemory}
 
 -- the names, without the `./` that they begin with, in the order of the list; and the files, which are the world of the first command
 pub record FilesListed : Type 0 where

@@ -59,7 +59,7 @@ between_quotes text closing =
     then Ok (record { text = text; size = length text + 2 }) else Err BadWord)
     else Err OpenQuote
 
--- behind an opening quote
+-- after an opening quote
 unfoldable pub quoted_word : List ℕ → Result ScriptWord ScriptFault
 quoted_word rest = between_quotes (take (position_or_len ends_quoted rest) rest) (drop (position_or_len ends_quoted rest) rest)
 
@@ -100,9 +100,9 @@ next_word commands words here =
 abbrev pub Commands : Type 0
 Commands = Result (List (List (List ℕ))) (ScriptFault × ℕ)
 
-abbrev pub behind_word : ℕ → Result ScriptWord ScriptFault → (ScriptWord → Commands) → Commands
-behind_word at (Err fault) next = Err (fault, at)
-behind_word at (Ok word) next = next word
+abbrev pub after_word : ℕ → Result ScriptWord ScriptFault → (ScriptWord → Commands) → Commands
+after_word at (Err fault) next = Err (fault, at)
+after_word at (Ok word) next = next word
 
 -- the commands of a script of which this stands from an offset on, the first bytes of it already read, after the commands before this line
 -- and the words before it in the line
@@ -113,7 +113,7 @@ commands_from at zero commands words (byte ∷ rest) =
     if ends_line byte then commands_from (at + 1) 0 (with_line commands words) [] rest
     else (if parts_words byte then commands_from (at + 1) 0 commands words rest
     else (if byte == 35 then commands_from (at + 1) (position_or_len ends_line rest) commands words rest
-    else behind_word at (next_word (length commands) (length words) (byte ∷ rest))
+    else after_word at (next_word (length commands) (length words) (byte ∷ rest))
     (λ word. commands_from (at + 1) (word.size - 1) commands (words ++ word.text ∷ []) rest)))
 
 -- the commands of a script, each with its words in order; or the first fault from left to right, with the offset of its word's first byte
@@ -129,12 +129,12 @@ Reads meant (Err OutOfMemory) = Unit {0}
 -- ---- a script that was read
 
 -- the digest of its bytes, and its commands
-pub record Said : Type 0 where
+pub record RecipeContents : Type 0 where
   pub digest : Digest
   pub commands : List (List (List ℕ))
 
 -- what a call answered: what a script says, or its first fault, or memory was wanting
-abbrev pub ReadsScript : List ℕ → Result Said ScriptRefusal → Type 0
+abbrev pub ReadsScript : List ℕ → Result RecipeContents ScriptRefusal → Type 0
 ReadsScript script (Ok said) = (commands_of script ≡ Ok said.commands) × (said.digest.0 ≡ sha256 script)
 ReadsScript script (Err (At fault at)) = commands_of script ≡ Err (fault, at)
 ReadsScript script (Err OutOfMemory) = Unit {0}

@@ -26,7 +26,7 @@ const HEAP: u64 = 536_870_912;
 pub(crate) type Exited = (CommandLine, Files);
 
 /// A command that stopped its script: why, and at which step.
-pub(crate) type Stop = (CommandCause, u64);
+pub(crate) type CommandStop = (CommandCause, u64);
 
 /// Runs a command over the files that are there, within so many steps.
 pub(crate) fn run_command(
@@ -34,7 +34,7 @@ pub(crate) fn run_command(
     present: Present<'_>,
     words: &Command,
     most: u64,
-) -> Result<Result<Exited, Stop>, OutOfMemory>
+) -> Result<Result<Exited, CommandStop>, OutOfMemory>
     requires words { IsCommand words.now }
     requires some { 1 ≤ most }
     requires few { most ≤ 2 ^ 48 }
@@ -74,7 +74,7 @@ fn run_over(
     guest: Guest<RunRam>,
     present: Present<'_>,
     most: u64,
-) -> Result<Result<Exited, Stop>, OutOfMemory>
+) -> Result<Result<Exited, CommandStop>, OutOfMemory>
     requires fresh { guest.steps ≡ 0 }
     requires some { 1 ≤ most }
     requires few { most ≤ 2 ^ 48 }
@@ -118,7 +118,7 @@ fn start(
 }
 
 /// Runs a guest to its exit with 0, within so many steps.
-fn run(guest: Guest<RunRam>, most: u64) -> Result<Result<Exited, Stop>, OutOfMemory>
+fn run(guest: Guest<RunRam>, most: u64) -> Result<Result<Exited, CommandStop>, OutOfMemory>
     requires fresh { guest.steps ≡ 0 }
     requires some { 1 ≤ most }
     requires few { most ≤ 2 ^ 48 }
@@ -132,7 +132,7 @@ fn run(guest: Guest<RunRam>, most: u64) -> Result<Result<Exited, Stop>, OutOfMem
 }
 
 /// Runs a guest up to its exit with 0, within so many steps: the line of the command.
-fn exit(guest: &mut Guest<RunRam>, most: u64) -> Result<Result<CommandLine, Stop>, OutOfMemory>
+fn exit(guest: &mut Guest<RunRam>, most: u64) -> Result<Result<CommandLine, CommandStop>, OutOfMemory>
     requires fresh { guest.old.steps ≡ 0 }
     requires some { 1 ≤ most }
     requires few { most ≤ 2 ^ 48 }

@@ -5,7 +5,7 @@ ghost use Rattle.kaem_script.specs.Inside.Commands.{Folds, HasLines};
 ghost use Rattle.kaem_script.specs.Kept.{AreCommands};
 ghost use Rattle.std.specs.Prelude.{◌≤◌, ◌^◌, IfOk, length};
 
-use crate::command::{Stop, run_command};
+use crate::command::{CommandStop, run_command};
 use crate::present::Present;
 use crate::reading::Command;
 use ddc_base::OutOfMemory;
@@ -19,7 +19,7 @@ pub(crate) enum Folding<'a> {
     /// All of them ran, with these lines; the files that are there then.
     RanAll(CommandLines, Present<'a>),
     /// The command of this number, from 1, stopped the script.
-    Stopped(u32, Stop),
+    Stopped(u32, CommandStop),
 }
 
 /// Runs commands over one world of files, each within so many steps.

@@ -9,7 +9,7 @@ use ddc_base::{Bytes, OutOfMemory};
 use mem_files::{Files, PlaceRefusal};
 use std::alloc::Global;
 
-/// The files that are there: those that the script was given, which are lent, or those that the command before left.
+/// The files that are there: those that the script was given, which are borrowed, or those that the command before left.
 #[derive(Drop)]
 pub(crate) enum Present<'a> {
     Given(&'a Files),

@@ -6,7 +6,7 @@ ghost use Rattle.kaem_script.specs.Fold.{by_first_end, command};
 ghost use Rattle.kaem_script.specs.Inside.Commands.{renewed, world_in};
 ghost use Rattle.kaem_script.specs.Inside.Replays.{Judged, or_no_run};
 ghost use Rattle.kaem_script.specs.Kept.{IsCommand};
-ghost use Rattle.kaem_script.specs.declared.replay.Stop.TheVariants.{OutOfMemory};
+ghost use Rattle.kaem_script.specs.declared.replay.ReplayStop.TheVariants.{OutOfMemory};
 ghost use Rattle.std.specs.Prelude.{◌≡◌, ◌≤◌, ◌^◌};
 
 use crate::command::begun;
@@ -23,17 +23,17 @@ const MOST_STEPS: u64 = 1 << 48;
 
 /// What stops the replay of a command.
 #[derive(Clone, Copy)]
-pub(crate) enum Stop {
+pub(crate) enum ReplayStop {
     /// This part is not true.
     Refuted(ScriptPart),
     OutOfMemory,
 }
 
-impl From<ddc_base::OutOfMemory> for Stop {
+impl From<ddc_base::OutOfMemory> for ReplayStop {
     ghost from_gives = { λ _ stop. stop ≡ OutOfMemory };
 
-    fn from(_error: ddc_base::OutOfMemory) -> Stop {
-        Stop::OutOfMemory
+    fn from(_error: ddc_base::OutOfMemory) -> ReplayStop {
+        ReplayStop::OutOfMemory
     }
 }
 
@@ -44,13 +44,13 @@ pub(crate) fn replay(
     present: Present<'_>,
     words: &Command,
     line: &CommandLine,
-) -> Result<Files, Stop>
+) -> Result<Files, ReplayStop>
     requires { IsCommand words.now }
     ensures { Judged (λ files. files) (replayed_command (world_in present.entry) words.now line.now) result }
 {
     let guest = exited(alloc, present, words, line.steps)?;
     if !says_streams(line, guest.files()) {
-        return Err(Stop::Refuted(ScriptPart::Streams));
+        return Err(ReplayStop::Refuted(ScriptPart::Streams));
     }
     Ok(guest.into_files())
 }
@@ -62,14 +62,14 @@ fn exited(
     present: Present<'_>,
     words: &Command,
     step: u64,
-) -> Result<Guest<RunRam>, Stop>
+) -> Result<Guest<RunRam>, ReplayStop>
     requires { IsCommand words.now }
     ensures { Judged (λ guest. guest.world) (or_no_run (left_at_step (world_in present.entry) words.now step)) result }
 {
     if 1 <= step && step <= MOST_STEPS {
         run_command(alloc, present, words, step)
     } else {
-        Err(Stop::Refuted(ScriptPart::Run))
+        Err(ReplayStop::Refuted(ScriptPart::Run))
     }
 }
 
@@ -79,7 +79,7 @@ fn run_command(
     present: Present<'_>,
     words: &Command,
     step: u64,
-) -> Result<Guest<RunRam>, Stop>
+) -> Result<Guest<RunRam>, ReplayStop>
     requires words { IsCommand words.now }
     requires some { 1 ≤ step }
     requires few { step ≤ 2 ^ 48 }
@@ -87,7 +87,7 @@ fn run_command(
 {
     match begun(alloc, files_in(&present), words)? {
         Ok(guest) => run_over(alloc, guest, present, step),
-        Err(_) => Err(Stop::Refuted(ScriptPart::Run)),
+        Err(_) => Err(ReplayStop::Refuted(ScriptPart::Run)),
     }
 }
 
@@ -97,7 +97,7 @@ fn run_over(
     guest: Guest<RunRam>,
     present: Present<'_>,
     step: u64,
-) -> Result<Guest<RunRam>, Stop>
+) -> Result<Guest<RunRam>, ReplayStop>
     requires fresh { guest.steps ≡ 0 }
     requires some { 1 ≤ step }
     requires few { step ≤ 2 ^ 48 }
@@ -108,7 +108,7 @@ fn run_over(
 }
 
 /// Runs a fresh guest for so many steps, the last of which has to be its exit with 0.
-fn run_to(guest: Guest<RunRam>, step: u64) -> Result<Guest<RunRam>, Stop>
+fn run_to(guest: Guest<RunRam>, step: u64) -> Result<Guest<RunRam>, ReplayStop>
     requires fresh { guest.steps ≡ 0 }
     requires some { 1 ≤ step }
     requires few { step ≤ 2 ^ 48 }
@@ -120,7 +120,7 @@ fn run_to(guest: Guest<RunRam>, step: u64) -> Result<Guest<RunRam>, Stop>
 }
 
 /// Runs a fresh guest up to its exit with 0 at exactly this step.
-fn exit_at(guest: &mut Guest<RunRam>, step: u64) -> Result<(), Stop>
+fn exit_at(guest: &mut Guest<RunRam>, step: u64) -> Result<(), ReplayStop>
     requires fresh { guest.old.steps ≡ 0 }
     requires some { 1 ≤ step }
     requires few { step ≤ 2 ^ 48 }
@@ -131,14 +131,14 @@ fn exit_at(guest: &mut Guest<RunRam>, step: u64) -> Result<(), Stop>
             if guest.steps() + 1 == step {
                 Ok(())
             } else {
-                Err(Stop::Refuted(ScriptPart::Run))
+                Err(ReplayStop::Refuted(ScriptPart::Run))
             }
         }
-        RunEnd::Exited(_) => Err(Stop::Refuted(ScriptPart::Run)),
-        RunEnd::Trapped(_) => Err(Stop::Refuted(ScriptPart::Run)),
-        RunEnd::UnknownCall(_) => Err(Stop::Refuted(ScriptPart::Run)),
-        RunEnd::Spent => Err(Stop::Refuted(ScriptPart::Run)),
-        RunEnd::OutOfMemory => Err(Stop::OutOfMemory),
+        RunEnd::Exited(_) => Err(ReplayStop::Refuted(ScriptPart::Run)),
+        RunEnd::Trapped(_) => Err(ReplayStop::Refuted(ScriptPart::Run)),
+        RunEnd::UnknownCall(_) => Err(ReplayStop::Refuted(ScriptPart::Run)),
+        RunEnd::Spent => Err(ReplayStop::Refuted(ScriptPart::Run)),
+        RunEnd::OutOfMemory => Err(ReplayStop::OutOfMemory),
     }
 }
 

@@ -19,9 +19,9 @@ pub struct Script {
 
 impl Model for Script {
     ghost use Rattle.kaem_script.specs.Kept.{IsScript};
-    ghost use Rattle.kaem_script.specs.Script.{Said};
+    ghost use Rattle.kaem_script.specs.Script.{RecipeContents};
 
-    ghost Value = { Said };
+    ghost Value = { RecipeContents };
 
     ghost view = { λ s. record { digest = s.digest; commands = s.commands } };
 

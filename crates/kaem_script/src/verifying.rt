@@ -10,7 +10,7 @@ ghost use Rattle.std.specs.Prelude.{◌≡◌, ◌≤◌, IfOk, length};
 use crate::files::FileList;
 use crate::present::{Present, bytes_of, files_in};
 use crate::reading::Command;
-use crate::replay::{Stop, replay};
+use crate::replay::{ReplayStop, replay};
 use crate::script::Script;
 use crate::verdict::{ScriptPart, ScriptVerdict};
 use ddc_base::{Bytes, OutOfMemory};
@@ -20,7 +20,7 @@ use report::script::{CommandLine, ScriptReport};
 use std::alloc::Global;
 
 /// A part that is not true, and its place.
-type Fault = (ScriptPart, u32);
+type UntruePart = (ScriptPart, u32);
 
 /// Replays a script's report, which it doesn't believe.
 ///
@@ -96,7 +96,7 @@ fn wrong_command(
     commands: &[Command],
     files: &Files,
     report: &ScriptReport,
-) -> Result<Option<Fault>, OutOfMemory>
+) -> Result<Option<UntruePart>, OutOfMemory>
     requires { AreCommands commands.now }
     ensures { IfOk result (λ fault. fault ≡ commands_fault (left_fault report.now.left) 1 files.now commands.now report.now.commands) }
 {
@@ -110,8 +110,8 @@ fn wrong_command(
             [line, others @ ..] => {
                 match replay(alloc, present, words, line) {
                     Ok(left) => present = Present::Left(left),
-                    Err(Stop::Refuted(part)) => return Ok(Some((part, number))),
-                    Err(Stop::OutOfMemory) => return Err(OutOfMemory),
+                    Err(ReplayStop::Refuted(part)) => return Ok(Some((part, number))),
+                    Err(ReplayStop::OutOfMemory) => return Err(OutOfMemory),
                 }
                 ahead = later;
                 lines = others;
@@ -127,7 +127,7 @@ fn wrong_command(
 }
 
 /// The fault of the files at the end, if there is one.
-fn wrong_left(files: &Files, lines: &[LeftLine]) -> Option<Fault>
+fn wrong_left(files: &Files, lines: &[LeftLine]) -> Option<UntruePart>
     ensures { result ≡ left_fault lines.now files.now }
 {
     if says_left(files, lines) {

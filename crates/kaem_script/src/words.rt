@@ -101,7 +101,7 @@ fn plain_word(here: &[u8]) -> Result<ScriptWord<'_>, ScriptFault>
     })
 }
 
-/// A quoted word, of which this stands behind its opening quote.
+/// A quoted word, of which this stands after its opening quote.
 #[tactic(auto, unfolding(crate::specs::Script::quoted_word))]
 fn quoted_word(rest: &[u8]) -> Result<ScriptWord<'_>, ScriptFault>
     ensures value { result ≡ quoted_word rest.now }
@@ -109,8 +109,8 @@ fn quoted_word(rest: &[u8]) -> Result<ScriptWord<'_>, ScriptFault>
 {
     let (text, closing) = rest.split_at(until_quote(rest));
     match closing {
-        [b'"', behind @ ..] => {
-            if !ends_word_here(behind) || text.contains(&0) {
+        [b'"', following @ ..] => {
+            if !ends_word_here(following) || text.contains(&0) {
                 return Err(ScriptFault::BadWord);
             }
             Ok(ScriptWord {

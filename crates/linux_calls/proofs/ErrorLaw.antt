@@ -5,12 +5,12 @@ use Rattle.std.specs.FinMap as map
 use Rattle.std.specs.Int.{cast_signed, w64}
 use Rattle.paged_mem.specs.Memory.{bytes_at, maps}
 use Rattle.mem_files.specs.World.{World}
-use Rattle.mem_files.specs.declared.slot.Access.{Access}
-use Rattle.mem_files.specs.declared.slot.Slot.{Slot}
-use Rattle.mem_files.specs.declared.slot.Slot.TheVariants.{Input, Stream1, Stream2, File}
+use Rattle.mem_files.specs.declared.open_file.Access.{Access}
+use Rattle.mem_files.specs.declared.open_file.OpenFile.{OpenFile}
+use Rattle.mem_files.specs.declared.open_file.OpenFile.TheVariants.{Input, Stream1, Stream2, File}
 use Rattle.mem_files.specs.Limits.{most_descriptors, most_names}
 use Rattle.mem_files.specs.Linux.{o_accmode, o_creat, o_excl}
-use Rattle.mem_files.specs.Calls.{removed, removed_at, opened, opened_at, closed, closed_at, sought, sought_at, with_cursor, ready, write_place, written, written_if, fits, has}
+use Rattle.mem_files.specs.Calls.{removed, removed_at, opened, opened_at, closed, closed_at, sought, sought_at, with_file_offset, ready, write_place, written, written_if, fits, has}
 use Rattle.linux_calls.specs.Linux.{sys_unlinkat, sys_faccessat, sys_fchmodat, sys_openat, sys_close, sys_lseek, sys_read, sys_write, sys_exit, sys_exit_group, sys_brk}
 use Rattle.linux_calls.specs.Paths.{low, name_in_directory, name_at, in_directory}
 use Rattle.linux_calls.specs.Calls.{CallState, CallOutcome, exits, is_unknown, back, answering, unlinked, accessed, mode_changed, opened_in, opened_as, read_at, written_from, written_at, moved_break, syscall}
@@ -36,29 +36,29 @@ leaves-removed w name = at (map.get w.names name)
     at (Some number) = λ e. cc
 
 leaves-closed : (w : World) (fd : ℕ) → Leaves w (closed w fd)
-leaves-closed w fd = at (map.get w.slots fd)
+leaves-closed w fd = at (map.get w.open_files fd)
   where
-    at : (o : Option Slot) → Leaves w (closed_at w fd o)
+    at : (o : Option OpenFile) → Leaves w (closed_at w fd o)
     at None = λ e. refl
-    at (Some slot) = λ e. cc
+    at (Some open_file) = λ e. cc
 
 leaves-sought : (w : World) (fd : ℕ) (offset : ℤ) (whence : ℕ) → Leaves w (sought w fd offset whence)
-leaves-sought w fd offset whence = at (map.get w.slots fd)
+leaves-sought w fd offset whence = at (map.get w.open_files fd)
   where
-    to : (number : ℕ) (access : Access) (o : Option ℕ) → Leaves w (with_cursor w fd number access o)
+    to : (number : ℕ) (access : Access) (o : Option ℕ) → Leaves w (with_file_offset w fd number access o)
     to number access None = λ e. refl
-    to number access (Some cursor) = λ e. cc
+    to number access (Some file_offset) = λ e. cc
 
-    at : (o : Option Slot) → Leaves w (sought_at w fd offset whence o)
+    at : (o : Option OpenFile) → Leaves w (sought_at w fd offset whence o)
     at None = λ e. refl
     at (Some Input) = λ e. refl
     at (Some Stream1) = λ e. refl
     at (Some Stream2) = λ e. refl
-    at (Some (File number cursor access)) = to number access _
+    at (Some (File number file_offset access)) = to number access _
 
 leaves-opened : (w : World) (name : List ℕ) (flags : ℕ) → Leaves w (opened w name flags)
 leaves-opened w name flags =
-    leaves-if w (bit_and flags o_accmode == o_accmode) _ _ (λ e. refl) (leaves-if w (nat_le most_descriptors (map.len w.slots)) _ _ (λ e. refl) (at (map.get w.names name)))
+    leaves-if w (bit_and flags o_accmode == o_accmode) _ _ (λ e. refl) (leaves-if w (nat_le most_descriptors (map.len w.open_files)) _ _ (λ e. refl) (at (map.get w.names name)))
   where
     at : (o : Option ℕ) → Leaves w (opened_at w name flags o)
     at (Some number) = leaves-if w (has flags o_creat && has flags o_excl) _ _ (λ e. refl) (λ e. cc)
@@ -144,10 +144,10 @@ module _ (number : ℕ) (a : List ℕ) (s : CallState) where
   after_write-leaves = outcome-if s (number == sys_exit) (exits (arg 0 % 256)) (after_exit) (leaves-exit s (arg 0 % 256)) (after_exit-leaves)
 
   abbrev after_read : CallOutcome
-  after_read = cond (number == sys_write) (written_at s (low (arg 0)) (arg 1) (arg 2) (write_place w (map.get w.slots (low (arg 0))))) (after_write)
+  after_read = cond (number == sys_write) (written_at s (low (arg 0)) (arg 1) (arg 2) (write_place w (map.get w.open_files (low (arg 0))))) (after_write)
 
   after_read-leaves : LeavesOnError s after_read
-  after_read-leaves = outcome-if s (number == sys_write) (written_at s (low (arg 0)) (arg 1) (arg 2) (write_place w (map.get w.slots (low (arg 0))))) (after_write) (leaves-written_at s (low (arg 0)) (arg 1) (arg 2) (write_place w (map.get w.slots (low (arg 0))))) (after_write-leaves)
+  after_read-leaves = outcome-if s (number == sys_write) (written_at s (low (arg 0)) (arg 1) (arg 2) (write_place w (map.get w.open_files (low (arg 0))))) (after_write) (leaves-written_at s (low (arg 0)) (arg 1) (arg 2) (write_place w (map.get w.open_files (low (arg 0))))) (after_write-leaves)
 
   abbrev after_lseek : CallOutcome
   after_lseek = cond (number == sys_read) (read_at s (low (arg 0)) (arg 1) (ready w (low (arg 0)) (arg 2))) (after_read)

@@ -11,7 +11,7 @@ use Rattle.paged_mem.proofs.Maps.{get-without_other}
 use Rattle.mem_files.specs.World.{World}
 use Rattle.mem_files.specs.Calls.{write_place, ready}
 use Rattle.linux_calls.specs.declared.Heap.{Heap}
-use Rattle.linux_calls.specs.HeapOf.{is_beside_heap, is_outside, IsHeapOf, resized}
+use Rattle.linux_calls.specs.HeapOf.{is_apart_from_heap, is_outside, IsHeapOf, resized}
 use Rattle.linux_calls.specs.Calls.{CallOutcome, CallState, read_at, moved_break, syscall, written_at, written_from}
 use Rattle.linux_calls.specs.Calls as call
 use Rattle.linux_calls.specs.Paths.{low}
@@ -24,7 +24,7 @@ pub record Keeps (old new : CallState) : Type 0 where
   pub first : new.heap.first ≡ old.heap.first
   pub limit : new.heap.limit ≡ old.heap.limit
   pub heap_of : IsHeapOf new.memory new.heap
-  pub beside : (q : ℕ) → is_beside_heap old.heap q ≡ true → is_some (get new.memory q) ≡ is_some (get old.memory q)
+  pub clear : (q : ℕ) → is_apart_from_heap old.heap q ≡ true → is_some (get new.memory q) ≡ is_some (get old.memory q)
 
 abbrev pub OutcomeKeeps : CallState → CallOutcome → Type 0
 OutcomeKeeps old (call.goes answer new) = Keeps old new
@@ -46,10 +46,10 @@ chosen_by s false x y kx ky = ky refl
 
 -- other files
 files_alone : (s : CallState) (files : World) (answer : Result ℕ ℕ) → IsHeapOf s.memory s.heap → Kept s (call.goes answer (record s { files = files }))
-files_alone s files answer is = record { is = record { first = refl; limit = refl; heap_of = is; beside = λ q apart. refl } }
+files_alone s files answer is = record { is = record { first = refl; limit = refl; heap_of = is; clear = λ q apart. refl } }
 
 nothing : (s : CallState) (answer : Result ℕ ℕ) → IsHeapOf s.memory s.heap → Kept s (call.goes answer s)
-nothing s answer is = record { is = record { first = refl; limit = refl; heap_of = is; beside = λ q apart. refl } }
+nothing s answer is = record { is = record { first = refl; limit = refl; heap_of = is; clear = λ q apart. refl } }
 
 -- read moves bytes to where bytes are
 read_keeps : (s : CallState) (fd buffer : ℕ) (given : Result (List ℕ) ℕ) → IsHeapOf s.memory s.heap → Kept s (read_at s fd buffer given)
@@ -62,7 +62,7 @@ read_keeps s fd buffer (Ok bytes) is =
         first = refl;
         limit = refl;
         heap_of = IsHeapOf-same s.memory (with_bytes s.memory buffer bytes) s.heap (same_after_write s.memory buffer bytes there) is;
-        beside = λ q apart. same_after_write s.memory buffer bytes there q;
+        clear = λ q apart. same_after_write s.memory buffer bytes there q;
       };
     })
     (λ gone. nothing s _ is))
@@ -80,17 +80,17 @@ write_keeps s fd buffer count (Some place) is =
 pub inside : (heap : Heap) (to : ℕ) → is_outside heap to ≡ false → (heap.first ≤ to) × (to ≤ heap.first + heap.limit)
 inside heap to is = (grind (arith, nat_tests), grind (arith, nat_tests))
 
-beside_is : (heap : Heap) (q : ℕ) → is_beside_heap heap q ≡ true → (q < heap.first) ⊎ (page_up (heap.first + heap.limit) ≤ q)
-beside_is heap q is =
+apart_is : (heap : Heap) (q : ℕ) → is_apart_from_heap heap q ≡ true → (q < heap.first) ⊎ (page_up (heap.first + heap.limit) ≤ q)
+apart_is heap q is =
     elim (cases_lt q heap.first) [
       | inl below ↦ inl below
       | inr from ↦ inr (grind (arith, nat_tests))
     ]
 
-resized_beside : (m : Memory) (heap : Heap) (to q : ℕ) → IsHeapOf m heap → heap.first ≤ to → to ≤ heap.first + heap.limit
+resized_apart : (m : Memory) (heap : Heap) (to q : ℕ) → IsHeapOf m heap → heap.first ≤ to → to ≤ heap.first + heap.limit
     → (q < heap.first) ⊎ (page_up (heap.first + heap.limit) ≤ q)
     → get (resized m (page_up heap.now) (page_up to)) q ≡ get m q
-resized_beside m heap to q is from high apart =
+resized_apart m heap to q is from high apart =
     let cases : (b : Bool) → nat_lt (page_up heap.now) (page_up to) ≡ b
     → get (cond b (with_bytes m (page_up heap.now) (zeros (page_up to - page_up heap.now))) (without m (page_up to) (page_up heap.now - page_up to))) q ≡ get m q =
     λ b. elim b as (λ v. nat_lt (page_up heap.now) (page_up to) ≡ v
@@ -115,12 +115,12 @@ break_keeps s to is =
     }) in
     let cases : (b : Bool) → is_outside s.heap to ≡ b → P b =
     λ b. elim b as (λ v. is_outside s.heap to ≡ v → P v) [
-      | true ↦ (λ was. record { first = refl; limit = refl; heap_of = is; beside = λ q apart. refl })
+      | true ↦ (λ was. record { first = refl; limit = refl; heap_of = is; clear = λ q apart. refl })
       | false ↦ (λ was. record {
         first = refl;
         limit = refl;
         heap_of = kept_resized s.memory s.heap is to ((inside s.heap to was).0) ((inside s.heap to was).1);
-        beside = λ q apart. ap is_some (resized_beside s.memory s.heap to q is ((inside s.heap to was).0) ((inside s.heap to was).1) (beside_is s.heap q apart));
+        clear = λ q apart. ap is_some (resized_apart s.memory s.heap to q is ((inside s.heap to was).0) ((inside s.heap to was).1) (apart_is s.heap q apart));
       })
     ] in
     record { is = cases (is_outside s.heap to) refl }
@@ -142,7 +142,7 @@ kept number a s is =
     (chosen s (number == sys_close) _ _ (files_alone s _ _ is)
     (chosen s (number == sys_lseek) _ _ (files_alone s _ _ is)
     (chosen s (number == sys_read) _ _ (read_keeps s (low (slice_index a 0)) (slice_index a 1) (ready s.files (low (slice_index a 0)) (slice_index a 2)) is)
-    (chosen s (number == sys_write) _ _ (write_keeps s (low (slice_index a 0)) (slice_index a 1) (slice_index a 2) (write_place s.files (get s.files.slots (low (slice_index a 0)))) is)
+    (chosen s (number == sys_write) _ _ (write_keeps s (low (slice_index a 0)) (slice_index a 1) (slice_index a 2) (write_place s.files (get s.files.open_files (low (slice_index a 0)))) is)
     (chosen s (number == sys_exit) _ _ (ends_run s (slice_index a 0 % 256))
     (chosen s (number == sys_exit_group) _ _ (ends_run s (slice_index a 0 % 256))
     (chosen s (number == sys_brk) _ _ (break_keeps s (slice_index a 0) is) (is_none s number)))))))))))

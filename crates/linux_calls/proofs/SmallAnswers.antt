@@ -7,14 +7,14 @@ use Rattle.std.proofs.lemmas.Bool.Decides.{nat_tests}
 use Rattle.std.proofs.lemmas.List.{length-take, length-drop}
 use Rattle.paged_mem.specs.Memory.{Memory, IsWhole, bytes_at, maps}
 use Rattle.paged_mem.proofs.Maps.{get_in_bytes_at, length_of_bytes_at}
-use Rattle.mem_files.specs.declared.slot.Access.{Access}
-use Rattle.mem_files.specs.declared.slot.Slot.{Slot}
-use Rattle.mem_files.specs.declared.slot.Slot.TheVariants.{Input, Stream1, Stream2, File}
+use Rattle.mem_files.specs.declared.open_file.Access.{Access}
+use Rattle.mem_files.specs.declared.open_file.OpenFile.{OpenFile}
+use Rattle.mem_files.specs.declared.open_file.OpenFile.TheVariants.{Input, Stream1, Stream2, File}
 use Rattle.mem_files.specs.Access.{is_read}
 use Rattle.mem_files.specs.Limits.{most_descriptors, most_names}
 use Rattle.mem_files.specs.Linux.{ebadf, eexist, einval, emfile, enoent, enospc, o_accmode, o_creat, o_excl, o_trunc}
 use Rattle.mem_files.specs.World.{World, content_of, lowest_unused}
-use Rattle.mem_files.specs.Calls.{as_cursor, closed, emptied_if, has, opened, opened_at, ready, ready_at, removed, seek_base, sought, sought_at, with_cursor, with_descriptor, with_file, write_place, written}
+use Rattle.mem_files.specs.Calls.{as_file_offset, closed, emptied_if, has, opened, opened_at, ready, ready_at, removed, seek_base, sought, sought_at, with_file_offset, with_descriptor, with_file, write_place, written}
 use Rattle.mem_files.specs.Sound.{IsSound}
 use Rattle.mem_files.proofs.KeepingCalls.{content_small}
 use Rattle.mem_files.proofs.Maps.{lowest_unused-le-len}
@@ -70,15 +70,15 @@ mode-small : (w : World) (r : Result (List ℕ) ℕ) → Value (mode_changed w r
 mode-small w (Err errno) = an_error errno
 mode-small w (Ok name) = either (contains_key w.names name) _ _ (a_value 0 (omega arith)) (an_error enoent)
 
-descriptor-small : (w v : World) (number flags : ℕ) → IsSound w → len v.slots ≡ len w.slots → Value (with_descriptor v number flags).0
-descriptor-small w v number flags sound same = a_value (lowest_unused v.slots) (omega (arith, lowest_unused-le-len v.slots, sound.within.few_slots))
+descriptor-small : (w v : World) (number flags : ℕ) → IsSound w → len v.open_files ≡ len w.open_files → Value (with_descriptor v number flags).0
+descriptor-small w v number flags sound same = a_value (lowest_unused v.open_files) (omega (arith, lowest_unused-le-len v.open_files, sound.within.few_open_files))
 
 opened-small : (w : World) (name : List ℕ) (flags : ℕ) → IsSound w → Value (opened w name flags).0
 opened-small w name flags sound =
     either_pair (bit_and flags o_accmode == o_accmode) _ _ (an_error einval)
-    (either_pair (nat_le most_descriptors (len w.slots)) _ _ (an_error emfile) (at_name (get w.names name)))
+    (either_pair (nat_le most_descriptors (len w.open_files)) _ _ (an_error emfile) (at_name (get w.names name)))
   where
-    emptied : (b : Bool) (number : ℕ) → len (emptied_if b w number).slots ≡ len w.slots
+    emptied : (b : Bool) (number : ℕ) → len (emptied_if b w number).open_files ≡ len w.open_files
     emptied true number = refl
     emptied false number = refl
 
@@ -99,47 +99,47 @@ opened-as-small w dir flags (Ok name) sound = either_pair (bit_and (low flags) o
     inside_of (Ok other) = opened-small w other (low flags) sound
 
 sought-small : (w : World) (fd : ℕ) (offset : ℤ) (whence : ℕ) → Value (sought w fd offset whence).0
-sought-small w fd offset whence = at_slot (get w.slots fd)
+sought-small w fd offset whence = at_open_file (get w.open_files fd)
   where
-    at_cursor : (number : ℕ) (access : Access) (o : Option ℕ) → ((to : ℕ) → o ≡ Some to → to < 2 ^ 64) → Value (with_cursor w fd number access o).0
-    at_cursor number access None h = an_error einval
-    at_cursor number access (Some to) h = a_value to (h to refl)
+    at_file_offset : (number : ℕ) (access : Access) (o : Option ℕ) → ((to : ℕ) → o ≡ Some to → to < 2 ^ 64) → Value (with_file_offset w fd number access o).0
+    at_file_offset number access None h = an_error einval
+    at_file_offset number access (Some to) h = a_value to (h to refl)
 
-    cursor : (z : ℤ) (to : ℕ) → as_cursor z ≡ Some to → to < 2 ^ 64
-    cursor (negsuc n) to e = cc
-    cursor (pos n) to e = by_test (nat_lt n (2 ^ 63)) refl e
+    file_offset : (z : ℤ) (to : ℕ) → as_file_offset z ≡ Some to → to < 2 ^ 64
+    file_offset (negsuc n) to e = cc
+    file_offset (pos n) to e = by_test (nat_lt n (2 ^ 63)) refl e
       where
         by_test : (t : Bool) → nat_lt n (2 ^ 63) ≡ t → cond t (Some n) None ≡ Some to → to < 2 ^ 64
         by_test true was e = let same : n ≡ to = cc in let less : n < 2 ^ 63 = (grind (arith, nat_tests)) in omega arith
         by_test false was e = cc
 
-    from_base : (o : Option ℕ) (to : ℕ) → option_and_then (λ base. as_cursor (pos base +ℤ offset)) o ≡ Some to → to < 2 ^ 64
+    from_base : (o : Option ℕ) (to : ℕ) → option_and_then (λ base. as_file_offset (pos base +ℤ offset)) o ≡ Some to → to < 2 ^ 64
     from_base None to e = cc
-    from_base (Some base) to e = cursor (pos base +ℤ offset) to e
+    from_base (Some base) to e = file_offset (pos base +ℤ offset) to e
 
-    at_slot : (o : Option Slot) → Value (sought_at w fd offset whence o).0
-    at_slot None = an_error _
-    at_slot (Some Input) = an_error _
-    at_slot (Some Stream1) = an_error _
-    at_slot (Some Stream2) = an_error _
-    at_slot (Some (File number now access)) = at_cursor number access _ (from_base (seek_base whence now (length (content_of w number))))
+    at_open_file : (o : Option OpenFile) → Value (sought_at w fd offset whence o).0
+    at_open_file None = an_error _
+    at_open_file (Some Input) = an_error _
+    at_open_file (Some Stream1) = an_error _
+    at_open_file (Some Stream2) = an_error _
+    at_open_file (Some (File number now access)) = at_file_offset number access _ (from_base (seek_base whence now (length (content_of w number))))
 
 ready-small : (w : World) (fd count : ℕ) (bytes : List ℕ) → IsSound w → ready w fd count ≡ Ok bytes → length bytes < 2 ^ 64
-ready-small w fd count bytes sound e = at_slot (get w.slots fd) e
+ready-small w fd count bytes sound e = at_open_file (get w.open_files fd) e
   where
-    readable : (b : Bool) (number cursor : ℕ) → cond {A = Result (List ℕ) ℕ} b (Ok (take count (drop cursor (content_of w number)))) (Err ebadf) ≡ Ok bytes → length bytes < 2 ^ 64
-    readable true number cursor e =
-        let is : take count (drop cursor (content_of w number)) ≡ bytes = cc in
+    readable : (b : Bool) (number file_offset : ℕ) → cond {A = Result (List ℕ) ℕ} b (Ok (take count (drop file_offset (content_of w number)))) (Err ebadf) ≡ Ok bytes → length bytes < 2 ^ 64
+    readable true number file_offset e =
+        let is : take count (drop file_offset (content_of w number)) ≡ bytes = cc in
         let small = content_small w number (kept_of w sound) in
-        omega (arith, small, ap length is, length-take count (drop cursor (content_of w number)), length-drop cursor (content_of w number))
-    readable false number cursor e = cc
+        omega (arith, small, ap length is, length-take count (drop file_offset (content_of w number)), length-drop file_offset (content_of w number))
+    readable false number file_offset e = cc
 
-    at_slot : (o : Option Slot) → ready_at w count o ≡ Ok bytes → length bytes < 2 ^ 64
-    at_slot None e = cc
-    at_slot (Some Input) e = let none : [] ≡ bytes = cc in omega (arith, ap length none)
-    at_slot (Some Stream1) e = cc
-    at_slot (Some Stream2) e = cc
-    at_slot (Some (File number cursor access)) e = readable (is_read access) number cursor e
+    at_open_file : (o : Option OpenFile) → ready_at w count o ≡ Ok bytes → length bytes < 2 ^ 64
+    at_open_file None e = cc
+    at_open_file (Some Input) e = let none : [] ≡ bytes = cc in omega (arith, ap length none)
+    at_open_file (Some Stream1) e = cc
+    at_open_file (Some Stream2) e = cc
+    at_open_file (Some (File number file_offset access)) e = readable (is_read access) number file_offset e
 
 read-small : (s : CallState) (fd buffer count : ℕ) (r : Result (List ℕ) ℕ) → ready s.files fd count ≡ r → IsSound s.files → Small (read_at s fd buffer r)
 read-small s fd buffer count (Err errno) was sound = record { is = (an_error errno).is }
@@ -179,7 +179,7 @@ every number a s is =
     (chosen (number == sys_close) _ _ (back-small s _ (answering-small 0 (closed s.files (low (arg 0))).0 (closed s.files (low (arg 0))).1 (omega arith)))
     (chosen (number == sys_lseek) _ _ (back-small s _ (sought-small s.files (low (arg 0)) (cast_signed w64 (arg 1)) (low (arg 2))))
     (chosen (number == sys_read) _ _ (read-small s (low (arg 0)) (arg 1) (arg 2) (ready s.files (low (arg 0)) (arg 2)) refl is.files)
-    (chosen (number == sys_write) _ _ (write-small s (low (arg 0)) (arg 1) (arg 2) (write_place s.files (get s.files.slots (low (arg 0)))) is.memory)
+    (chosen (number == sys_write) _ _ (write-small s (low (arg 0)) (arg 1) (arg 2) (write_place s.files (get s.files.open_files (low (arg 0)))) is.memory)
     (chosen (number == sys_exit) _ _ (record { is = omega arith })
     (chosen (number == sys_exit_group) _ _ (record { is = omega arith })
     (chosen (number == sys_brk) (moved_break s (arg 0)) (is_unknown number) (break-small s (arg 0) is.heap) (record { is = tt })))))))))))

@@ -6,8 +6,8 @@ use Rattle.std.proofs.lemmas.List.{length-take}
 use Rattle.std.proofs.lemmas.List.Elements.{All-cons, All-nil}
 use Rattle.std.specs.Int.{cast_signed, w64}
 use Rattle.paged_mem.specs.Memory.{Memory, IsWhole, bytes_at, maps}
-use Rattle.mem_files.specs.declared.slot.Slot.{Slot}
-use Rattle.mem_files.specs.declared.slot.Slot.TheVariants.{Input, Stream1, Stream2, File}
+use Rattle.mem_files.specs.declared.open_file.OpenFile.{OpenFile}
+use Rattle.mem_files.specs.declared.open_file.OpenFile.TheVariants.{Input, Stream1, Stream2, File}
 use Rattle.mem_files.specs.Linux.{ebadf, einval, o_accmode}
 use Rattle.mem_files.specs.Access.{is_read}
 use Rattle.mem_files.specs.Names.{stripped, is_stripped_name}
@@ -63,7 +63,7 @@ name_at-bytes m at name whole e = by_text (text_at m at 256) refl e
     by_text (Ok text) was e = subst AreBytes (not_empty-is (stripped text) name e).0 (stripped-bytes text (text_at-bytes m at 256 text whole was))
 
 in_directory-is : (w : World) (dir : ℕ) (name other : List ℕ) → in_directory w dir name ≡ Ok other → name ≡ other
-in_directory-is w dir name other e = by_tests (is_absolute name || low dir == at_fdcwd) (contains_key w.slots (low dir)) e
+in_directory-is w dir name other e = by_tests (is_absolute name || low dir == at_fdcwd) (contains_key w.open_files (low dir)) e
   where
     by_tests : (b c : Bool) → cond {A = Result (List ℕ) ℕ} b (Ok name) (cond c (Err enotdir) (Err ebadf)) ≡ Ok other → name ≡ other
     by_tests true c e = cc
@@ -72,7 +72,7 @@ in_directory-is w dir name other e = by_tests (is_absolute name || low dir == at
 
 -- as many bytes are ready again
 ready_again : (w : World) (fd count : ℕ) (bytes : List ℕ) → ready w fd count ≡ Ok bytes → IsOkAnd (ready w fd (length bytes)) (λ again. length again ≡ length bytes)
-ready_again w fd count bytes e = at_slot (get w.slots fd) e
+ready_again w fd count bytes e = at_open_file (get w.open_files fd) e
   where
     part : (rest : List ℕ) → take count rest ≡ bytes → length (take (length bytes) rest) ≡ length bytes
     part rest is = omega (arith, length-take (length bytes) rest, length-take count rest, ap length is)
@@ -82,12 +82,12 @@ ready_again w fd count bytes e = at_slot (get w.slots fd) e
     readable true rest e = part rest cc
     readable false rest e = cc
 
-    at_slot : (o : Option Slot) → ready_at w count o ≡ Ok bytes → IsOkAnd (ready_at w (length bytes) o) (λ again. length again ≡ length bytes)
-    at_slot None e = cc
-    at_slot (Some Input) e = let none : [] ≡ bytes = cc in ap length none
-    at_slot (Some Stream1) e = cc
-    at_slot (Some Stream2) e = cc
-    at_slot (Some (File number cursor access)) e = readable (is_read access) (drop cursor (content_of w number)) e
+    at_open_file : (o : Option OpenFile) → ready_at w count o ≡ Ok bytes → IsOkAnd (ready_at w (length bytes) o) (λ again. length again ≡ length bytes)
+    at_open_file None e = cc
+    at_open_file (Some Input) e = let none : [] ≡ bytes = cc in ap length none
+    at_open_file (Some Stream1) e = cc
+    at_open_file (Some Stream2) e = cc
+    at_open_file (Some (File number file_offset access)) e = readable (is_read access) (drop file_offset (content_of w number)) e
 
 -- the calls on files
 pair-if : {A : Type 0} (b : Bool) (x y : Result A ℕ × World) → IsSound x.1 → IsSound y.1 → IsSound (cond b x y).1
@@ -151,7 +151,7 @@ every number a s whole sound =
     (chosen (number == sys_close) _ _ (back-sound s _ (answering-sound 0 (closed s.files (low (arg 0))).0 (closed s.files (low (arg 0))).1 (closed-sound s.files (low (arg 0)) sound)))
     (chosen (number == sys_lseek) _ _ (back-sound s _ (sought-sound s.files (low (arg 0)) (cast_signed w64 (arg 1)) (low (arg 2)) sound))
     (chosen (number == sys_read) _ _ (read-sound s (low (arg 0)) (arg 1) (arg 2) (ready s.files (low (arg 0)) (arg 2)) refl sound)
-    (chosen (number == sys_write) _ _ (write-sound s (low (arg 0)) (arg 1) (arg 2) (write_place s.files (get s.files.slots (low (arg 0)))) whole sound)
+    (chosen (number == sys_write) _ _ (write-sound s (low (arg 0)) (arg 1) (arg 2) (write_place s.files (get s.files.open_files (low (arg 0)))) whole sound)
     (chosen (number == sys_exit) _ _ (record { is = tt })
     (chosen (number == sys_exit_group) _ _ (record { is = tt })
     (chosen (number == sys_brk) (moved_break s (arg 0)) (is_unknown number) (record { is = sound }) (record { is = tt })))))))))))

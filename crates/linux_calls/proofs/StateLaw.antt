@@ -6,8 +6,8 @@ use Rattle.std.proofs.lemmas.List.Elements.{All-drop, All-nil, All-replicate, Al
 use borrow.Author.Tests.{ltb-true}
 use Rattle.paged_mem.specs.Memory.{Memory, IsWhole, bytes_at, maps, with_bytes, without, zeros, page_up}
 use Rattle.paged_mem.proofs.Mapped.{length-zeros}
-use Rattle.mem_files.specs.declared.slot.Slot.{Slot}
-use Rattle.mem_files.specs.declared.slot.Slot.TheVariants.{Input, Stream1, Stream2, File}
+use Rattle.mem_files.specs.declared.open_file.OpenFile.{OpenFile}
+use Rattle.mem_files.specs.declared.open_file.OpenFile.TheVariants.{Input, Stream1, Stream2, File}
 use Rattle.mem_files.specs.Access.{is_read}
 use Rattle.mem_files.specs.Linux.{ebadf}
 use Rattle.mem_files.specs.World.{World, content_of}
@@ -26,20 +26,20 @@ use Rattle.linux_calls.proofs.Keeping.{OutcomeKeeps, call_keeps, inside}
 
 -- bytes that are ready are bytes
 ready-bytes : (w : World) (fd count : ℕ) (bytes : List ℕ) → IsSound w → ready w fd count ≡ Ok bytes → AreBytes bytes
-ready-bytes w fd count bytes sound e = at_slot (get w.slots fd) e
+ready-bytes w fd count bytes sound e = at_open_file (get w.open_files fd) e
   where
-    readable : (b : Bool) (number cursor : ℕ) → cond {A = Result (List ℕ) ℕ} b (Ok (take count (drop cursor (content_of w number)))) (Err ebadf) ≡ Ok bytes → AreBytes bytes
-    readable true number cursor e =
-        let is : take count (drop cursor (content_of w number)) ≡ bytes = cc in
-        subst AreBytes is (All-take (λ b. b < 256) count (drop cursor (content_of w number)) (All-drop (λ b. b < 256) cursor (content_of w number) (content_bytes w number (bytes_of w sound))))
-    readable false number cursor e = cc
+    readable : (b : Bool) (number file_offset : ℕ) → cond {A = Result (List ℕ) ℕ} b (Ok (take count (drop file_offset (content_of w number)))) (Err ebadf) ≡ Ok bytes → AreBytes bytes
+    readable true number file_offset e =
+        let is : take count (drop file_offset (content_of w number)) ≡ bytes = cc in
+        subst AreBytes is (All-take (λ b. b < 256) count (drop file_offset (content_of w number)) (All-drop (λ b. b < 256) file_offset (content_of w number) (content_bytes w number (bytes_of w sound))))
+    readable false number file_offset e = cc
 
-    at_slot : (o : Option Slot) → ready_at w count o ≡ Ok bytes → AreBytes bytes
-    at_slot None e = cc
-    at_slot (Some Input) e = let none : [] ≡ bytes = cc in subst AreBytes none (All-nil (λ b. b < 256))
-    at_slot (Some Stream1) e = cc
-    at_slot (Some Stream2) e = cc
-    at_slot (Some (File number cursor access)) e = readable (is_read access) number cursor e
+    at_open_file : (o : Option OpenFile) → ready_at w count o ≡ Ok bytes → AreBytes bytes
+    at_open_file None e = cc
+    at_open_file (Some Input) e = let none : [] ≡ bytes = cc in subst AreBytes none (All-nil (λ b. b < 256))
+    at_open_file (Some Stream1) e = cc
+    at_open_file (Some Stream2) e = cc
+    at_open_file (Some (File number file_offset access)) e = readable (is_read access) number file_offset e
 
 -- the memory after an outcome, as a record: what it speaks of is found from the goal
 abbrev LeavesWhole : CallOutcome → Type 0
@@ -106,7 +106,7 @@ every number a s is =
     (chosen (number == sys_close) _ _ (λ e. back-whole s _ whole)
     (chosen (number == sys_lseek) _ _ (λ e. back-whole s _ whole)
     (chosen (number == sys_read) _ _ (λ e. read-whole s (low (arg 0)) (arg 1) (arg 2) (ready s.files (low (arg 0)) (arg 2)) refl whole is.files)
-    (chosen (number == sys_write) _ _ (λ e. write-whole s (low (arg 0)) (arg 1) (arg 2) (write_place s.files (get s.files.slots (low (arg 0)))) whole)
+    (chosen (number == sys_write) _ _ (λ e. write-whole s (low (arg 0)) (arg 1) (arg 2) (write_place s.files (get s.files.open_files (low (arg 0)))) whole)
     (chosen (number == sys_exit) _ _ (λ e. record { is = tt })
     (chosen (number == sys_exit_group) _ _ (λ e. record { is = tt })
     (chosen (number == sys_brk) (moved_break s (arg 0)) (is_unknown number) (λ e. break-whole s (arg 0) whole is.heap) (record { is = tt })))))))))))

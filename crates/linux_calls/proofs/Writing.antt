@@ -13,13 +13,13 @@ use Rattle.linux_calls.specs.Linux.{sys_write}
 use Rattle.linux_calls.specs.Calls.{state, CallOutcome, goes, back, answer_of, answering, written_at, written_from}
 use Rattle.linux_calls.specs.Answer.{IsAnswer}
 
-module _ (m : Memory) (w : World) (fd buffer count : ℕ) (writable : is_some (write_place w (get w.slots fd)) ≡ true) (some : count ≢ 0) (heap : Heap) where
+module _ (m : Memory) (w : World) (fd buffer count : ℕ) (writable : is_some (write_place w (get w.open_files fd)) ≡ true) (some : count ≢ 0) (heap : Heap) where
   abbrev meant : CallOutcome
-  meant = written_at (state m w heap) fd buffer count (write_place w (get w.slots fd))
+  meant = written_at (state m w heap) fd buffer count (write_place w (get w.open_files fd))
 
   -- a write of bytes that are there is that of the files
   meant_is : (bytes : List ℕ) → bytes_at m buffer count ≡ Some bytes → meant ≡ back (state m w heap) (answering count (written w fd bytes))
-  meant_is bytes there = by_place (write_place w (get w.slots fd)) writable
+  meant_is bytes there = by_place (write_place w (get w.open_files fd)) writable
     where
       by_place : (p : _) → is_some p ≡ true → written_at (state m w heap) fd buffer count p ≡ back (state m w heap) (answering count (written w fd bytes))
       by_place None e = cc

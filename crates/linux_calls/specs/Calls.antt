@@ -107,7 +107,7 @@ syscall number a s =
     else (if number == sys_close then back s (answering 0 (closed s.files (low (arg 0))))
     else (if number == sys_lseek then back s (sought s.files (low (arg 0)) (cast_signed w64 (arg 1)) (low (arg 2)))
     else (if number == sys_read then read_at s (low (arg 0)) (arg 1) (ready s.files (low (arg 0)) (arg 2))
-    else (if number == sys_write then written_at s (low (arg 0)) (arg 1) (arg 2) (write_place s.files (get s.files.slots (low (arg 0))))
+    else (if number == sys_write then written_at s (low (arg 0)) (arg 1) (arg 2) (write_place s.files (get s.files.open_files (low (arg 0))))
     else (if number == sys_exit then exits (arg 0 % 256)
     else (if number == sys_exit_group then exits (arg 0 % 256)
     else (if number == sys_brk then moved_break s (arg 0)

@@ -14,8 +14,8 @@ pub record IsHeapOf (m : Memory) (heap : Heap) : Type 0 where
   pub free : IsFree m (page_up heap.now) (page_up (heap.first + heap.limit) - page_up heap.now)
 
 -- the address is in none of the pages that the heap has or may have
-abbrev pub is_beside_heap : Heap → ℕ → Bool
-is_beside_heap heap address = nat_lt address heap.first || nat_le (page_up (heap.first + heap.limit)) address
+abbrev pub is_apart_from_heap : Heap → ℕ → Bool
+is_apart_from_heap heap address = nat_lt address heap.first || nat_le (page_up (heap.first + heap.limit)) address
 
 -- the memory when the heap's pages end at `new` and no longer at `old`: pages that come read 0
 abbrev pub resized : Memory → ℕ → ℕ → Memory

@@ -46,7 +46,7 @@ is_absolute (byte ∷ bytes) = byte == 47
 abbrev pub in_directory : World → ℕ → List ℕ → Result (List ℕ) ℕ
 in_directory w dir name =
     if is_absolute name || low dir == at_fdcwd then Ok name
-    else (if contains_key w.slots (low dir) then Err enotdir else Err ebadf)
+    else (if contains_key w.open_files (low dir) then Err enotdir else Err ebadf)
 
 -- the name that a path names in a directory
 abbrev pub name_in_directory : Memory → World → ℕ → ℕ → Result (List ℕ) ℕ

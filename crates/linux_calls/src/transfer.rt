@@ -63,7 +63,7 @@ pub fn write<R: Ram>(
 ) -> CallEnd
     ensures { (heap : the_heap)
         → IsAnswer sys_write (state (R.bytes ram.now) files.old heap) (state (R.bytes ram.now) files.new heap)
-        (written_at (state (R.bytes ram.now) files.old heap) fd buffer count (write_place files.old (get files.old.slots fd))) result }
+        (written_at (state (R.bytes ram.now) files.old heap) fd buffer count (write_place files.old (get files.old.open_files fd))) result }
 {
     if !files.is_writable(fd) {
         return back(Err(EBADF));

@@ -8,7 +8,7 @@ use Rattle.m1_lang.specs.Words.Ahead.{words_at}
 use Rattle.m1_lang.specs.declared.refusal.M1Refusal.{M1Refusal}
 use Rattle.m1_lang.specs.declared.refusal.M1Refusal.TheVariants as refusal
 use Rattle.m1_lang.specs.Definitions.{Cut, Defined, Defines, definitions, definitions_in, is_value, SourcePart, parts, Plain, unless_open, value_in, with_defined}
-use Rattle.m1_lang.specs.Representation.Passes.{behind_define, Definitions, DefinesOne, Enters, looked_up, open_at, or_value, parts_at, quote_or, Tabulates, unless_quoted, valued, Values, values_in, with_values}
+use Rattle.m1_lang.specs.Representation.Passes.{after_define, Definitions, DefinesOne, Enters, looked_up, open_at, or_value, parts_at, quote_or, Tabulates, unless_quoted, valued, Values, values_in, with_values}
 use Rattle.m1_lang.proofs.Moves.{look-more}
 
 -- the definitions by what they give words
@@ -25,7 +25,7 @@ valued-is (Defines at name value ∷ rest) seen = by (is_value value) (is_some (
 valued-is (Cut at ∷ rest) seen = refl
 valued-is (Plain word ∷ rest) seen = valued-is rest seen
 
--- what the table gives words behind a new name
+-- what the table gives words after a new name
 added : (old new : Definitions) (name value : List ℕ) → values_in old name ≡ None
     → ((text : List ℕ) → values_in new text ≡ cond (bytes_eq name text) (Some value) (values_in old text))
     → values_in new ≡ (λ text. or_value (values_in old text) (cond (bytes_eq text name) (Some value) None))
@@ -41,21 +41,21 @@ added old new name value none found =
         let same : text ≡ name = (bytes_eq-Decides text name).0 is in
         absurd (cc (ap (values_in old) same, none))
 
--- behind a good value the name decides
-behind-good : (values : Values) (start : ℕ) (name value : Word) (rest : List Word) (before : Option (List ℕ)) → is_value value.text ≡ true
+-- after a good value the name decides
+following-good : (values : Values) (start : ℕ) (name value : Word) (rest : List Word) (before : Option (List ℕ)) → is_value value.text ≡ true
     → values name.text ≡ before
-    → behind_define values start (name ∷ value ∷ rest)
+    → after_define values start (name ∷ value ∷ rest)
     ≡ with_values (cond (is_some before) (Err (refusal.DoubleDefine start)) (Ok (λ text. or_value (values text) (cond (bytes_eq text name.text) (Some value.text) None)))) (λ more. valued more (parts rest))
-behind-good values start name value rest before good is =
+following-good values start name value rest before good is =
     ap (λ (b : Bool). with_values (cond (not b) (Err (refusal.BadDefine start)) (cond (is_some (values name.text)) (Err (refusal.DoubleDefine start)) (Ok (λ text. or_value (values text) (cond (bytes_eq text name.text) (Some value.text) None))))) (λ more. valued more (parts rest))) good
     ∙ ap (λ (o : Option (List ℕ)). with_values (cond (is_some o) (Err (refusal.DoubleDefine start)) (Ok (λ text. or_value (values text) (cond (bytes_eq text name.text) (Some value.text) None)))) (λ more. valued more (parts rest))) is
 
--- the two words behind a `DEFINE`
+-- the two words after a `DEFINE`
 two-words : (values : Values) (source : List ℕ) (start at next after : ℕ) (name value : Word)
     → words_at source at ≡ Found name (words_at source next) → words_at source next ≡ Found value (words_at source after)
-    → behind_define values start (word_list (words_at source at)) ≡ behind_define values start (name ∷ value ∷ word_list (words_at source after))
+    → after_define values start (word_list (words_at source at)) ≡ after_define values start (name ∷ value ∷ word_list (words_at source after))
 two-words values source start at next after name value first second =
-    ap (λ (w : Words). behind_define values start (word_list w)) first ∙ ap (λ (w : Words). behind_define values start (name ∷ word_list w)) second
+    ap (λ (w : Words). after_define values start (word_list w)) first ∙ ap (λ (w : Words). after_define values start (name ∷ word_list w)) second
 
 none-of : (o : Option (List ℕ)) → is_some o ≡ false → o ≡ None
 none-of None is = refl
@@ -64,12 +64,12 @@ none-of (Some value) is = absurd (true≢false is)
 pub defines-new : (E : Type 0) (old new : Definitions) (source : List ℕ) (start at next after : ℕ) (name value : Word)
     → words_at source at ≡ Found name (words_at source next) → words_at source next ≡ Found value (words_at source after)
     → is_value value.text ≡ true → Enters {E = E} (Ok false) name.text value.text old new
-    → (behind_define (values_in old) start (word_list (words_at source at)) ≡ valued (values_in new) (parts_at source after))
+    → (after_define (values_in old) start (word_list (words_at source at)) ≡ valued (values_in new) (parts_at source after))
     × (open_at source at ≡ open_at source after)
 defines-new E old new source start at next after name value first second good enters =
     let none = none-of (values_in old name.text) (sym enters.0) in (
       two-words (values_in old) source start at next after name value first second
-          ∙ behind-good (values_in old) start name value (word_list (words_at source after)) None good none
+          ∙ following-good (values_in old) start name value (word_list (words_at source after)) None good none
           ∙ ap (λ (v : Values). valued v (parts_at source after)) (sym (added old new name.text value.text none enters.1)),
       ap open_quote first ∙ ap open_quote second,
     )
@@ -88,9 +88,9 @@ meant-by values source at words quote whole is =
     by (Some place) meant = refl
     by None meant = refl
 
--- a definition is refused, unless a quote is open behind it
+-- a definition is refused, unless a quote is open after it
 pub refused : (quote : Option ℕ) (why : M1Refusal) (start at : ℕ) (source : List ℕ) (old new : Definitions)
-    (meant : Result Defined M1Refusal) → looked_up meant ≡ unless_quoted quote (behind_define (values_in old) start (word_list (words_at source at)))
+    (meant : Result Defined M1Refusal) → looked_up meant ≡ unless_quoted quote (after_define (values_in old) start (word_list (words_at source at)))
     → DefinesOne (Err why) start source at old new → Tabulates (Err (quote_or quote why)) meant
 refused (Some place) why start at source old new meant is one = is
 refused None refusal.OutOfMemory start at source old new meant is one = tt

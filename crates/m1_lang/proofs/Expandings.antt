@@ -13,7 +13,7 @@ use Rattle.m1_lang.specs.declared.refusal.M1Refusal.{M1Refusal}
 use Rattle.m1_lang.specs.declared.refusal.M1Refusal.TheVariants as refusal
 use Rattle.m1_lang.specs.Definitions.{Defined, definitions_in, is_define, parts, plain_words, value_in}
 use Rattle.m1_lang.specs.Expansion.{counted_items, Expands, expansion_by, expansion_of, then_read, items_unless_refused, words_reading}
-use Rattle.m1_lang.specs.Representation.Passes.{Definitions, looked_up, plain_behind, parts_at, reading_at, Tabulates, TakesWord, Values, values_in}
+use Rattle.m1_lang.specs.Representation.Passes.{Definitions, looked_up, plain_after, parts_at, reading_at, Tabulates, TakesWord, Values, values_in}
 use Rattle.m1_lang.proofs.Passing.{define-plain, parts-plain, words-end}
 use Rattle.m1_lang.proofs.Takings.{counted-end}
 
@@ -26,7 +26,7 @@ reading-word values source at after word found plain =
     ∙ ap (λ p. words_reading values (plain_words p)) (parts-plain word (word_list (words_at source after)) plain)
 
 pub reading-define : (values : List ℕ → Option (List ℕ)) (source : List ℕ) (at after next : ℕ) (word : Word) → words_at source at ≡ Found word (words_at source after)
-    → is_define word.text ≡ true → plain_behind (word_list (words_at source after)) ≡ plain_words (parts_at source next)
+    → is_define word.text ≡ true → plain_after (word_list (words_at source after)) ≡ plain_words (parts_at source next)
     → reading_at values source at ≡ reading_at values source next
 reading-define values source at after next word found define skips =
     ap (λ (w : Words). words_reading values (plain_words (parts (word_list w)))) found

@@ -22,7 +22,7 @@ use Rattle.m1_lang.specs.declared.words.meaning.WordFault.TheVariants.{UnknownWo
 use Rattle.m1_lang.specs.Words.Digits.{cons_byte, digit_bytes}
 use Rattle.m1_lang.specs.Words.Numbers.{number_in}
 use Rattle.hex_langs.specs.Link.Link.{i_field, modulo_word}
-use Rattle.m1_lang.specs.Words.Forms.{begins_with, between, byte_tokens, defined_tokens, FormTokens, form_or, form_tokens, ranged_tokens, is_within, number_behind, number_tokens, numbered_or, numbered_tokens, one_token, padded, quoted_tokens, store_field, takes_number, token_over, Tokens, tokens_of, rounded_field, value_tokens, whole_token}
+use Rattle.m1_lang.specs.Words.Forms.{begins_with, between, byte_tokens, defined_tokens, FormTokens, form_or, form_tokens, ranged_tokens, is_within, number_after, number_tokens, numbered_or, numbered_tokens, one_token, padded, quoted_tokens, store_field, takes_number, token_over, Tokens, tokens_of, rounded_field, value_tokens, whole_token}
 use Rattle.m1_lang.specs.Words.Words.{Found, Unclosed, Word, word_list, word_more, Words, words_from, words_of}
 use Rattle.m1_lang.specs.declared.refusal.M1Refusal.{M1Refusal}
 use Rattle.m1_lang.specs.declared.refusal.M1Refusal.TheVariants.{TooLong}
@@ -165,7 +165,7 @@ unfolding numbered_tokens
 numbered-good [] = tt
 numbered-good (sign ∷ rest) = by (takes_number sign) (number_in rest)
   where
-    by : (takes : Bool) (n : Option ℤ) → IsGoodForm (cond takes (number_behind sign n) None)
+    by : (takes : Bool) (n : Option ℤ) → IsGoodForm (cond takes (number_after sign n) None)
     by false n = tt
     by true None = tt
     by true (Some n) = number-good sign n
@@ -242,8 +242,8 @@ plain-bytes (word ∷ name ∷ value ∷ words) are = by (is_define word.text) (
   where
     by : (define : Bool) → AreByteWords (plain_words (parts words)) → AreByteWords (plain_words (parts (name ∷ value ∷ words)))
         → AreByteWords (plain_words (cond define (Defines word.at name.text value.text ∷ parts words) (Plain word ∷ parts (name ∷ value ∷ words))))
-    by true behind rest = behind
-    by false behind rest = (are.0, rest)
+    by true following rest = following
+    by false following rest = (are.0, rest)
 
 -- ---- the items
 

@@ -64,7 +64,7 @@ closed-some size more left is = by (nat_lt size (length left)) refl is
 closed-at : (size : ℕ) (left : List ℕ) → size < length left → until_closed size left ≡ Some (size + 1)
 closed-at size left within = let test : nat_lt size (length left) ≡ true = grind (arith, nat_tests) in ap (λ (b : Bool). cond b (Some (size + 1)) None) test
 
--- a word ends before the blank behind it
+-- a word ends before the blank after it
 more-same : (byte : ℕ) (more left : List ℕ) (blank : ℕ) → is_blank blank ≡ true → word_more byte more ≡ Some (length more)
     → word_more byte (more ++ blank ∷ left) ≡ Some (length more)
 unfolding word_more
@@ -117,12 +117,12 @@ laid at [] blanks left texts one some are later = absurd one
 laid at (byte ∷ rest) [] left texts one some are later = absurd (omega (arith, some))
 laid at (byte ∷ rest) (blank ∷ blanks) left texts one some are later =
     let place : ℕ = at + 1 + length rest in
-    let behind = later (place + length (blank ∷ blanks)) in
+    let following = later (place + length (blank ∷ blanks)) in
     reads-by (words_from at 0 (((byte ∷ rest) ++ blank ∷ blanks) ++ left)) (Found (record { at = at; text = byte ∷ rest }) (words_from (place + length (blank ∷ blanks)) 0 left)) _
     (ap (λ (l : List ℕ). words_from at 0 (byte ∷ l)) (append_assoc rest (blank ∷ blanks) left)
     ∙ one-word at byte blank rest (blanks ++ left) one are.0
     ∙ ap (Found (record { at = at; text = byte ∷ rest })) (past-blanks place (blank ∷ blanks) left are))
-    (ap (λ (l : List (List ℕ)). (byte ∷ rest) ∷ l) behind.0, behind.1)
+    (ap (λ (l : List (List ℕ)). (byte ∷ rest) ∷ l) following.0, following.1)
 
 layout-reads : (at : ℕ) (layout : Layout) → IsLayout layout → Reads (words_from at 0 (laid_out layout)) (map (λ (laid : List ℕ × List ℕ). laid.0) layout)
 unfolding words_from

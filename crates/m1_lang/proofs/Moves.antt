@@ -115,7 +115,7 @@ related-then (Some a) None three first second = absurd first
 related-then (Some a) (Some b) None first second = absurd second
 related-then (Some a) (Some b) (Some c) first second = λ text. first text ∙ second text
 
--- behind definitions that give the same values
+-- after definitions that give the same values
 related-more : (one other : Defined) (ps : List SourcePart) → SameValues one other → Related (ok (definitions one ps)) (ok (definitions other ps))
 related-more one other [] same = same
 related-more one other (Cut at ∷ ps) same = tt
@@ -126,12 +126,12 @@ related-more one other (Defines at name value ∷ ps) same =
     (sym (ok-with other at name value ps ∙ ap (λ (o : Option (List ℕ)). cond (not (is_value value)) None (cond (is_some o) None (ok (definitions (other ++ (name, value) ∷ []) ps)))) (sym (same name))))
     (chosen (not (is_value value)) (is_some (value_in one name)) _ _ (related-more (one ++ (name, value) ∷ []) (other ++ (name, value) ∷ []) ps (more-same one other name value same))))
 
--- behind one part
-behind-part : (seen : Defined) (part : SourcePart) (ps qs : List SourcePart) → ((more : Defined) → Related (ok (definitions more ps)) (ok (definitions more qs)))
+-- after one part
+following-part : (seen : Defined) (part : SourcePart) (ps qs : List SourcePart) → ((more : Defined) → Related (ok (definitions more ps)) (ok (definitions more qs)))
     → Related (ok (definitions seen (part ∷ ps))) (ok (definitions seen (part ∷ qs)))
-behind-part seen (Cut at) ps qs later = tt
-behind-part seen (Plain word) ps qs later = later seen
-behind-part seen (Defines at name value) ps qs later =
+following-part seen (Cut at) ps qs later = tt
+following-part seen (Plain word) ps qs later = later seen
+following-part seen (Defines at name value) ps qs later =
     subst (λ (o : Option Defined). Related o (ok (definitions seen (Defines at name value ∷ qs)))) (sym (ok-with seen at name value ps))
     (subst (λ (o : Option Defined). Related (cond (not (is_value value)) None (cond (is_some (value_in seen name)) None (ok (definitions (seen ++ (name, value) ∷ []) ps)))) o)
     (sym (ok-with seen at name value qs))
@@ -186,21 +186,21 @@ swap seen one value (Defines at other also) ps =
     (λ apart. related-more ((seen ++ (one, value) ∷ []) ++ (other, also) ∷ []) ((seen ++ (other, also) ∷ []) ++ (one, value) ∷ []) ps
     (order-same seen one value other also apart))))
 
--- ---- a definition behind other parts
+-- ---- a definition after other parts
 
 move : (seen : Defined) (one value : List ℕ) (between back : List SourcePart)
     → Related (ok (definitions seen (Defines 0 one value ∷ (between ++ back)))) (ok (definitions seen (between ++ Defines 0 one value ∷ back)))
 move seen one value [] back = related-self (ok (definitions seen (Defines 0 one value ∷ back)))
 move seen one value (part ∷ between) back =
     related-then _ (ok (definitions seen (part ∷ Defines 0 one value ∷ (between ++ back)))) _ (swap seen one value part (between ++ back))
-    (behind-part seen part (Defines 0 one value ∷ (between ++ back)) (between ++ Defines 0 one value ∷ back) (λ more. move more one value between back))
+    (following-part seen part (Defines 0 one value ∷ (between ++ back)) (between ++ Defines 0 one value ∷ back) (λ more. move more one value between back))
 
-move-behind : (seen : Defined) (one value : List ℕ) (front between back : List SourcePart)
+move-following : (seen : Defined) (one value : List ℕ) (front between back : List SourcePart)
     → Related (ok (definitions seen (front ++ Defines 0 one value ∷ (between ++ back)))) (ok (definitions seen (front ++ (between ++ Defines 0 one value ∷ back))))
-move-behind seen one value [] between back = move seen one value between back
-move-behind seen one value (part ∷ front) between back =
-    behind-part seen part (front ++ Defines 0 one value ∷ (between ++ back)) (front ++ (between ++ Defines 0 one value ∷ back))
-    (λ more. move-behind more one value front between back)
+move-following seen one value [] between back = move seen one value between back
+move-following seen one value (part ∷ front) between back =
+    following-part seen part (front ++ Defines 0 one value ∷ (between ++ back)) (front ++ (between ++ Defines 0 one value ∷ back))
+    (λ more. move-following more one value front between back)
 
 plain-more : (ps qs rs : List SourcePart) → plain_words qs ≡ plain_words rs → plain_words (ps ++ qs) ≡ plain_words (ps ++ rs)
 plain-more [] qs rs same = same
@@ -223,6 +223,6 @@ pub moved : (one value : List ℕ) (front between back : List SourcePart)
     → parts_expansion (front ++ Defines 0 one value ∷ (between ++ back)) ≡ parts_expansion (front ++ (between ++ Defines 0 one value ∷ back))
 moved one value front between back =
     related-with _ (ok (definitions [] (front ++ (between ++ Defines 0 one value ∷ back)))) (plain_words (front ++ Defines 0 one value ∷ (between ++ back)))
-    (move-behind [] one value front between back)
+    (move-following [] one value front between back)
     ∙ ap (expansion_with (ok (definitions [] (front ++ (between ++ Defines 0 one value ∷ back)))))
     (plain-more front (Defines 0 one value ∷ (between ++ back)) (between ++ Defines 0 one value ∷ back) (plain-moved one value between back))

@@ -7,7 +7,7 @@ use Rattle.m1_lang.specs.Words.Ahead.{FindsAhead, words_at}
 use Rattle.m1_lang.specs.declared.words.splitting.Ahead.{Ahead}
 use Rattle.m1_lang.specs.declared.words.splitting.Ahead.TheVariants as next
 use Rattle.m1_lang.specs.Definitions.{Cut, Defines, is_define, parts, Plain, plain_words}
-use Rattle.m1_lang.specs.Representation.Passes.{behind_define, parts_at, plain_behind, valued, Values}
+use Rattle.m1_lang.specs.Representation.Passes.{after_define, parts_at, plain_after, valued, Values}
 
 pub words-end : (source : List ℕ) (at : ℕ) → length source ≤ at → words_at source at ≡ NoWord
 unfolding words_from
@@ -15,13 +15,13 @@ words-end source at past = ap (words_from at 0) (drop_all at source past)
 
 -- ---- a `DEFINE`
 
-pub define-word : (values : Values) (word : Word) (rest : List Word) → is_define word.text ≡ true → valued values (parts (word ∷ rest)) ≡ behind_define values word.at rest
+pub define-word : (values : Values) (word : Word) (rest : List Word) → is_define word.text ≡ true → valued values (parts (word ∷ rest)) ≡ after_define values word.at rest
 define-word values word [] is = ap (λ (b : Bool). valued values (cond b (Cut word.at ∷ []) (Plain word ∷ []))) is
 define-word values word (name ∷ []) is = ap (λ (b : Bool). valued values (cond b (Cut word.at ∷ []) (Plain word ∷ parts (name ∷ [])))) is
 define-word values word (name ∷ value ∷ rest) is =
     ap (λ (b : Bool). valued values (cond b (Defines word.at name.text value.text ∷ parts rest) (Plain word ∷ parts (name ∷ value ∷ rest)))) is
 
-pub define-plain : (word : Word) (rest : List Word) → is_define word.text ≡ true → plain_words (parts (word ∷ rest)) ≡ plain_behind rest
+pub define-plain : (word : Word) (rest : List Word) → is_define word.text ≡ true → plain_words (parts (word ∷ rest)) ≡ plain_after rest
 define-plain word [] is = ap (λ (b : Bool). plain_words (cond b (Cut word.at ∷ []) (Plain word ∷ []))) is
 define-plain word (name ∷ []) is = ap (λ (b : Bool). plain_words (cond b (Cut word.at ∷ []) (Plain word ∷ parts (name ∷ [])))) is
 define-plain word (name ∷ value ∷ rest) is =

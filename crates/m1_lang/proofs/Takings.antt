@@ -24,7 +24,7 @@ counted-few whole few = let fits : nat_lt 33554432 (length whole.items) ≡ fals
 counted-many : (whole : Formed WordFault) → 33554432 < length whole.items → counted_items whole ≡ Err TooLong
 counted-many whole many = let over : nat_lt 33554432 (length whole.items) ≡ true = grind (arith, nat_tests) in cond-true _ _ _ over
 
--- the items so far are few, and nothing comes behind them
+-- the items so far are few, and nothing comes after them
 pub counted-end : (items : List Item) (end : Ending WordFault) → length items ≤ 33554432
     → counted_items (with_front items (record { items = []; end = end })) ≡ items_unless_refused items end
 counted-end items end few =
@@ -96,7 +96,7 @@ append-refused halt.TooLong word at xs ys old new one =
     λ later. ap (λ (r : Reading WordFault). counted_items (with_front old (formed word r))) (bytes-append at xs ys later) ∙ one (at_once at (map Byte ys) later)
 append-refused halt.OutOfMemory word at xs ys old new one = tt
 
--- behind the first bytes
+-- after the first bytes
 both : (word next : Option Open) (at : ℕ) (xs ys : List ℕ) (old mid : List Item) → TakesTokens (Ok next) word at (map Byte xs) old mid
     → (later : Reading WordFault) → with_front old (formed word (at_once at (map Byte (xs ++ ys)) later)) ≡ with_front mid (formed next (at_once at (map Byte ys) later))
 both word next at xs ys old mid one later =

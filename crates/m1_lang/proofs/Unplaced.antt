@@ -11,7 +11,7 @@ use Rattle.hex_langs.specs.declared.items.words.Begun.TheVariants.{Nothing, One,
 use Rattle.hex_langs.specs.declared.items.words.Open.{Open}
 use Rattle.hex_langs.specs.declared.items.words.Halt.TheVariants as halt
 use Rattle.hex_langs.specs.Items.Words.{byte_in, field_in, reference_in, Step, taken}
-use Rattle.hex_langs.specs.Items.Reading.{behind_step, Ending, NoToken, Faulted, Faulty, formed, Formed, Halted, Reading, Then, Whole}
+use Rattle.hex_langs.specs.Items.Reading.{after_step, Ending, NoToken, Faulted, Faulty, formed, Formed, Halted, Reading, Then, Whole}
 use Rattle.m1_lang.specs.declared.words.meaning.WordFault.{WordFault}
 use Rattle.m1_lang.specs.Words.Forms.{Tokens, tokens_of}
 use Rattle.m1_lang.specs.Words.Words.{Word, word_list, words_of}
@@ -85,7 +85,7 @@ record Alike (one other : Formed WordFault) : Type 0 where
   end : is_whole one.end ≡ is_whole other.end
 
 step-alike : (step : Step) (one other : Option Open → Formed WordFault) → ((next : Option Open) → Alike (one (open_at_none next)) (other next))
-    → Alike (behind_step (step_at_none step) one) (behind_step step other)
+    → Alike (after_step (step_at_none step) one) (after_step step other)
 step-alike (Ok step) one other later =
     record { items = ap (λ (items : List Item). step.0 ++ items) (later step.1).items; end = (later step.1).end }
 step-alike (Err (halt.Dangling first)) one other later = record { items = refl; end = refl }
@@ -101,7 +101,7 @@ formed-alike : (word : Option Open) (reading : Reading WordFault) → Alike (for
 formed-alike word NoToken = end-alike word
 formed-alike word (Faulty why at) = record { items = refl; end = refl }
 formed-alike word (Then at token later) =
-    subst (λ (step : Step). Alike (behind_step step (λ next. formed next (reading_at_none later))) (behind_step (taken word at token) (λ next. formed next later)))
+    subst (λ (step : Step). Alike (after_step step (λ next. formed next (reading_at_none later))) (after_step (taken word at token) (λ next. formed next later)))
     (sym (taken-none word at token))
     (step-alike (taken word at token) (λ next. formed next (reading_at_none later)) (λ next. formed next later) (λ next. formed-alike next later))
 
@@ -234,8 +234,8 @@ parts-none (word ∷ name ∷ value ∷ words) = by (is_define word.text) (parts
         → map unplaced (cond define (Defines word.at name.text value.text ∷ parts words) (Plain word ∷ parts (name ∷ value ∷ words)))
         ≡ cond define (Defines 0 name.text value.text ∷ parts (map text_word (map (λ (word : Word). word.text) words)))
         (Plain (text_word word.text) ∷ parts (text_word name.text ∷ text_word value.text ∷ map text_word (map (λ (word : Word). word.text) words)))
-    by true behind rest = ap (λ (ps : List SourcePart). Defines 0 name.text value.text ∷ ps) behind
-    by false behind rest = ap (λ (ps : List SourcePart). Plain (text_word word.text) ∷ ps) rest
+    by true following rest = ap (λ (ps : List SourcePart). Defines 0 name.text value.text ∷ ps) following
+    by false following rest = ap (λ (ps : List SourcePart). Plain (text_word word.text) ∷ ps) rest
 
 pub same-texts : (one other : List ℕ) → texts_in one ≡ texts_in other → parts_in one ≡ parts_in other
 same-texts one other same =

@@ -42,7 +42,7 @@ value_in defined text = lookup (bytes_eq text) defined
 abbrev pub is_value : List ℕ → Bool
 is_value text = is_some (value_tokens text)
 
--- one definition behind those so far: BadDefine comes before DoubleDefine
+-- one definition after those so far: BadDefine comes before DoubleDefine
 abbrev pub defined_with : Defined → ℕ → List ℕ → List ℕ → Result Defined M1Refusal
 defined_with seen at name value =
     if not (is_value value) then Err (BadDefine at)
@@ -53,7 +53,7 @@ abbrev pub with_defined : Result Defined M1Refusal → (Defined → Result Defin
 with_defined (Ok seen) rest = rest seen
 with_defined (Err why) rest = Err why
 
--- the definitions of a source in order, behind those so far, or the first that is refused
+-- the definitions of a source in order, after those so far, or the first that is refused
 abbrev pub definitions : Defined → List SourcePart → Result Defined M1Refusal
 definitions seen [] = Ok seen
 definitions seen (Defines at name value ∷ rest) = with_defined (defined_with seen at name value) (λ more. definitions more rest)

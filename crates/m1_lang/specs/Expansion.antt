@@ -41,7 +41,7 @@ abbrev pub word_refusal : WordFault → ℕ → M1Refusal
 word_refusal fault.UnknownWord at = UnknownWord at
 word_refusal fault.NumberRange at = NumberRange at
 
--- the items, unless the source is refused behind them
+-- the items, unless the source is refused after them
 abbrev pub items_unless_refused : List Item → Ending WordFault → Result (List Item) M1Refusal
 items_unless_refused items Whole = Ok items
 items_unless_refused items (Halted why) = Err (halt_refusal why)

@@ -26,11 +26,11 @@ IsOneWord (byte ∷ rest) = (opens_gap byte ≡ false) × (word_more byte rest �
 abbrev pub AreBlanks : List ℕ → Type 0
 AreBlanks bytes = AllByRecursion (λ byte. is_blank byte ≡ true) bytes
 
--- words and the blanks behind each
+-- words and the blanks after each
 abbrev pub Layout : Type 0
 Layout = List (List ℕ × List ℕ)
 
--- each is one word, with at least one blank behind it
+-- each is one word, with at least one blank after it
 abbrev pub IsLayout : Layout → Type 0
 IsLayout layout = AllByRecursion (λ (laid : List ℕ × List ℕ). IsOneWord laid.0 × (0 < length laid.1) × AreBlanks laid.1) layout
 

@@ -8,12 +8,12 @@ ghost use Rattle.m1_lang.specs.Representation.Passes.{quote_or, open_at, Defines
 use crate::refusal::M1Refusal;
 use crate::words::{Ahead, Value, next_word};
 use ddc_base::{NamesDigest, NamesKey, OutOfMemory};
-use hex_langs::items::Name;
+use hex_langs::items::LabelName;
 use indexmap::IndexMap;
 use std::alloc::Global;
 
 /// What each definition's name stands for.
-pub(crate) type Definitions<'s> = IndexMap<Name<'s>, Value<'s>, NamesKey>;
+pub(crate) type Definitions<'s> = IndexMap<LabelName<'s>, Value<'s>, NamesKey>;
 
 pub(crate) fn is_define(text: &[u8]) -> bool
     ensures { result ≡ is_define text.now }
@@ -37,7 +37,7 @@ fn open_quote(source: &[u8], from: usize) -> Option<usize>
     None
 }
 
-/// The offset behind a name, which the digest takes.
+/// The offset after a name, which the digest takes.
 fn take_name(names: &mut NamesDigest, source: &[u8], at: usize) -> usize
     requires { at ≤ length source.now }
     ensures low { at ≤ result }
@@ -52,7 +52,7 @@ fn take_name(names: &mut NamesDigest, source: &[u8], at: usize) -> usize
     }
 }
 
-/// The key of the table of the definitions: all the names behind a `DEFINE`.
+/// The key of the table of the definitions: all the names after a `DEFINE`.
 fn names_key(source: &[u8]) -> NamesKey {
     let mut names = NamesDigest::new();
     let mut are_none = true;
@@ -86,10 +86,10 @@ fn add_definition<'s>(
 ) -> Result<bool, OutOfMemory>
     ensures { Enters result name.now value.entry table.old table.new }
 {
-    Ok(table.insert(Name::new(name), value)?.is_some())
+    Ok(table.insert(LabelName::new(name), value)?.is_some())
 }
 
-/// One definition behind its `DEFINE`; the offset behind it.
+/// One definition after its `DEFINE`; the offset after it.
 fn define<'s>(
     table: &mut Definitions<'s>,
     source: &'s [u8],
@@ -100,7 +100,7 @@ fn define<'s>(
     ensures { DefinesOne result start source.now at table.old table.new }
 {
     match next_word(source, at) {
-        Ahead::Word(_, name, behind) => match next_word(source, behind) {
+        Ahead::Word(_, name, following) => match next_word(source, following) {
             Ahead::Word(_, value, after) => match Value::new(value) {
                 None => Err(M1Refusal::BadDefine(start as u64)),
                 Some(value) => match add_definition(table, name, value)? {
@@ -114,7 +114,7 @@ fn define<'s>(
     }
 }
 
-/// The refusal of a definition, unless a quote is open behind it.
+/// The refusal of a definition, unless a quote is open after it.
 fn unless_open(source: &[u8], at: usize, refusal: M1Refusal) -> M1Refusal
     requires { at ≤ length source.now }
     ensures { result ≡ quote_or (open_at source.now at) refusal }

@@ -29,13 +29,13 @@ pub fn expand<'s>(alloc: Global, source: &'s [u8]) -> Result<Items<'s>, M1Refusa
     }
 }
 
-/// The offset behind the name and the value of a definition.
-fn behind_definition(source: &[u8], at: usize) -> usize
+/// The offset after the name and the value of a definition.
+fn after_definition(source: &[u8], at: usize) -> usize
     requires { at ≤ length source.now }
     ensures { SkipsOne result source.now at }
 {
     match next_word(source, at) {
-        Ahead::Word(_, _, behind) => match next_word(source, behind) {
+        Ahead::Word(_, _, following) => match next_word(source, following) {
             Ahead::Word(_, _, after) => after,
             _ => source.len(),
         },
@@ -79,7 +79,7 @@ fn items_by<'s>(
         match next_word(source, at) {
             Ahead::Word(start, text, after) => {
                 if is_define(text) {
-                    at = behind_definition(source, after);
+                    at = after_definition(source, after);
                 } else {
                     match take_word(&mut items, table, word, start, text) {
                         Err(why) => return Err(why),

@@ -16,7 +16,7 @@ pub fn expansions_are_read_again()
         → length (items_text items) ≤ 67108864 → items_of Hex2 (items_text items) ≡ Ok items }
 {}
 
-/// Words that are laid out with blanks before, between and behind them are the words of the source, each quote closed.
+/// Words that are laid out with blanks before, between and after them are the words of the source, each quote closed.
 pub fn words_are_those_laid_out()
     ensures { (blanks : List ℕ) → (layout : Layout) → AreBlanks blanks → IsLayout layout
         → (texts_in (blanks ++ laid_out layout) ≡ map (λ laid. laid.0) layout) × (open_quote (words_of (blanks ++ laid_out layout)) ≡ None) }

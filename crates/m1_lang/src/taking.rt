@@ -7,8 +7,8 @@ ghost use Rattle.m1_lang.specs.Words.Meanings.{MeansResult, MeansTokens, front_b
 ghost use Rattle.m1_lang.specs.Representation.Passes.{TakesTokens, values_in};
 
 use crate::definitions::Definitions;
-use crate::words::{Meaning, WordFault, meaning_of};
-use hex_langs::items::{Begun, Halt, Items, Name, Open, byte_of, take, take_byte, take_four};
+use crate::words::{WordMeaning, WordFault, meaning_of};
+use hex_langs::items::{Begun, Halt, Items, LabelName, Open, byte_of, take, take_byte, take_four};
 
 /// Takes bytes.
 fn take_bytes<'s>(
@@ -49,7 +49,7 @@ fn four_bytes(digits: &[u8]) -> Option<(u8, u8, u8, u8)>
     }
 }
 
-/// Takes the bytes of digits two by two. The eight digits behind the fields of a word, which are the most, are taken at once.
+/// Takes the bytes of digits two by two. The eight digits after the fields of a word, which are the most, are taken at once.
 fn take_digits<'s>(
     items: &mut Items<'s>,
     word: Option<Open<'s>>,
@@ -97,7 +97,7 @@ fn take_pairs<'s>(
     Ok(word)
 }
 
-/// Takes a text and one to four zero bytes behind it.
+/// Takes a text and one to four zero bytes after it.
 fn take_text<'s>(
     items: &mut Items<'s>,
     word: Option<Open<'s>>,
@@ -137,25 +137,25 @@ pub(crate) fn take_meaning<'s>(
     items: &mut Items<'s>,
     word: Option<Open<'s>>,
     at: usize,
-    meaning: Meaning<'s>,
+    meaning: WordMeaning<'s>,
 ) -> Result<Option<Open<'s>>, Halt>
     requires { length items.old ≤ 33554432 }
     ensures takes { TakesTokens result word.entry at (meaning_tokens meaning.entry) items.old items.new }
     ensures few { length items.new ≤ 33554432 }
 {
     match meaning {
-        Meaning::Digits(digits) => take_digits(items, word, digits),
-        Meaning::Text(text) => take_text(items, word, text),
-        Meaning::Number(n) => take_bytes(items, word, &n.to_le_bytes()),
-        Meaning::One(token) => take(items, word, at, token),
+        WordMeaning::Digits(digits) => take_digits(items, word, digits),
+        WordMeaning::Text(text) => take_text(items, word, text),
+        WordMeaning::Number(n) => take_bytes(items, word, &n.to_le_bytes()),
+        WordMeaning::One(token) => take(items, word, at, token),
     }
 }
 
 /// What a word gives that a definition names.
-fn defined_meaning<'s>(table: &Definitions<'s>, text: &'s [u8]) -> Option<Meaning<'s>>
+fn defined_meaning<'s>(table: &Definitions<'s>, text: &'s [u8]) -> Option<WordMeaning<'s>>
     ensures { MeansTokens result (defined_tokens (values_in table.now text.now)) }
 {
-    match table.get(&Name::new(text)) {
+    match table.get(&LabelName::new(text)) {
         None => None,
         Some(value) => value.meaning(),
     }
@@ -165,7 +165,7 @@ fn defined_meaning<'s>(table: &Definitions<'s>, text: &'s [u8]) -> Option<Meanin
 pub(crate) fn meaning_by<'s>(
     table: &Definitions<'s>,
     text: &'s [u8],
-) -> Result<Meaning<'s>, WordFault>
+) -> Result<WordMeaning<'s>, WordFault>
     ensures { MeansResult result (tokens_of (values_in table.now) text.now) }
 {
     match defined_meaning(table, text) {

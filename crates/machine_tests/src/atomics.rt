@@ -46,7 +46,7 @@ fn amo_rows_as_an_independent_machine_has_them(rt: HostRuntime) {
     check_amos_on::<FlatRam>(&rt, rt.alloc());
 }
 
-/// Stores a number and what it is not behind it, and takes the reservation away.
+/// Stores a number and what it is not after it, and takes the reservation away.
 fn place<R: Ram>(hart: &mut Hart<R>, old: u64) -> bool {
     hart.set_reservation(None);
     hart.ram_mut().store(AT, Width::W8, old).is_ok()
@@ -58,7 +58,7 @@ type Pair = (u32, u32, u64, u64, u64, u64, u64, u64, u64, u64);
 fn is_pair<R: Ram>(
     rt: &impl Abort,
     hart: &mut Hart<R>,
-    &(load, store, distance, old, b, loaded, first, second, after, behind): &Pair,
+    &(load, store, distance, old, b, loaded, first, second, after, following): &Pair,
 ) -> bool {
     let other = AT.wrapping_add(distance);
     place(hart, old)
@@ -67,7 +67,7 @@ fn is_pair<R: Ram>(
         && hart.reservation() == None
         && gives(rt, hart, (store, other, b), (10, second))
         && holds(hart, AT, after)
-        && holds(hart, AT + 8, behind)
+        && holds(hart, AT + 8, following)
 }
 
 fn check_pairs<R: Ram>(rt: &impl Abort, hart: &mut Hart<R>) {
@@ -129,7 +129,7 @@ fn a_reservation_holds_for_one_store_conditional(rt: HostRuntime) {
     check(&rt, rt.alloc(), &ONE_STORE);
 }
 
-const HELD_BEHIND: Reservation = Reservation {
+const HELD_AFTER: Reservation = Reservation {
     wide: Width::W8,
     at: AT + 8,
 };
@@ -142,7 +142,7 @@ static WIDTHS: [Step; 9] = [
     Step::Done(SCD, AT, 9, 1, 0),
     Step::Done(LRW, AT, 0, 0, 0),
     Step::Done(LRD, AT + 8, 0, 0, 0),
-    Step::Reserved(Some(HELD_BEHIND)),
+    Step::Reserved(Some(HELD_AFTER)),
     Step::Done(SCW, AT, 9, 1, 0),
 ];
 

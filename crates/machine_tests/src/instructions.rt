@@ -146,7 +146,7 @@ fn is_row(word: u32, pc: u64, want: &str) -> bool {
     }
 }
 
-/// Asserts that words, one behind the other, are printed so.
+/// Asserts that words, one after the other, are printed so.
 fn check_rows(rt: &impl Abort, rows: &[(u32, &str)]) {
     let mut pc = START;
     for &(word, want) in rows {

@@ -144,7 +144,7 @@ static STORED_AND_LOADED: [Call; 24] = [
     Call::Load(0x20_3ff8, Width::W8, Some(7)),
 ];
 
-/// Behind bytes that were written over several pages: their edges, reads, and no bytes, which are mapped everywhere.
+/// After bytes that were written over several pages: their edges, reads, and no bytes, which are mapped everywhere.
 static WRITTEN_AND_READ: [Call; 9] = [
     Call::Load(0xb7ff, Width::W2, Some(0x0700)),
     Call::Load(0xdb27, Width::W2, Some(0x0007)),

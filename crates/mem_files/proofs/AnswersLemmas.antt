@@ -1,9 +1,9 @@
 -- What a call leaves is sound, where what is meant is.
 use Rattle.std.proofs.Common.{ℕ, Result, Ok, Err, ap, sym, subst}
-use Rattle.mem_files.specs.declared.slot.FileRefusal.{FileRefusal}
-use Rattle.mem_files.specs.declared.slot.FileRefusal.TheVariants as file
-use Rattle.mem_files.specs.declared.slot.PlaceRefusal.{PlaceRefusal}
-use Rattle.mem_files.specs.declared.slot.PlaceRefusal.TheVariants.{BadName, Twice, Full, OutOfMemory}
+use Rattle.mem_files.specs.declared.open_file.FileRefusal.{FileRefusal}
+use Rattle.mem_files.specs.declared.open_file.FileRefusal.TheVariants as file
+use Rattle.mem_files.specs.declared.open_file.PlaceRefusal.{PlaceRefusal}
+use Rattle.mem_files.specs.declared.open_file.PlaceRefusal.TheVariants.{BadName, Twice, Full, OutOfMemory}
 use Rattle.mem_files.specs.World.{World}
 use Rattle.mem_files.specs.Sound.{IsSound}
 use Rattle.mem_files.specs.Replies.{Replies, Places}

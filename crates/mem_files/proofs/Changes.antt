@@ -11,14 +11,14 @@ use Rattle.std.specs.Cmp.Lexicographic.{nat_list_cmp_total}
 use Rattle.std.specs.Ordering.{eq_by_cmp, is_eq, nat_cmp}
 use Rattle.std.specs.FinMap as fin
 use Rattle.std.specs.FinMap.Entries.{is_sorted-put, is_sorted-where_key, where_key}
-use Rattle.mem_files.specs.declared.slot.Slot.{Slot}
+use Rattle.mem_files.specs.declared.open_file.OpenFile.{OpenFile}
 use Rattle.mem_files.specs.declared.stored.Stored.{Stored}
 use Rattle.mem_files.specs.Limits.{most_descriptors, most_names, most_name}
 use Rattle.mem_files.specs.Names.{bytes_cmp}
 use Rattle.mem_files.specs.World.{World, total, content_of, is_of, is_named, is_open, lowest_unused}
 use Rattle.mem_files.specs.Inside.Cells.{map_of, SameCells}
 use Rattle.mem_files.specs.Inside.Counts.{opens_in}
-use Rattle.mem_files.specs.Inside.Table.{Parts, world_of, Uses, AreSlots, IsConsistent}
+use Rattle.mem_files.specs.Inside.FileTable.{Parts, world_of, Uses, AreOpenFiles, IsConsistent}
 use Rattle.mem_files.specs.Inside.Stored.{content_in, name_in}
 use Rattle.mem_files.proofs.Maps.{lowest_unused-is, any_at, key_of_any}
 use Rattle.mem_files.proofs.Counting.{any_opens, opens_few, opens_same, opens_set}
@@ -116,8 +116,8 @@ module _ (p : Parts) (w : World) (is : world_of p ≡ w) (ok : IsConsistent p) w
   pub in_order : T (fin.is_sorted bytes_cmp p.names)
   in_order = subst T (sym ok.sorted) tt
 
-  pub slot_within : (fd : ℕ) → IsSome (fin.get w.slots fd) → fd < length p.slots
-  slot_within fd held = within p.slots fd (sym (ap is_some (get-map_of p.slots fd)) ∙ subst (λ (v : World). IsSome (fin.get v.slots fd)) (sym is) held)
+  pub open_file_within : (fd : ℕ) → IsSome (fin.get w.open_files fd) → fd < length p.open_files
+  open_file_within fd held = within p.open_files fd (sym (ap is_some (get-map_of p.open_files fd)) ∙ subst (λ (v : World). IsSome (fin.get v.open_files fd)) (sym is) held)
 
   pub file_within : (number : ℕ) → IsSome (fin.get w.files number) → number < length p.files
   file_within number held = within p.files number (full_from_content _ (sym (ap is_some (get-file p number)) ∙ subst (λ (v : World). IsSome (fin.get v.files number)) (sym is) held))
@@ -126,15 +126,15 @@ module _ (p : Parts) (w : World) (is : world_of p ≡ w) (ok : IsConsistent p) w
   pub file-is : (number : ℕ) → fin.get w.files number ≡ content_in (get_or p.files number None)
   file-is number = ap (λ (v : World). fin.get v.files number) (sym is) ∙ get-file p number
 
-  pub slot-is : (fd : ℕ) → fin.get w.slots fd ≡ get_or p.slots fd None
-  slot-is fd = ap (λ (v : World). fin.get v.slots fd) (sym is) ∙ get-map_of p.slots fd
+  pub open_file-is : (fd : ℕ) → fin.get w.open_files fd ≡ get_or p.open_files fd None
+  open_file-is fd = ap (λ (v : World). fin.get v.open_files fd) (sym is) ∙ get-map_of p.open_files fd
 
   -- other cells of descriptors
-  with_slots : (slots : List (Option Slot)) (used : List Bool) (count : ℕ) (opens : List ℕ) → AreSlots slots used count opens → IsConsistent (record p { slots = slots; used_slots = used; slot_count = count; open_counts = opens })
-  with_slots slots used count opens fit = record {
+  with_open_files : (open_files : List (Option OpenFile)) (used : List Bool) (count : ℕ) (opens : List ℕ) → AreOpenFiles open_files used count opens → IsConsistent (record p { open_files = open_files; used_open_files = used; open_file_count = count; open_counts = opens })
+  with_open_files open_files used count opens fit = record {
     sorted = ok.sorted;
     short = ok.short;
-    slots_fit = fit;
+    open_files_fit = fit;
     few_files = ok.few_files;
     enough_files = ok.enough_files;
     files_used = ok.files_used;
@@ -144,84 +144,84 @@ module _ (p : Parts) (w : World) (is : world_of p ≡ w) (ok : IsConsistent p) w
   }
 
   -- a descriptor that is held stands for something else, of the same file
-  pub set_slot-consistent : (fd : ℕ) (slot : Slot) → IsSome (fin.get w.slots fd) → ((number : ℕ) → opens_in number (fin.get w.slots fd) ≡ opens_in number (Some slot)) → IsConsistent (record p { slots = set p.slots fd (Some slot) })
-  set_slot-consistent fd slot held same =
-      let inside = slot_within fd held in
-      with_slots (set p.slots fd (Some slot)) p.used_slots p.slot_count p.open_counts record {
-        few = omega (arith, length-set p.slots fd (Some slot), ok.slots_fit.few);
-        enough = ok.slots_fit.enough;
-        uses = uses_same p.used_slots p.slots fd (Some slot) ok.slots_fit.uses inside (ap is_some (sym (slot-is fd)) ∙ held);
-        counted = ok.slots_fit.counted ∙ sym (ap fin.len (map_of-fill p.slots fd slot inside) ∙ fin.len-insert nat_cmp_total (map_of p.slots) fd slot
-            ∙ ap (λ b. cond b (fin.len (map_of p.slots)) (fin.len (map_of p.slots) + 1)) (subst (λ (v : World). IsSome (fin.get v.slots fd)) (sym is) held));
-        opens = λ number. omega (arith, ok.slots_fit.opens number, opens_set number p.slots fd (Some slot) inside, ap (opens_in number) (slot-is fd), same number);
+  pub set_open_file-consistent : (fd : ℕ) (open_file : OpenFile) → IsSome (fin.get w.open_files fd) → ((number : ℕ) → opens_in number (fin.get w.open_files fd) ≡ opens_in number (Some open_file)) → IsConsistent (record p { open_files = set p.open_files fd (Some open_file) })
+  set_open_file-consistent fd open_file held same =
+      let inside = open_file_within fd held in
+      with_open_files (set p.open_files fd (Some open_file)) p.used_open_files p.open_file_count p.open_counts record {
+        few = omega (arith, length-set p.open_files fd (Some open_file), ok.open_files_fit.few);
+        enough = ok.open_files_fit.enough;
+        uses = uses_same p.used_open_files p.open_files fd (Some open_file) ok.open_files_fit.uses inside (ap is_some (sym (open_file-is fd)) ∙ held);
+        counted = ok.open_files_fit.counted ∙ sym (ap fin.len (map_of-fill p.open_files fd open_file inside) ∙ fin.len-insert nat_cmp_total (map_of p.open_files) fd open_file
+            ∙ ap (λ b. cond b (fin.len (map_of p.open_files)) (fin.len (map_of p.open_files) + 1)) (subst (λ (v : World). IsSome (fin.get v.open_files fd)) (sym is) held));
+        opens = λ number. omega (arith, ok.open_files_fit.opens number, opens_set number p.open_files fd (Some open_file) inside, ap (opens_in number) (open_file-is fd), same number);
       }
 
-  pub set_slot-world : (fd : ℕ) (slot : Slot) → IsSome (fin.get w.slots fd) → world_of (record p { slots = set p.slots fd (Some slot) }) ≡ record w { slots = fin.insert w.slots fd slot }
-  set_slot-world fd slot held = ap (λ m. record (world_of p) { slots = m }) (map_of-fill p.slots fd slot (slot_within fd held)) ∙ ap (λ (v : World). record v { slots = fin.insert v.slots fd slot }) is
+  pub set_open_file-world : (fd : ℕ) (open_file : OpenFile) → IsSome (fin.get w.open_files fd) → world_of (record p { open_files = set p.open_files fd (Some open_file) }) ≡ record w { open_files = fin.insert w.open_files fd open_file }
+  set_open_file-world fd open_file held = ap (λ m. record (world_of p) { open_files = m }) (map_of-fill p.open_files fd open_file (open_file_within fd held)) ∙ ap (λ (v : World). record v { open_files = fin.insert v.open_files fd open_file }) is
 
   -- a descriptor that is held stands for nothing any more
-  pub slot_used : (fd : ℕ) → IsSome (fin.get w.slots fd) → fd < length p.used_slots
-  slot_used fd held = omega (arith, slot_within fd held, ok.slots_fit.few, ok.slots_fit.enough)
+  pub open_file_used : (fd : ℕ) → IsSome (fin.get w.open_files fd) → fd < length p.used_open_files
+  open_file_used fd held = omega (arith, open_file_within fd held, ok.open_files_fit.few, ok.open_files_fit.enough)
 
-  pub slot_opens : (fd : ℕ) (cell : Option Slot) → IsSome (fin.get w.slots fd) → cell ≡ get_or p.slots fd None → (number : ℕ) → opens_in number cell ≤ get_or p.open_counts number 0
-  slot_opens fd cell held here number =
-      omega (arith, ok.slots_fit.opens number, opens_set number p.slots fd None (slot_within fd held), ap (opens_in number) here)
+  pub open_file_opens : (fd : ℕ) (cell : Option OpenFile) → IsSome (fin.get w.open_files fd) → cell ≡ get_or p.open_files fd None → (number : ℕ) → opens_in number cell ≤ get_or p.open_counts number 0
+  open_file_opens fd cell held here number =
+      omega (arith, ok.open_files_fit.opens number, opens_set number p.open_files fd None (open_file_within fd held), ap (opens_in number) here)
 
-  pub clear_slot-consistent : (fd : ℕ) (cell : Option Slot) → IsSome (fin.get w.slots fd) → cell ≡ get_or p.slots fd None → (used : List Bool) → used ≡ set p.used_slots fd false
+  pub clear_open_file-consistent : (fd : ℕ) (cell : Option OpenFile) → IsSome (fin.get w.open_files fd) → cell ≡ get_or p.open_files fd None → (used : List Bool) → used ≡ set p.used_open_files fd false
       → (opens : List ℕ) → ((number : ℕ) → get_or opens number 0 + opens_in number cell ≡ get_or p.open_counts number 0)
-      → IsConsistent (record p { slots = set p.slots fd None; used_slots = used; slot_count = p.slot_count - 1; open_counts = opens })
-  clear_slot-consistent fd cell held here used unused opens fewer =
-      let inside = slot_within fd held in
-      with_slots (set p.slots fd None) used (p.slot_count - 1) opens record {
-        few = omega (arith, length-set p.slots fd None, ok.slots_fit.few);
-        enough = ap length unused ∙ length-set p.used_slots fd false ∙ ok.slots_fit.enough;
-        uses = subst (λ (l : List Bool). Uses l (set p.slots fd None)) (sym unused) (uses_set p.used_slots p.slots fd false None ok.slots_fit.uses inside (slot_used fd held) refl);
-        counted = ap (λ n. n - 1) ok.slots_fit.counted ∙ sym (ap fin.len (map_of-empty p.slots fd inside) ∙ fin.len-remove nat_cmp_total (map_of p.slots) fd
-            ∙ ap (λ b. cond b (fin.len (map_of p.slots) - 1) (fin.len (map_of p.slots))) (subst (λ (v : World). IsSome (fin.get v.slots fd)) (sym is) held));
-        opens = λ number. omega (arith, ok.slots_fit.opens number, opens_set number p.slots fd None inside, ap (opens_in number) here, fewer number);
+      → IsConsistent (record p { open_files = set p.open_files fd None; used_open_files = used; open_file_count = p.open_file_count - 1; open_counts = opens })
+  clear_open_file-consistent fd cell held here used unused opens fewer =
+      let inside = open_file_within fd held in
+      with_open_files (set p.open_files fd None) used (p.open_file_count - 1) opens record {
+        few = omega (arith, length-set p.open_files fd None, ok.open_files_fit.few);
+        enough = ap length unused ∙ length-set p.used_open_files fd false ∙ ok.open_files_fit.enough;
+        uses = subst (λ (l : List Bool). Uses l (set p.open_files fd None)) (sym unused) (uses_set p.used_open_files p.open_files fd false None ok.open_files_fit.uses inside (open_file_used fd held) refl);
+        counted = ap (λ n. n - 1) ok.open_files_fit.counted ∙ sym (ap fin.len (map_of-empty p.open_files fd inside) ∙ fin.len-remove nat_cmp_total (map_of p.open_files) fd
+            ∙ ap (λ b. cond b (fin.len (map_of p.open_files) - 1) (fin.len (map_of p.open_files))) (subst (λ (v : World). IsSome (fin.get v.open_files fd)) (sym is) held));
+        opens = λ number. omega (arith, ok.open_files_fit.opens number, opens_set number p.open_files fd None inside, ap (opens_in number) here, fewer number);
       }
 
-  pub clear_slot-world : (fd : ℕ) → IsSome (fin.get w.slots fd) → world_of (record p { slots = set p.slots fd None }) ≡ record w { slots = fin.remove w.slots fd }
-  clear_slot-world fd held = ap (λ m. record (world_of p) { slots = m }) (map_of-empty p.slots fd (slot_within fd held)) ∙ ap (λ (v : World). record v { slots = fin.remove v.slots fd }) is
+  pub clear_open_file-world : (fd : ℕ) → IsSome (fin.get w.open_files fd) → world_of (record p { open_files = set p.open_files fd None }) ≡ record w { open_files = fin.remove w.open_files fd }
+  clear_open_file-world fd held = ap (λ m. record (world_of p) { open_files = m }) (map_of-empty p.open_files fd (open_file_within fd held)) ∙ ap (λ (v : World). record v { open_files = fin.remove v.open_files fd }) is
 
   -- empty cells more
-  pub more_slots-world : (cells : List (Option Slot)) → SameCells p.slots cells → world_of (record p { slots = cells }) ≡ w
-  more_slots-world cells same = ap (λ m. record (world_of p) { slots = m }) (map_of-same p.slots cells same) ∙ is
+  pub more_open_files-world : (cells : List (Option OpenFile)) → SameCells p.open_files cells → world_of (record p { open_files = cells }) ≡ w
+  more_open_files-world cells same = ap (λ m. record (world_of p) { open_files = m }) (map_of-same p.open_files cells same) ∙ is
 
-  pub more_slots-consistent : (cells : List (Option Slot)) → SameCells p.slots cells → length cells ≤ most_descriptors → IsConsistent (record p { slots = cells })
-  more_slots-consistent cells same few = with_slots cells p.used_slots p.slot_count p.open_counts record {
+  pub more_open_files-consistent : (cells : List (Option OpenFile)) → SameCells p.open_files cells → length cells ≤ most_descriptors → IsConsistent (record p { open_files = cells })
+  more_open_files-consistent cells same few = with_open_files cells p.used_open_files p.open_file_count p.open_counts record {
     few = few;
-    enough = ok.slots_fit.enough;
-    uses = λ number. ok.slots_fit.uses number ∙ ap is_some (sym (same number));
-    counted = ok.slots_fit.counted ∙ sym (ap fin.len (map_of-same p.slots cells same));
-    opens = λ number. ok.slots_fit.opens number ∙ sym (opens_same number p.slots cells same);
+    enough = ok.open_files_fit.enough;
+    uses = λ number. ok.open_files_fit.uses number ∙ ap is_some (sym (same number));
+    counted = ok.open_files_fit.counted ∙ sym (ap fin.len (map_of-same p.open_files cells same));
+    opens = λ number. ok.open_files_fit.opens number ∙ sym (opens_same number p.open_files cells same);
   }
 
   -- an unused descriptor with a cell stands for something
-  pub add_slot-consistent : (fd : ℕ) (slot : Slot) → fd < length p.slots → fin.get w.slots fd ≡ None → (used : List Bool) → used ≡ set p.used_slots fd true
-      → (opens : List ℕ) → ((number : ℕ) → get_or opens number 0 ≡ get_or p.open_counts number 0 + opens_in number (Some slot))
-      → IsConsistent (record p { slots = set p.slots fd (Some slot); used_slots = used; slot_count = p.slot_count + 1; open_counts = opens })
-  add_slot-consistent fd slot h unused used uses opens more = with_slots (set p.slots fd (Some slot)) used (p.slot_count + 1) opens record {
-    few = omega (arith, length-set p.slots fd (Some slot), ok.slots_fit.few);
-    enough = ap length uses ∙ length-set p.used_slots fd true ∙ ok.slots_fit.enough;
-    uses = subst (λ (l : List Bool). Uses l (set p.slots fd (Some slot))) (sym uses) (uses_set p.used_slots p.slots fd true (Some slot) ok.slots_fit.uses h (omega (arith, ok.slots_fit.few, ok.slots_fit.enough)) refl);
-    counted = ap (λ n. n + 1) ok.slots_fit.counted ∙ sym (ap fin.len (map_of-fill p.slots fd slot h) ∙ fin.len-insert nat_cmp_total (map_of p.slots) fd slot
-        ∙ ap (λ b. cond b (fin.len (map_of p.slots)) (fin.len (map_of p.slots) + 1)) (ap is_some (subst (λ (v : World). fin.get v.slots fd ≡ None) (sym is) unused)));
-    opens = λ number. omega (arith, ok.slots_fit.opens number, opens_set number p.slots fd (Some slot) h, ap (opens_in number) (sym (slot-is fd) ∙ unused), more number);
+  pub add_open_file-consistent : (fd : ℕ) (open_file : OpenFile) → fd < length p.open_files → fin.get w.open_files fd ≡ None → (used : List Bool) → used ≡ set p.used_open_files fd true
+      → (opens : List ℕ) → ((number : ℕ) → get_or opens number 0 ≡ get_or p.open_counts number 0 + opens_in number (Some open_file))
+      → IsConsistent (record p { open_files = set p.open_files fd (Some open_file); used_open_files = used; open_file_count = p.open_file_count + 1; open_counts = opens })
+  add_open_file-consistent fd open_file h unused used uses opens more = with_open_files (set p.open_files fd (Some open_file)) used (p.open_file_count + 1) opens record {
+    few = omega (arith, length-set p.open_files fd (Some open_file), ok.open_files_fit.few);
+    enough = ap length uses ∙ length-set p.used_open_files fd true ∙ ok.open_files_fit.enough;
+    uses = subst (λ (l : List Bool). Uses l (set p.open_files fd (Some open_file))) (sym uses) (uses_set p.used_open_files p.open_files fd true (Some open_file) ok.open_files_fit.uses h (omega (arith, ok.open_files_fit.few, ok.open_files_fit.enough)) refl);
+    counted = ap (λ n. n + 1) ok.open_files_fit.counted ∙ sym (ap fin.len (map_of-fill p.open_files fd open_file h) ∙ fin.len-insert nat_cmp_total (map_of p.open_files) fd open_file
+        ∙ ap (λ b. cond b (fin.len (map_of p.open_files)) (fin.len (map_of p.open_files) + 1)) (ap is_some (subst (λ (v : World). fin.get v.open_files fd ≡ None) (sym is) unused)));
+    opens = λ number. omega (arith, ok.open_files_fit.opens number, opens_set number p.open_files fd (Some open_file) h, ap (opens_in number) (sym (open_file-is fd) ∙ unused), more number);
   }
 
-  pub add_slot-world : (fd : ℕ) (slot : Slot) → fd < length p.slots → world_of (record p { slots = set p.slots fd (Some slot) }) ≡ record w { slots = fin.insert w.slots fd slot }
-  add_slot-world fd slot h = ap (λ m. record (world_of p) { slots = m }) (map_of-fill p.slots fd slot h) ∙ ap (λ (v : World). record v { slots = fin.insert v.slots fd slot }) is
+  pub add_open_file-world : (fd : ℕ) (open_file : OpenFile) → fd < length p.open_files → world_of (record p { open_files = set p.open_files fd (Some open_file) }) ≡ record w { open_files = fin.insert w.open_files fd open_file }
+  add_open_file-world fd open_file h = ap (λ m. record (world_of p) { open_files = m }) (map_of-fill p.open_files fd open_file h) ∙ ap (λ (v : World). record v { open_files = fin.insert v.open_files fd open_file }) is
 
   pub opens_small : (number : ℕ) → get_or p.open_counts number 0 ≤ most_descriptors
-  opens_small number = omega (arith, ok.slots_fit.opens number, opens_few number p.slots, ok.slots_fit.few)
+  opens_small number = omega (arith, ok.open_files_fit.opens number, opens_few number p.open_files, ok.open_files_fit.few)
 
-  pub slots_some : (fd : ℕ) → IsSome (fin.get w.slots fd) → 1 ≤ p.slot_count
-  slots_some fd held =
-      let there : IsSome (fin.get (map_of p.slots) fd) = subst (λ (v : World). IsSome (fin.get v.slots fd)) (sym is) held in
-      elim (cases_lt 0 (fin.len (map_of p.slots))) as (λ _. 1 ≤ p.slot_count) [
-        | inl h ↦ omega (arith, ok.slots_fit.counted)
-        | inr h ↦ absurd (false≢true (sym (ap is_some (ap (λ m. fin.get m fd) (fin.empty_of_len (map_of p.slots) (omega arith)) ∙ fin.get-empty nat_cmp fd)) ∙ there))
+  pub open_files_some : (fd : ℕ) → IsSome (fin.get w.open_files fd) → 1 ≤ p.open_file_count
+  open_files_some fd held =
+      let there : IsSome (fin.get (map_of p.open_files) fd) = subst (λ (v : World). IsSome (fin.get v.open_files fd)) (sym is) held in
+      elim (cases_lt 0 (fin.len (map_of p.open_files))) as (λ _. 1 ≤ p.open_file_count) [
+        | inl h ↦ omega (arith, ok.open_files_fit.counted)
+        | inr h ↦ absurd (false≢true (sym (ap is_some (ap (λ m. fin.get m fd) (fin.empty_of_len (map_of p.open_files) (omega arith)) ∙ fin.get-empty nat_cmp fd)) ∙ there))
       ]
 
   -- a file with other bytes and the same name
@@ -236,7 +236,7 @@ module _ (p : Parts) (w : World) (is : world_of p ≡ w) (ok : IsConsistent p) w
   set_file-consistent at cell content bytes h held filled same sums = record {
     sorted = ok.sorted;
     short = ok.short;
-    slots_fit = ok.slots_fit;
+    open_files_fit = ok.open_files_fit;
     few_files = omega (arith, length-set p.files at cell, ok.few_files);
     enough_files = ok.enough_files;
     files_used = uses_same p.used_files p.files at cell ok.files_used h (sym (is_some-content (get_or p.files at None)) ∙ ap is_some (sym (file-is at)) ∙ held ∙ ap is_some (sym filled) ∙ is_some-content cell);
@@ -253,7 +253,7 @@ module _ (p : Parts) (w : World) (is : world_of p ≡ w) (ok : IsConsistent p) w
   same_file-consistent at cell h same named = record {
     sorted = ok.sorted;
     short = ok.short;
-    slots_fit = ok.slots_fit;
+    open_files_fit = ok.open_files_fit;
     few_files = omega (arith, length-set p.files at cell, ok.few_files);
     enough_files = ok.enough_files;
     files_used = uses_same p.used_files p.files at cell ok.files_used h (alike_by_content (get_or p.files at None) cell (sym same));
@@ -286,7 +286,7 @@ module _ (p : Parts) (w : World) (is : world_of p ≡ w) (ok : IsConsistent p) w
       let kept = name_kept p.files at None h (sym (unnamed at none)) in record {
         sorted = ok.sorted;
         short = ok.short;
-        slots_fit = ok.slots_fit;
+        open_files_fit = ok.open_files_fit;
         few_files = omega (arith, length-set p.files at None, ok.few_files);
         enough_files = ap length unused ∙ length-set p.used_files at false ∙ ok.enough_files;
         files_used = subst (λ (l : List Bool). Uses l (set p.files at None)) (sym unused) (uses_set p.used_files p.files at false None ok.files_used h (number_used at h) refl);
@@ -304,7 +304,7 @@ module _ (p : Parts) (w : World) (is : world_of p ≡ w) (ok : IsConsistent p) w
   more_files-consistent cells same few = record {
     sorted = ok.sorted;
     short = ok.short;
-    slots_fit = ok.slots_fit;
+    open_files_fit = ok.open_files_fit;
     few_files = few;
     enough_files = ok.enough_files;
     files_used = λ number. ok.files_used number ∙ ap is_some (sym (same number));
@@ -322,7 +322,7 @@ module _ (p : Parts) (w : World) (is : world_of p ≡ w) (ok : IsConsistent p) w
       let kept = name_kept p.files at (Some file) h (unnamed ∙ sym vacant) in record {
         sorted = ok.sorted;
         short = ok.short;
-        slots_fit = ok.slots_fit;
+        open_files_fit = ok.open_files_fit;
         few_files = omega (arith, length-set p.files at (Some file), ok.few_files);
         enough_files = ap length uses ∙ length-set p.used_files at true ∙ ok.enough_files;
         files_used = subst (λ (l : List Bool). Uses l (set p.files at (Some file))) (sym uses) (uses_set p.used_files p.files at true (Some file) ok.files_used h (number_used at h) refl);
@@ -354,7 +354,7 @@ module _ (p : Parts) (w : World) (is : world_of p ≡ w) (ok : IsConsistent p) w
           | true ↦ λ tie _. subst (λ n. length n ≤ most_name) (sym (tied q name tie)) few
           | false ↦ λ _ there. ok.short q number there
         ] refl (sym (get-put name at q) ∙ e);
-    slots_fit = ok.slots_fit;
+    open_files_fit = ok.open_files_fit;
     few_files = omega (arith, length-set p.files at (Some file), ok.few_files);
     enough_files = ap length uses ∙ length-set p.used_files at true ∙ ok.enough_files;
     files_used = subst (λ (l : List Bool). Uses l (set p.files at (Some file))) (sym uses) (uses_set p.used_files p.files at true (Some file) ok.files_used h (number_used at h) refl);
@@ -405,7 +405,7 @@ module _ (p : Parts) (w : World) (is : world_of p ≡ w) (ok : IsConsistent p) w
           | true ↦ λ gone. absurd (none-some number gone)
           | false ↦ λ there. ok.short q number there
         ] (sym (get-where name q) ∙ e);
-    slots_fit = ok.slots_fit;
+    open_files_fit = ok.open_files_fit;
     few_files = omega (arith, length-set p.files at cell, ok.few_files);
     enough_files = ok.enough_files;
     files_used = uses_same p.used_files p.files at cell ok.files_used inside (alike_by_content (get_or p.files at None) cell (sym same));
@@ -455,7 +455,7 @@ module _ (p : Parts) (w : World) (is : world_of p ≡ w) (ok : IsConsistent p) w
 
   pub is_open-is : (number : ℕ) → is_open w number ≡ not (eqb (get_or p.open_counts number 0) 0)
   is_open-is number =
-      ap (λ (v : World). is_open v number) (sym is) ∙ any-map_of (is_of number) p.slots ∙ any_opens number p.slots ∙ ap (λ n. not (eqb n 0)) (sym (ok.slots_fit.opens number))
+      ap (λ (v : World). is_open v number) (sym is) ∙ any-map_of (is_of number) p.open_files ∙ any_opens number p.open_files ∙ ap (λ n. not (eqb n 0)) (sym (ok.open_files_fit.opens number))
 
   pub names_len-is : fin.len w.names ≡ length p.names
   names_len-is = ap (λ (v : World). fin.len v.names) (sym is) ∙ len-from_sorted p.names in_order
@@ -486,9 +486,9 @@ module _ (p : Parts) (w : World) (is : world_of p ≡ w) (ok : IsConsistent p) w
   content-is number cell same = ap (λ o. unwrap_or o []) (file-is number ∙ ap content_in (sym same))
 
   -- the lowest number that isn't used has no cell
-  pub free_slot-is : (fd : ℕ) → get_or p.used_slots fd false ≡ false → ((k : ℕ) → k < fd → get_or p.used_slots k false ≡ true) → fd ≡ lowest_unused w.slots
-  free_slot-is fd free full =
-      lowest_unused-is w.slots fd (slot-is fd ∙ is_none (get_or p.slots fd None) (sym (ok.slots_fit.uses fd) ∙ free)) (λ k h. ap is_some (slot-is k) ∙ sym (ok.slots_fit.uses k) ∙ full k h)
+  pub free_open_file-is : (fd : ℕ) → get_or p.used_open_files fd false ≡ false → ((k : ℕ) → k < fd → get_or p.used_open_files k false ≡ true) → fd ≡ lowest_unused w.open_files
+  free_open_file-is fd free full =
+      lowest_unused-is w.open_files fd (open_file-is fd ∙ is_none (get_or p.open_files fd None) (sym (ok.open_files_fit.uses fd) ∙ free)) (λ k h. ap is_some (open_file-is k) ∙ sym (ok.open_files_fit.uses k) ∙ full k h)
 
   pub free_number-is : (number : ℕ) → get_or p.used_files number false ≡ false → ((k : ℕ) → k < number → get_or p.used_files k false ≡ true) → number ≡ lowest_unused w.files
   free_number-is number free full = lowest_unused-is w.files number
@@ -512,20 +512,20 @@ module _ (p : Parts) (w : World) (is : world_of p ≡ w) (ok : IsConsistent p) w
 
 -- what is put at an unused descriptor, with room made for it
 module _ (p : Parts) (w : World) (is : world_of p ≡ w) (ok : IsConsistent p)
-    (fd : ℕ) (slot : Slot) (unused : fin.get w.slots fd ≡ None) (low : fd < most_descriptors) (cells : List (Option Slot)) (same : SameCells p.slots cells) (most : length cells ≤ max (length p.slots) (fd + 1)) where
-  pub slots_few : length cells ≤ most_descriptors
-  slots_few = omega (arith, ok.slots_fit.few)
+    (fd : ℕ) (open_file : OpenFile) (unused : fin.get w.open_files fd ≡ None) (low : fd < most_descriptors) (cells : List (Option OpenFile)) (same : SameCells p.open_files cells) (most : length cells ≤ max (length p.open_files) (fd + 1)) where
+  pub open_files_few : length cells ≤ most_descriptors
+  open_files_few = omega (arith, ok.open_files_fit.few)
 
-  pub put_slot-used : fd < length p.used_slots
-  put_slot-used = omega (arith, ok.slots_fit.enough)
+  pub put_open_file-used : fd < length p.used_open_files
+  put_open_file-used = omega (arith, ok.open_files_fit.enough)
 
-  pub put_slot-consistent : fd < length cells → (used : List Bool) → used ≡ set p.used_slots fd true → (opens : List ℕ) → ((number : ℕ) → get_or opens number 0 ≡ get_or p.open_counts number 0 + opens_in number (Some slot))
-      → IsConsistent (record p { slots = set cells fd (Some slot); used_slots = used; slot_count = p.slot_count + 1; open_counts = opens })
-  put_slot-consistent inside used uses opens more =
-      add_slot-consistent (record p { slots = cells }) w (more_slots-world p w is ok cells same) (more_slots-consistent p w is ok cells same slots_few) fd slot inside unused used uses opens more
+  pub put_open_file-consistent : fd < length cells → (used : List Bool) → used ≡ set p.used_open_files fd true → (opens : List ℕ) → ((number : ℕ) → get_or opens number 0 ≡ get_or p.open_counts number 0 + opens_in number (Some open_file))
+      → IsConsistent (record p { open_files = set cells fd (Some open_file); used_open_files = used; open_file_count = p.open_file_count + 1; open_counts = opens })
+  put_open_file-consistent inside used uses opens more =
+      add_open_file-consistent (record p { open_files = cells }) w (more_open_files-world p w is ok cells same) (more_open_files-consistent p w is ok cells same open_files_few) fd open_file inside unused used uses opens more
 
-  pub put_slot-world : fd < length cells → world_of (record p { slots = set cells fd (Some slot) }) ≡ record w { slots = fin.insert w.slots fd slot }
-  put_slot-world inside = add_slot-world (record p { slots = cells }) w (more_slots-world p w is ok cells same) (more_slots-consistent p w is ok cells same slots_few) fd slot inside
+  pub put_open_file-world : fd < length cells → world_of (record p { open_files = set cells fd (Some open_file) }) ≡ record w { open_files = fin.insert w.open_files fd open_file }
+  put_open_file-world inside = add_open_file-world (record p { open_files = cells }) w (more_open_files-world p w is ok cells same) (more_open_files-consistent p w is ok cells same open_files_few) fd open_file inside
 
 -- what is put at an unused number, with room made for it
 module _ (p : Parts) (w : World) (is : world_of p ≡ w) (ok : IsConsistent p)

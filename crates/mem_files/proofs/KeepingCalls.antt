@@ -8,25 +8,25 @@ use Rattle.std.specs.Ordering.{nat_cmp}
 use Rattle.std.specs.Cmp.{nat_cmp_total}
 use Rattle.std.specs.Cmp.Lexicographic.{nat_list_cmp_total}
 use Rattle.std.specs.FinMap as fin
-use Rattle.mem_files.specs.declared.slot.Access.{Access}
-use Rattle.mem_files.specs.declared.slot.Slot.{Slot}
-use Rattle.mem_files.specs.declared.slot.Slot.TheVariants.{Input, Stream1, Stream2, File}
+use Rattle.mem_files.specs.declared.open_file.Access.{Access}
+use Rattle.mem_files.specs.declared.open_file.OpenFile.{OpenFile}
+use Rattle.mem_files.specs.declared.open_file.OpenFile.TheVariants.{Input, Stream1, Stream2, File}
 use Rattle.mem_files.specs.Limits.{most_descriptors, most_names, most_content, most_total}
 use Rattle.mem_files.specs.Linux.{o_accmode, o_creat, o_excl, o_trunc, einval, emfile, eexist, enoent, enospc, ebadf, efbig, seek_set, seek_cur, seek_end}
 use Rattle.mem_files.specs.Access.{is_read, is_written}
 use Rattle.mem_files.specs.Names.{bytes_cmp, is_stripped_name, is_file_name, stripped, begins_with_dot_slash}
-use Rattle.mem_files.specs.declared.slot.PlaceRefusal.{PlaceRefusal}
-use Rattle.mem_files.specs.declared.slot.PlaceRefusal.TheVariants.{BadName, Twice, Full}
+use Rattle.mem_files.specs.declared.open_file.PlaceRefusal.{PlaceRefusal}
+use Rattle.mem_files.specs.declared.open_file.PlaceRefusal.TheVariants.{BadName, Twice, Full}
 use Rattle.mem_files.proofs.First.{three, no_bytes}
 use borrow.Author.Tests.{ltb-false, leb-false}
 use Rattle.mem_files.specs.World.{World, total, content_of, is_of, is_named, is_open, lowest_unused}
-use Rattle.mem_files.specs.Calls.{first_world, with_file, with_descriptor, access_of, has, with_content, written_over, opened, opened_at, emptied_if, seek_base, as_cursor, with_cursor, sought, sought_at, ready, ready_at, skipped, skipped_at, fits, fits_at, write_place, write_cursor, filled, written, written_if, placed, is_full}
-use Rattle.mem_files.specs.Inside.Kept.{HasFile, IsHeldSlot, IsKept}
+use Rattle.mem_files.specs.Calls.{first_world, with_file, with_descriptor, access_of, has, with_content, written_over, opened, opened_at, emptied_if, seek_base, as_file_offset, with_file_offset, sought, sought_at, ready, ready_at, skipped, skipped_at, fits, fits_at, write_place, write_file_offset, filled, written, written_if, placed, is_full}
+use Rattle.mem_files.specs.Inside.Kept.{HasFile, IsHeldOpenFile, IsKept}
 use Rattle.mem_files.proofs.Totals.{total-insert}
 use Rattle.mem_files.proofs.Maps.{get-lowest_unused, lowest_unused-le-len}
 use Rattle.mem_files.proofs.Entries.{is_some_of, here, there, insert_cases, insert_some, name_here, name_there, name_insert_cases}
 use Rattle.mem_files.proofs.Overwrites.{length-written_over}
-use Rattle.mem_files.proofs.Keeping.{or_left, or_right, or_cases, named_by, open_by, name_of, slot_of, by_eq, slot_kept, lowest_number-le, neither}
+use Rattle.mem_files.proofs.Keeping.{or_left, or_right, or_cases, named_by, open_by, name_of, open_file_of, by_eq, open_file_kept, lowest_number-le, neither}
 
 -- a file has other bytes
 pub set_content-kept : (w : World) (number : ℕ) (content : List ℕ) → IsKept w → IsSome (fin.get w.files number) → length content ≤ most_content → total w + length content ≤ most_total + length (content_of w number)
@@ -37,7 +37,7 @@ set_content-kept w number content s held small room =
     λ n h. by_eq n number (λ e. subst (λ k. IsSome (fin.get w.files k)) (sym e) held) (λ ne. sym (ap is_some (there w.files number content n ne)) ∙ h) in
     record {
       few_names = s.few_names;
-      few_slots = s.few_slots;
+      few_open_files = s.few_open_files;
       small_stream1 = s.small_stream1;
       small_stream2 = s.small_stream2;
       small_files = λ n bytes e. elim (insert_cases w.files number content n bytes e) as (λ _. length bytes ≤ most_content) [
@@ -48,7 +48,7 @@ set_content-kept w number content s held small room =
       good_names = s.good_names;
       held = λ name n e. insert_some w.files number content n (s.held name n e);
       named_once = s.named_once;
-      good_slots = λ fd slot e. ((s.good_slots fd slot e).0, slot_kept w v fd slot (λ n of h. insert_some w.files number content n h) (s.good_slots fd slot e).1);
+      good_open_files = λ fd open_file e. ((s.good_open_files fd open_file e).0, open_file_kept w v fd open_file (λ n of h. insert_some w.files number content n h) (s.good_open_files fd open_file e).1);
       used = λ n h. s.used n (old n h);
       low_numbers = λ n h. s.low_numbers n (old n h);
     }
@@ -63,7 +63,7 @@ with_file-kept w name content s good absent few low small room =
     let vacant : (n : ℕ) → IsSome (fin.get w.files n) → n ≢ number = λ n h e. false≢true (sym (ap is_some (ap (fin.get w.files) e ∙ free)) ∙ h) in
     record {
       few_names = omega (arith, fin.len-insert nat_list_cmp_total w.names name number ∙ ap (λ b. cond b (fin.len w.names) (fin.len w.names + 1)) (ap is_some absent));
-      few_slots = s.few_slots;
+      few_open_files = s.few_open_files;
       small_stream1 = s.small_stream1;
       small_stream2 = s.small_stream2;
       small_files = λ n bytes e. elim (insert_cases w.files number content n bytes e) as (λ _. length bytes ≤ most_content) [
@@ -89,7 +89,7 @@ with_file-kept w name content s good absent few low small room =
           | inr second ↦ s.named_once one other n first.1 second.1
         ]
       ];
-      good_slots = λ fd slot e. ((s.good_slots fd slot e).0, slot_kept w v fd slot (λ n of h. insert_some w.files number content n h) (s.good_slots fd slot e).1);
+      good_open_files = λ fd open_file e. ((s.good_open_files fd open_file e).0, open_file_kept w v fd open_file (λ n of h. insert_some w.files number content n h) (s.good_open_files fd open_file e).1);
       used = λ n h. by_eq n number
           (λ e. or_left _ (is_open v n) (named_by v name n (name_here w.names name number ∙ ap (λ k. Some k) (sym e))))
           (λ ne. or_cases (is_named w n) (is_open w n) (s.used n (sym (ap is_some (there w.files number content n ne)) ∙ h))
@@ -100,15 +100,15 @@ with_file-kept w name content s good absent few low small room =
     }
 
 -- the lowest unused descriptor stands for a file
-pub with_descriptor-kept : (w : World) (number flags : ℕ) → IsKept w → IsSome (fin.get w.files number) → fin.len w.slots < most_descriptors → IsKept (with_descriptor w number flags).1
+pub with_descriptor-kept : (w : World) (number flags : ℕ) → IsKept w → IsSome (fin.get w.files number) → fin.len w.open_files < most_descriptors → IsKept (with_descriptor w number flags).1
 with_descriptor-kept w number flags s held few =
-    let fd : ℕ = lowest_unused w.slots in
-    let free : fin.get w.slots fd ≡ None = get-lowest_unused w.slots in
-    let new : Slot = File number 0 (access_of flags) in
-    let v : World = record w { slots = fin.insert w.slots fd new } in
+    let fd : ℕ = lowest_unused w.open_files in
+    let free : fin.get w.open_files fd ≡ None = get-lowest_unused w.open_files in
+    let new : OpenFile = File number 0 (access_of flags) in
+    let v : World = record w { open_files = fin.insert w.open_files fd new } in
     record {
       few_names = s.few_names;
-      few_slots = omega (arith, fin.len-insert nat_cmp_total w.slots fd new ∙ ap (λ b. cond b (fin.len w.slots) (fin.len w.slots + 1)) (ap is_some free));
+      few_open_files = omega (arith, fin.len-insert nat_cmp_total w.open_files fd new ∙ ap (λ b. cond b (fin.len w.open_files) (fin.len w.open_files + 1)) (ap is_some free));
       small_stream1 = s.small_stream1;
       small_stream2 = s.small_stream2;
       small_files = s.small_files;
@@ -116,26 +116,26 @@ with_descriptor-kept w number flags s held few =
       good_names = s.good_names;
       held = s.held;
       named_once = s.named_once;
-      good_slots = λ other slot e. elim (insert_cases w.slots fd new other slot e) as (λ _. (other < most_descriptors) × IsHeldSlot v other slot) [
-        | inl same ↦ subst (λ (x : Slot). (other < most_descriptors) × IsHeldSlot v other x) same.1 (omega (arith, lowest_unused-le-len w.slots), (held, omega arith))
-        | inr before ↦ ((s.good_slots other slot before.1).0, slot_kept w v other slot (λ n of h. h) (s.good_slots other slot before.1).1)
+      good_open_files = λ other open_file e. elim (insert_cases w.open_files fd new other open_file e) as (λ _. (other < most_descriptors) × IsHeldOpenFile v other open_file) [
+        | inl same ↦ subst (λ (x : OpenFile). (other < most_descriptors) × IsHeldOpenFile v other x) same.1 (omega (arith, lowest_unused-le-len w.open_files), (held, omega arith))
+        | inr before ↦ ((s.good_open_files other open_file before.1).0, open_file_kept w v other open_file (λ n of h. h) (s.good_open_files other open_file before.1).1)
       ];
       used = λ n h. or_cases (is_named w n) (is_open w n) (s.used n h)
           (λ named. or_left (is_named w n) _ named)
-          (λ opened_by. or_right (is_named w n) _ (let by = slot_of w n opened_by in
-          open_by v by.0 by.1 n (there w.slots fd new by.0 (λ k. none-some by.1 (sym free ∙ ap (fin.get w.slots) (sym k) ∙ by.2)) ∙ by.2) by.3));
+          (λ opened_by. or_right (is_named w n) _ (let by = open_file_of w n opened_by in
+          open_by v by.0 by.1 n (there w.open_files fd new by.0 (λ k. none-some by.1 (sym free ∙ ap (fin.get w.open_files) (sym k) ∙ by.2)) ∙ by.2) by.3));
       low_numbers = s.low_numbers;
     }
 
 -- a cursor moves
-pub set_cursor-kept : (w : World) (fd number cursor : ℕ) (access : Access) (to : ℕ) → IsKept w → fin.get w.slots fd ≡ Some (File number cursor access) → to < 2 ^ 63 → IsKept (record w { slots = fin.insert w.slots fd (File number to access) })
-set_cursor-kept w fd number cursor access to s at small =
-    let new : Slot = File number to access in
-    let v : World = record w { slots = fin.insert w.slots fd new } in
-    let good : (fd < most_descriptors) × IsHeldSlot w fd (File number cursor access) = s.good_slots fd (File number cursor access) at in
+pub set_file_offset-kept : (w : World) (fd number file_offset : ℕ) (access : Access) (to : ℕ) → IsKept w → fin.get w.open_files fd ≡ Some (File number file_offset access) → to < 2 ^ 63 → IsKept (record w { open_files = fin.insert w.open_files fd (File number to access) })
+set_file_offset-kept w fd number file_offset access to s at small =
+    let new : OpenFile = File number to access in
+    let v : World = record w { open_files = fin.insert w.open_files fd new } in
+    let good : (fd < most_descriptors) × IsHeldOpenFile w fd (File number file_offset access) = s.good_open_files fd (File number file_offset access) at in
     record {
       few_names = s.few_names;
-      few_slots = omega (arith, fin.len-insert nat_cmp_total w.slots fd new ∙ ap (λ b. cond b (fin.len w.slots) (fin.len w.slots + 1)) (ap is_some at), s.few_slots);
+      few_open_files = omega (arith, fin.len-insert nat_cmp_total w.open_files fd new ∙ ap (λ b. cond b (fin.len w.open_files) (fin.len w.open_files + 1)) (ap is_some at), s.few_open_files);
       small_stream1 = s.small_stream1;
       small_stream2 = s.small_stream2;
       small_files = s.small_files;
@@ -143,15 +143,15 @@ set_cursor-kept w fd number cursor access to s at small =
       good_names = s.good_names;
       held = s.held;
       named_once = s.named_once;
-      good_slots = λ other slot e. elim (insert_cases w.slots fd new other slot e) as (λ _. (other < most_descriptors) × IsHeldSlot v other slot) [
-        | inl same ↦ subst (λ (x : Slot). (other < most_descriptors) × IsHeldSlot v other x) same.1 (omega (arith, good.0), (good.1.0, small))
-        | inr before ↦ ((s.good_slots other slot before.1).0, slot_kept w v other slot (λ n of h. h) (s.good_slots other slot before.1).1)
+      good_open_files = λ other open_file e. elim (insert_cases w.open_files fd new other open_file e) as (λ _. (other < most_descriptors) × IsHeldOpenFile v other open_file) [
+        | inl same ↦ subst (λ (x : OpenFile). (other < most_descriptors) × IsHeldOpenFile v other x) same.1 (omega (arith, good.0), (good.1.0, small))
+        | inr before ↦ ((s.good_open_files other open_file before.1).0, open_file_kept w v other open_file (λ n of h. h) (s.good_open_files other open_file before.1).1)
       ];
       used = λ n h. or_cases (is_named w n) (is_open w n) (s.used n h)
           (λ named. or_left (is_named w n) _ named)
-          (λ opened_by. or_right (is_named w n) _ (let by = slot_of w n opened_by in by_eq by.0 fd
-          (λ k. open_by v fd new n (here w.slots fd new) (ap (is_of n) (same_Some (File number cursor access) by.1 (sym at ∙ ap (fin.get w.slots) (sym k) ∙ by.2)) ∙ by.3))
-          (λ ne. open_by v by.0 by.1 n (there w.slots fd new by.0 ne ∙ by.2) by.3)));
+          (λ opened_by. or_right (is_named w n) _ (let by = open_file_of w n opened_by in by_eq by.0 fd
+          (λ k. open_by v fd new n (here w.open_files fd new) (ap (is_of n) (same_Some (File number file_offset access) by.1 (sym at ∙ ap (fin.get w.open_files) (sym k) ∙ by.2)) ∙ by.3))
+          (λ ne. open_by v by.0 by.1 n (there w.open_files fd new by.0 ne ∙ by.2) by.3)));
       low_numbers = s.low_numbers;
     }
 
@@ -159,7 +159,7 @@ set_cursor-kept w fd number cursor access to s at small =
 pub stream1-kept : (w : World) (bytes : List ℕ) → IsKept w → length w.stream1 + length bytes ≤ most_content → total w + length bytes ≤ most_total → IsKept (record w { stream1 = w.stream1 ++ bytes })
 stream1-kept w bytes s small room = record {
   few_names = s.few_names;
-  few_slots = s.few_slots;
+  few_open_files = s.few_open_files;
   small_stream1 = omega (arith, length-append w.stream1 bytes);
   small_stream2 = s.small_stream2;
   small_files = s.small_files;
@@ -167,7 +167,7 @@ stream1-kept w bytes s small room = record {
   good_names = s.good_names;
   held = s.held;
   named_once = s.named_once;
-  good_slots = λ fd slot e. ((s.good_slots fd slot e).0, slot_kept w (record w { stream1 = w.stream1 ++ bytes }) fd slot (λ n of h. h) (s.good_slots fd slot e).1);
+  good_open_files = λ fd open_file e. ((s.good_open_files fd open_file e).0, open_file_kept w (record w { stream1 = w.stream1 ++ bytes }) fd open_file (λ n of h. h) (s.good_open_files fd open_file e).1);
   used = s.used;
   low_numbers = s.low_numbers;
 }
@@ -175,7 +175,7 @@ stream1-kept w bytes s small room = record {
 pub stream2-kept : (w : World) (bytes : List ℕ) → IsKept w → length w.stream2 + length bytes ≤ most_content → total w + length bytes ≤ most_total → IsKept (record w { stream2 = w.stream2 ++ bytes })
 stream2-kept w bytes s small room = record {
   few_names = s.few_names;
-  few_slots = s.few_slots;
+  few_open_files = s.few_open_files;
   small_stream1 = s.small_stream1;
   small_stream2 = omega (arith, length-append w.stream2 bytes);
   small_files = s.small_files;
@@ -183,7 +183,7 @@ stream2-kept w bytes s small room = record {
   good_names = s.good_names;
   held = s.held;
   named_once = s.named_once;
-  good_slots = λ fd slot e. ((s.good_slots fd slot e).0, slot_kept w (record w { stream2 = w.stream2 ++ bytes }) fd slot (λ n of h. h) (s.good_slots fd slot e).1);
+  good_open_files = λ fd open_file e. ((s.good_open_files fd open_file e).0, open_file_kept w (record w { stream2 = w.stream2 ++ bytes }) fd open_file (λ n of h. h) (s.good_open_files fd open_file e).1);
   used = s.used;
   low_numbers = s.low_numbers;
 }
@@ -196,21 +196,21 @@ content_small w number s = elim (fin.get w.files number) as (λ o. fin.get w.fil
 ] refl
 
 -- a write to an open file
-pub with_content-kept : (w : World) (fd number cursor : ℕ) (access : Access) (bytes : List ℕ) (place : ℕ) → IsKept w → fin.get w.slots fd ≡ Some (File number cursor access) → place + length bytes ≤ most_content
+pub with_content-kept : (w : World) (fd number file_offset : ℕ) (access : Access) (bytes : List ℕ) (place : ℕ) → IsKept w → fin.get w.open_files fd ≡ Some (File number file_offset access) → place + length bytes ≤ most_content
     → total w + (place + length bytes - length (content_of w number)) ≤ most_total → IsKept (with_content w fd number access bytes place)
-with_content-kept w fd number cursor access bytes place s at small room =
-    let held : IsSome (fin.get w.files number) = (s.good_slots fd (File number cursor access) at).1.0 in
+with_content-kept w fd number file_offset access bytes place s at small room =
+    let held : IsSome (fin.get w.files number) = (s.good_open_files fd (File number file_offset access) at).1.0 in
     let old = content_small w number s in
     let after : World = record w { files = fin.insert w.files number (written_over (content_of w number) place bytes) } in
     let long = length-written_over (content_of w number) place bytes in
-    set_cursor-kept after fd number cursor access (place + length bytes)
+    set_file_offset-kept after fd number file_offset access (place + length bytes)
     (set_content-kept w number (written_over (content_of w number) place bytes) s held (omega (arith, old)) (omega (arith, s.small_total))) at (omega arith)
 
 -- no files, and three descriptors
 pub first-kept : IsKept first_world
 first-kept = record {
   few_names = omega (arith, fin.len-empty bytes_cmp ℕ);
-  few_slots = omega (arith, three);
+  few_open_files = omega (arith, three);
   small_stream1 = omega arith;
   small_stream2 = omega arith;
   small_files = λ n content e. absurd (none-some content (sym (fin.get-empty nat_cmp n) ∙ e));
@@ -218,16 +218,16 @@ first-kept = record {
   good_names = λ name n e. absurd (none-some n (sym (fin.get-empty bytes_cmp name) ∙ e));
   held = λ name n e. absurd (none-some n (sym (fin.get-empty bytes_cmp name) ∙ e));
   named_once = λ name other n e f. absurd (none-some n (sym (fin.get-empty bytes_cmp name) ∙ e));
-  good_slots = λ fd slot e.
-      let at : ((number : ℕ) (s : Slot) → fd ≡ number → number < 3 → IsHeldSlot first_world number s → s ≡ slot → (fd < most_descriptors) × IsHeldSlot first_world fd slot) =
-      λ number s k few good same. (omega arith, subst (λ (x : Slot). IsHeldSlot first_world fd x) same (subst (λ n. IsHeldSlot first_world n s) (sym k) good)) in
-      elim (insert_cases (fin.insert (fin.insert fin.empty 2 Stream2) 1 Stream1) 0 Input fd slot e) as (λ _. (fd < most_descriptors) × IsHeldSlot first_world fd slot) [
+  good_open_files = λ fd open_file e.
+      let at : ((number : ℕ) (s : OpenFile) → fd ≡ number → number < 3 → IsHeldOpenFile first_world number s → s ≡ open_file → (fd < most_descriptors) × IsHeldOpenFile first_world fd open_file) =
+      λ number s k few good same. (omega arith, subst (λ (x : OpenFile). IsHeldOpenFile first_world fd x) same (subst (λ n. IsHeldOpenFile first_world n s) (sym k) good)) in
+      elim (insert_cases (fin.insert (fin.insert fin.empty 2 Stream2) 1 Stream1) 0 Input fd open_file e) as (λ _. (fd < most_descriptors) × IsHeldOpenFile first_world fd open_file) [
         | inl zero_th ↦ at 0 Input zero_th.0 (omega arith) refl zero_th.1
-        | inr more ↦ elim (insert_cases (fin.insert fin.empty 2 Stream2) 1 Stream1 fd slot more.1) as (λ _. (fd < most_descriptors) × IsHeldSlot first_world fd slot) [
+        | inr more ↦ elim (insert_cases (fin.insert fin.empty 2 Stream2) 1 Stream1 fd open_file more.1) as (λ _. (fd < most_descriptors) × IsHeldOpenFile first_world fd open_file) [
           | inl first ↦ at 1 Stream1 first.0 (omega arith) refl first.1
-          | inr again ↦ elim (insert_cases fin.empty 2 Stream2 fd slot again.1) as (λ _. (fd < most_descriptors) × IsHeldSlot first_world fd slot) [
+          | inr again ↦ elim (insert_cases fin.empty 2 Stream2 fd open_file again.1) as (λ _. (fd < most_descriptors) × IsHeldOpenFile first_world fd open_file) [
             | inl second ↦ at 2 Stream2 second.0 (omega arith) refl second.1
-            | inr none ↦ absurd (none-some slot (sym (fin.get-empty nat_cmp fd) ∙ none.1))
+            | inr none ↦ absurd (none-some open_file (sym (fin.get-empty nat_cmp fd) ∙ none.1))
           ]
         ]
       ];
@@ -238,19 +238,19 @@ first-kept = record {
 -- each call
 pub opened-kept : (w : World) (name : List ℕ) (flags : ℕ) → IsKept w → IsTrue (is_stripped_name name) → IsKept (opened w name flags).1
 opened-kept w name flags s good =
-    elim (eqb (bit_and flags o_accmode) o_accmode) as (λ b. IsKept (cond b (Err einval, w) (if nat_le most_descriptors (fin.len w.slots) then (Err emfile, w) else opened_at w name flags (fin.get w.names name))).1) [
+    elim (eqb (bit_and flags o_accmode) o_accmode) as (λ b. IsKept (cond b (Err einval, w) (if nat_le most_descriptors (fin.len w.open_files) then (Err emfile, w) else opened_at w name flags (fin.get w.names name))).1) [
       | true ↦ s
-      | false ↦ elim (nat_le most_descriptors (fin.len w.slots)) as (λ b. nat_le most_descriptors (fin.len w.slots) ≡ b → IsKept (cond b (Err emfile, w) (opened_at w name flags (fin.get w.names name))).1) [
+      | false ↦ elim (nat_le most_descriptors (fin.len w.open_files)) as (λ b. nat_le most_descriptors (fin.len w.open_files) ≡ b → IsKept (cond b (Err emfile, w) (opened_at w name flags (fin.get w.names name))).1) [
         | true ↦ λ _. s
-        | false ↦ λ e. at_name (let few : fin.len w.slots < most_descriptors = (grind (arith, nat_tests)) in few) (fin.get w.names name) refl
+        | false ↦ λ e. at_name (let few : fin.len w.open_files < most_descriptors = (grind (arith, nat_tests)) in few) (fin.get w.names name) refl
       ] refl
     ]
   where
-    emptied : (number : ℕ) → IsSome (fin.get w.files number) → (b : Bool) → IsKept (emptied_if b w number) × IsSome (fin.get (emptied_if b w number).files number) × (fin.len (emptied_if b w number).slots ≡ fin.len w.slots)
+    emptied : (number : ℕ) → IsSome (fin.get w.files number) → (b : Bool) → IsKept (emptied_if b w number) × IsSome (fin.get (emptied_if b w number).files number) × (fin.len (emptied_if b w number).open_files ≡ fin.len w.open_files)
     emptied number held true = (set_content-kept w number [] s held (omega arith) (omega (arith, s.small_total)), insert_some w.files number [] number held, refl)
     emptied number held false = (s, held, refl)
 
-    at_name : fin.len w.slots < most_descriptors → (o : Option ℕ) → fin.get w.names name ≡ o → IsKept (opened_at w name flags o).1
+    at_name : fin.len w.open_files < most_descriptors → (o : Option ℕ) → fin.get w.names name ≡ o → IsKept (opened_at w name flags o).1
     at_name few (Some number) e =
         elim (has flags o_creat && has flags o_excl) as (λ b. IsKept (cond b (Err eexist, w) (with_descriptor (emptied_if (has flags o_trunc) w number) number flags)).1) [
           | true ↦ s
@@ -270,45 +270,45 @@ opened-kept w name flags s good =
         ]
 
 pub sought-kept : (w : World) (fd : ℕ) (offset : ℤ) (whence : ℕ) → IsKept w → IsKept (sought w fd offset whence).1
-sought-kept w fd offset whence s = at_slot (fin.get w.slots fd) refl
+sought-kept w fd offset whence s = at_open_file (fin.get w.open_files fd) refl
   where
-    small : (z : ℤ) (to : ℕ) → as_cursor z ≡ Some to → to < 2 ^ 63
+    small : (z : ℤ) (to : ℕ) → as_file_offset z ≡ Some to → to < 2 ^ 63
     small (negsuc n) to e = absurd (none-some to e)
     small (pos n) to e = elim (nat_lt n (2 ^ 63)) as (λ b. nat_lt n (2 ^ 63) ≡ b → cond b (Some n) None ≡ Some to → to < 2 ^ 63) [
       | true ↦ λ t f. let same = same_Some n to f in let less : n < 2 ^ 63 = (grind (arith, nat_tests)) in omega arith
       | false ↦ λ _ f. absurd (none-some to f)
     ] refl e
 
-    at_cursor : (number cursor : ℕ) (access : Access) → fin.get w.slots fd ≡ Some (File number cursor access) → (o : Option ℕ) → ((to : ℕ) → o ≡ Some to → to < 2 ^ 63) → IsKept (with_cursor w fd number access o).1
-    at_cursor number cursor access at None h = s
-    at_cursor number cursor access at (Some to) h = set_cursor-kept w fd number cursor access to s at (h to refl)
+    at_file_offset : (number file_offset : ℕ) (access : Access) → fin.get w.open_files fd ≡ Some (File number file_offset access) → (o : Option ℕ) → ((to : ℕ) → o ≡ Some to → to < 2 ^ 63) → IsKept (with_file_offset w fd number access o).1
+    at_file_offset number file_offset access at None h = s
+    at_file_offset number file_offset access at (Some to) h = set_file_offset-kept w fd number file_offset access to s at (h to refl)
 
-    from_base : (o : Option ℕ) (to : ℕ) → option_and_then (λ base. as_cursor (pos base +ℤ offset)) o ≡ Some to → to < 2 ^ 63
+    from_base : (o : Option ℕ) (to : ℕ) → option_and_then (λ base. as_file_offset (pos base +ℤ offset)) o ≡ Some to → to < 2 ^ 63
     from_base None to e = absurd (none-some to e)
     from_base (Some base) to e = small (pos base +ℤ offset) to e
 
-    at_slot : (o : Option Slot) → fin.get w.slots fd ≡ o → IsKept (sought_at w fd offset whence o).1
-    at_slot None e = s
-    at_slot (Some Input) e = s
-    at_slot (Some Stream1) e = s
-    at_slot (Some Stream2) e = s
-    at_slot (Some (File number cursor access)) e = at_cursor number cursor access e _ (from_base (seek_base whence cursor (length (content_of w number))))
+    at_open_file : (o : Option OpenFile) → fin.get w.open_files fd ≡ o → IsKept (sought_at w fd offset whence o).1
+    at_open_file None e = s
+    at_open_file (Some Input) e = s
+    at_open_file (Some Stream1) e = s
+    at_open_file (Some Stream2) e = s
+    at_open_file (Some (File number file_offset access)) e = at_file_offset number file_offset access e _ (from_base (seek_base whence file_offset (length (content_of w number))))
 
 -- a cursor that rises by what was read
-skip_small : (content : List ℕ) (cursor count : ℕ) → length (take count (drop cursor content)) ≡ count → length content ≤ most_content → cursor < 2 ^ 63 → cursor + count < 2 ^ 63
-skip_small content cursor count read few small = omega (arith, length-take count (drop cursor content), length-drop cursor content)
+skip_small : (content : List ℕ) (file_offset count : ℕ) → length (take count (drop file_offset content)) ≡ count → length content ≤ most_content → file_offset < 2 ^ 63 → file_offset + count < 2 ^ 63
+skip_small content file_offset count read few small = omega (arith, length-take count (drop file_offset content), length-drop file_offset content)
 
 pub skipped-kept : (w : World) (fd count : ℕ) → IsKept w → IsOkAnd (ready w fd count) (λ bytes. length bytes ≡ count) → IsKept (skipped w fd count)
-skipped-kept w fd count s read = at_slot (fin.get w.slots fd) refl read
+skipped-kept w fd count s read = at_open_file (fin.get w.open_files fd) refl read
   where
-    at_slot : (o : Option Slot) → fin.get w.slots fd ≡ o → IsOkAnd (ready_at w count o) (λ bytes. length bytes ≡ count) → IsKept (skipped_at w fd count o)
-    at_slot None e h = s
-    at_slot (Some Input) e h = s
-    at_slot (Some Stream1) e h = s
-    at_slot (Some Stream2) e h = s
-    at_slot (Some (File number cursor access)) e h = set_cursor-kept w fd number cursor access (cursor + count) s e (
-        elim (is_read access) as (λ b. IsOkAnd (cond b (Ok (take count (drop cursor (content_of w number)))) (Err ebadf)) (λ bytes. length bytes ≡ count) → cursor + count < 2 ^ 63) [
-          | true ↦ λ l. skip_small (content_of w number) cursor count l (content_small w number s) (s.good_slots fd (File number cursor access) e).1.1
+    at_open_file : (o : Option OpenFile) → fin.get w.open_files fd ≡ o → IsOkAnd (ready_at w count o) (λ bytes. length bytes ≡ count) → IsKept (skipped_at w fd count o)
+    at_open_file None e h = s
+    at_open_file (Some Input) e h = s
+    at_open_file (Some Stream1) e h = s
+    at_open_file (Some Stream2) e h = s
+    at_open_file (Some (File number file_offset access)) e h = set_file_offset-kept w fd number file_offset access (file_offset + count) s e (
+        elim (is_read access) as (λ b. IsOkAnd (cond b (Ok (take count (drop file_offset (content_of w number)))) (Err ebadf)) (λ bytes. length bytes ≡ count) → file_offset + count < 2 ^ 63) [
+          | true ↦ λ l. skip_small (content_of w number) file_offset count l (content_small w number s) (s.good_open_files fd (File number file_offset access) e).1.1
           | false ↦ λ l. absurd l
         ] h)
 
@@ -330,33 +330,33 @@ within_limits w count len place done e some =
     ] refl e
 
 -- where a write to a file fits
-pub file_limits : (w : World) (fd number cursor : ℕ) (access : Access) (count : ℕ) (done : Unit {0}) → fin.get w.slots fd ≡ Some (File number cursor access) → fits w fd count ≡ Ok done → count ≢ 0
-    → (write_cursor access (length (content_of w number)) cursor + count ≤ most_content) × (total w + (write_cursor access (length (content_of w number)) cursor + count - length (content_of w number)) ≤ most_total)
-file_limits w fd number cursor access count done at fit some =
-    let place : ℕ = write_cursor access (length (content_of w number)) cursor in
+pub file_limits : (w : World) (fd number file_offset : ℕ) (access : Access) (count : ℕ) (done : Unit {0}) → fin.get w.open_files fd ≡ Some (File number file_offset access) → fits w fd count ≡ Ok done → count ≢ 0
+    → (write_file_offset access (length (content_of w number)) file_offset + count ≤ most_content) × (total w + (write_file_offset access (length (content_of w number)) file_offset + count - length (content_of w number)) ≤ most_total)
+file_limits w fd number file_offset access count done at fit some =
+    let place : ℕ = write_file_offset access (length (content_of w number)) file_offset in
     elim (is_written access) as (λ b. fits_at w count (cond b (Some (length (content_of w number), place)) None) ≡ Ok done → (place + count ≤ most_content) × (total w + (place + count - length (content_of w number)) ≤ most_total)) [
       | true ↦ λ g. within_limits w count (length (content_of w number)) place done g some
       | false ↦ λ g. absurd (cc)
     ] (ap (λ o. fits_at w count (write_place w o)) (sym at) ∙ fit)
 
-pub filled-kept : (w : World) (fd : ℕ) (bytes : List ℕ) (done : Unit {0}) → IsKept w → fits w fd (length bytes) ≡ Ok done → length bytes ≢ 0 → IsKept (filled w fd bytes (fin.get w.slots fd))
-filled-kept w fd bytes done s fit some = at_slot (fin.get w.slots fd) refl fit
+pub filled-kept : (w : World) (fd : ℕ) (bytes : List ℕ) (done : Unit {0}) → IsKept w → fits w fd (length bytes) ≡ Ok done → length bytes ≢ 0 → IsKept (filled w fd bytes (fin.get w.open_files fd))
+filled-kept w fd bytes done s fit some = at_open_file (fin.get w.open_files fd) refl fit
   where
-    at_slot : (o : Option Slot) → fin.get w.slots fd ≡ o → fits_at w (length bytes) (write_place w o) ≡ Ok done → IsKept (filled w fd bytes o)
-    at_slot None e f = s
-    at_slot (Some Input) e f = s
-    at_slot (Some Stream1) e f = let l = within_limits w (length bytes) (length w.stream1) (length w.stream1) done f some in stream1-kept w bytes s (omega (arith, l.0)) (omega (arith, l.1))
-    at_slot (Some Stream2) e f = let l = within_limits w (length bytes) (length w.stream2) (length w.stream2) done f some in stream2-kept w bytes s (omega (arith, l.0)) (omega (arith, l.1))
-    at_slot (Some (File number cursor access)) e f =
-        let l = file_limits w fd number cursor access (length bytes) done e fit some in
-        with_content-kept w fd number cursor access bytes (write_cursor access (length (content_of w number)) cursor) s e l.0 l.1
+    at_open_file : (o : Option OpenFile) → fin.get w.open_files fd ≡ o → fits_at w (length bytes) (write_place w o) ≡ Ok done → IsKept (filled w fd bytes o)
+    at_open_file None e f = s
+    at_open_file (Some Input) e f = s
+    at_open_file (Some Stream1) e f = let l = within_limits w (length bytes) (length w.stream1) (length w.stream1) done f some in stream1-kept w bytes s (omega (arith, l.0)) (omega (arith, l.1))
+    at_open_file (Some Stream2) e f = let l = within_limits w (length bytes) (length w.stream2) (length w.stream2) done f some in stream2-kept w bytes s (omega (arith, l.0)) (omega (arith, l.1))
+    at_open_file (Some (File number file_offset access)) e f =
+        let l = file_limits w fd number file_offset access (length bytes) done e fit some in
+        with_content-kept w fd number file_offset access bytes (write_file_offset access (length (content_of w number)) file_offset) s e l.0 l.1
 
 pub written-kept : (w : World) (fd : ℕ) (bytes : List ℕ) → IsKept w → IsKept (written w fd bytes).1
 written-kept w fd bytes s = at_fit (fits w fd (length bytes)) refl
   where
     at_fit : (r : Result (Unit {0}) ℕ) → fits w fd (length bytes) ≡ r → IsKept (written_if w fd bytes r).1
     at_fit (Err errno) e = s
-    at_fit (Ok done) e = elim (eqb (length bytes) 0) as (λ b. eqb (length bytes) 0 ≡ b → IsKept (cond b w (filled w fd bytes (fin.get w.slots fd)))) [
+    at_fit (Ok done) e = elim (eqb (length bytes) 0) as (λ b. eqb (length bytes) 0 ≡ b → IsKept (cond b w (filled w fd bytes (fin.get w.open_files fd)))) [
       | true ↦ λ _. s
       | false ↦ λ f. filled-kept w fd bytes done s e (λ zero_len. false≢true (sym f ∙ eq-eqb (length bytes) 0 zero_len))
     ] refl
@@ -390,7 +390,7 @@ placed-kept w name content s =
         | None ↦ λ absent. elim (is_full w (length content)) as (λ b. is_full w (length content) ≡ b → IsKept (cond {A = Placing} b (Err Full, w) (Ok tt, with_file w rest content)).1) [
           | true ↦ λ _. s
           | false ↦ λ room. let l = not_full w (length content) room in
-              with_file-kept w rest content s (good_name good) absent l.2 (omega (arith, lowest_number-le w s, s.few_slots, l.2)) l.0 l.1
+              with_file-kept w rest content s (good_name good) absent l.2 (omega (arith, lowest_number-le w s, s.few_open_files, l.2)) l.0 l.1
         ] refl
       ] refl
     ] refl
@@ -399,19 +399,19 @@ placed-kept w name content s =
     good_name h = ap (λ b. b && not (begins_with_dot_slash (stripped name))) h ∙ ap not (stripped-is name)
 
 -- a descriptor's file stays when the descriptor goes
-pub has_file : (w : World) (fd : ℕ) (slot : Slot) → IsKept w → Some slot ≡ fin.get w.slots fd → HasFile (record w { slots = fin.remove w.slots fd }) slot
+pub has_file : (w : World) (fd : ℕ) (open_file : OpenFile) → IsKept w → Some open_file ≡ fin.get w.open_files fd → HasFile (record w { open_files = fin.remove w.open_files fd }) open_file
 has_file w fd Input s e = tt
 has_file w fd Stream1 s e = tt
 has_file w fd Stream2 s e = tt
-has_file w fd (File number cursor access) s e = (s.good_slots fd (File number cursor access) (sym e)).1.0
+has_file w fd (File number file_offset access) s e = (s.good_open_files fd (File number file_offset access) (sym e)).1.0
 
 -- what an offset counts from
-pub base_small : (whence cursor len base : ℕ) → cursor < 2 ^ 63 → len < 2 ^ 63 → Some base ≡ seek_base whence cursor len → base < 2 ^ 63
-base_small whence cursor len base c l e =
-    elim (eqb whence seek_set) as (λ b. Some base ≡ cond b (Some 0) (if whence == seek_cur then Some cursor else (if whence == seek_end then Some len else None)) → base < 2 ^ 63) [
+pub base_small : (whence file_offset len base : ℕ) → file_offset < 2 ^ 63 → len < 2 ^ 63 → Some base ≡ seek_base whence file_offset len → base < 2 ^ 63
+base_small whence file_offset len base c l e =
+    elim (eqb whence seek_set) as (λ b. Some base ≡ cond b (Some 0) (if whence == seek_cur then Some file_offset else (if whence == seek_end then Some len else None)) → base < 2 ^ 63) [
       | true ↦ λ f. omega (arith, same_Some base 0 f)
-      | false ↦ λ f. elim (eqb whence seek_cur) as (λ b. Some base ≡ cond b (Some cursor) (if whence == seek_end then Some len else None) → base < 2 ^ 63) [
-        | true ↦ λ g. omega (arith, same_Some base cursor g)
+      | false ↦ λ f. elim (eqb whence seek_cur) as (λ b. Some base ≡ cond b (Some file_offset) (if whence == seek_end then Some len else None) → base < 2 ^ 63) [
+        | true ↦ λ g. omega (arith, same_Some base file_offset g)
         | false ↦ λ g. elim (eqb whence seek_end) as (λ b. Some base ≡ cond b (Some len) None → base < 2 ^ 63) [
           | true ↦ λ h. omega (arith, same_Some base len h)
           | false ↦ λ h. absurd (none-some base (sym h))

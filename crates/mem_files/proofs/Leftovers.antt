@@ -39,7 +39,7 @@ onto : {X : Type 0} (P : X → Type 0) (x : X) (xs : List X) → P x → All P x
 onto P x xs first others zero d less = first
 onto P x xs first others (suc k) d less = others k d (omega arith)
 
--- entries that rise: a name that is found behind the first one is not the first one's
+-- entries that rise: a name that is found after the first one is not the first one's
 untied : (o : Ordering) → T (is_lt o) → is_eq o ≡ false
 untied Less h = refl
 untied Equal h = absurd h
@@ -51,9 +51,9 @@ below_none name (e ∷ es) below =
     let parts = both (is_lt (bytes_cmp name e.0)) (below_all bytes_cmp name es) below in
     ap (λ b. cond b (Some e.1) (fin.find bytes_cmp name es)) (untied (bytes_cmp name e.0) parts.0) ∙ below_none name es parts.1
 
-found_behind : (e : List ℕ × ℕ) (es : List (List ℕ × ℕ)) (name : List ℕ) (number : ℕ) → T (below_all bytes_cmp e.0 es)
+found_after : (e : List ℕ × ℕ) (es : List (List ℕ × ℕ)) (name : List ℕ) (number : ℕ) → T (below_all bytes_cmp e.0 es)
     → fin.find bytes_cmp name es ≡ Some number → fin.find bytes_cmp name (e ∷ es) ≡ Some number
-found_behind e es name number below found = elim (eq_by_cmp bytes_cmp name e.0) as (λ b. eq_by_cmp bytes_cmp name e.0 ≡ b → cond b (Some e.1) (fin.find bytes_cmp name es) ≡ Some number) [
+found_after e es name number below found = elim (eq_by_cmp bytes_cmp name e.0) as (λ b. eq_by_cmp bytes_cmp name e.0 ≡ b → cond b (Some e.1) (fin.find bytes_cmp name es) ≡ Some number) [
   | true ↦ λ tied.
       let same : name ≡ e.0 = bytes_cmp-IsAntisymmetric name e.0 (equal (bytes_cmp name e.0) tied) in
       absurd (none-some number (sym (below_none e.0 es below) ∙ ap (λ q. fin.find bytes_cmp q es) (sym same) ∙ found))
@@ -67,7 +67,7 @@ all_of P [] sorted each = All-nil P
 all_of P (e ∷ es) sorted each =
     let parts = both (below_all bytes_cmp e.0 es) (fin.is_sorted bytes_cmp es) sorted in
     onto P e es (each e.0 e.1 (ap (λ o. cond (is_eq o) (Some e.1) (fin.find bytes_cmp e.0 es)) (tied_itself nat_list_cmp_total e.0)))
-    (all_of P es parts.1 (λ name number found. each name number (found_behind e es name number parts.0 found)))
+    (all_of P es parts.1 (λ name number found. each name number (found_after e es name number parts.0 found)))
 
 pub all_names : (P : List ℕ × ℕ → Type 0) (w : World) → ((name : List ℕ) (number : ℕ) → fin.get w.names name ≡ Some number → P (name, number))
     → All P (fin.entries w.names)

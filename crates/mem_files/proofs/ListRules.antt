@@ -12,11 +12,11 @@ use Rattle.std.proofs.lemmas.Bool.{cases_lt, false≢true}
 use Rattle.std.proofs.lemmas.List.Elements.{All-head, All-tail, All-map, All-nil, All-cons}
 use Rattle.std.proofs.lemmas.List.Sums.{sum_by-cons}
 use Rattle.std.proofs.lemmas.Option.{none-some, same_Some}
-use Rattle.mem_files.specs.declared.slot.Slot.{Slot}
-use Rattle.mem_files.specs.declared.slot.Slot.TheVariants.{File}
+use Rattle.mem_files.specs.declared.open_file.OpenFile.{OpenFile}
+use Rattle.mem_files.specs.declared.open_file.OpenFile.TheVariants.{File}
 use Rattle.mem_files.specs.Names.{bytes_cmp}
 use Rattle.mem_files.specs.World.{is_named, is_of, is_open}
-use Rattle.mem_files.specs.Sound.{IsInLimits, IsWorldJoined, IsSound, IsSlotAt}
+use Rattle.mem_files.specs.Sound.{IsInLimits, IsWorldJoined, IsSound, IsOpenFileAt}
 use Rattle.mem_files.specs.Outputs.{IsContent}
 use Rattle.mem_files.specs.Lists.{ListedFile, FileLists, named, with_name, numbered_contents, world_of, IsHeldName, is_listed, is_used, AreOrdered, AreInRange, AreJoined}
 use Rattle.mem_files.proofs.CellMaps.{len-from_entries}
@@ -146,7 +146,7 @@ file_at (f ∷ files) Q distinct all number content is =
       | true ↦ λ tie here.
           let same : f.number ≡ number = sym (eqb-true number f.number (sym (unsigned_tied number f.number) ∙ tie)) in
           record { file = f; numbered = same; filled = same_Some f.content content here; called = λ name is. first f.name name is ∙ ap (λ n. Some n) same; holds = All-head Q f files all }
-      | false ↦ λ _ later. behind f.name refl distinct (λ less. file_at files Q less (All-tail Q f files all) number content later)
+      | false ↦ λ _ later. following f.name refl distinct (λ less. file_at files Q less (All-tail Q f files all) number content later)
     ] refl is
   where
     first : (o : Option (List ℕ)) (name : List ℕ) → o ≡ Some name → fin.find bytes_cmp name (with_name o f.number (named files)) ≡ Some f.number
@@ -155,17 +155,17 @@ file_at (f ∷ files) Q distinct all number content is =
         ap (λ q. fin.find bytes_cmp q ((n, f.number) ∷ named files)) (sym (same_Some n name is))
         ∙ ap (λ r. cond (is_eq r) (Some f.number) (fin.find bytes_cmp n (named files))) (tied_itself nat_list_cmp_total n)
 
-    behind : (o : Option (List ℕ)) → f.name ≡ o → IsDistinct (eq_by_cmp bytes_cmp) (map (λ e. e.0) (with_name o f.number (named files)))
+    following : (o : Option (List ℕ)) → f.name ≡ o → IsDistinct (eq_by_cmp bytes_cmp) (map (λ e. e.0) (with_name o f.number (named files)))
         → (IsDistinct (eq_by_cmp bytes_cmp) (map (λ e. e.0) (named files)) → FileAt files Q number content)
         → FileAt (f ∷ files) Q number content
-    behind None e distinct next = let r = next distinct in record {
+    following None e distinct next = let r = next distinct in record {
       file = r.file;
       numbered = r.numbered;
       filled = r.filled;
       called = λ name is. subst (λ o. fin.find bytes_cmp name (with_name o f.number (named files)) ≡ Some number) (sym e) (r.called name is);
       holds = r.holds;
     }
-    behind (Some n) e distinct next = let r = next distinct.1 in record {
+    following (Some n) e distinct next = let r = next distinct.1 in record {
       file = r.file;
       numbered = r.numbered;
       filled = r.filled;
@@ -190,24 +190,24 @@ two_sum (a ∷ []) two = absurd (omega arith)
 two_sum (a ∷ (b ∷ [])) two = omega (arith, sum_by-cons length a (b ∷ []), sum_by-cons length b [])
 two_sum (a ∷ (b ∷ (c ∷ more))) two = absurd (omega arith)
 
-pub any_value : (number : ℕ) (slots : List (ℕ × Slot)) → list_any (is_of number) (map (λ e. e.1) slots) ≡ list_any (λ e. is_of number e.1) slots
+pub any_value : (number : ℕ) (open_files : List (ℕ × OpenFile)) → list_any (is_of number) (map (λ e. e.1) open_files) ≡ list_any (λ e. is_of number e.1) open_files
 any_value number [] = refl
-any_value number (e ∷ slots) = ap (λ b. is_of number e.1 || b) (any_value number slots)
+any_value number (e ∷ open_files) = ap (λ b. is_of number e.1 || b) (any_value number open_files)
 
 module _ (lists : FileLists) (order : AreOrdered lists) (range : AreInRange lists) where
   files_sorted : T (fin.is_sorted nat_cmp (numbered_contents lists.files))
   files_sorted = subst T (sym order.files_rise) tt
 
-  slots_sorted : T (fin.is_sorted nat_cmp lists.slots)
-  slots_sorted = subst T (sym order.slots_rise) tt
+  open_files_sorted : T (fin.is_sorted nat_cmp lists.open_files)
+  open_files_sorted = subst T (sym order.open_files_rise) tt
 
-  slots_few : length lists.slots ≤ 1024
-  slots_few = omega (arith, few_risen 0 1024 lists.slots slots_sorted range.low_slots (omega arith) (λ q held. omega arith))
+  open_files_few : length lists.open_files ≤ 1024
+  open_files_few = omega (arith, few_risen 0 1024 lists.open_files open_files_sorted range.low_open_files (omega arith) (λ q held. omega arith))
 
   pub lists-in_limits : IsInLimits (world_of lists)
   lists-in_limits = record {
     few_names = omega (arith, len-from_entries nat_list_cmp_total (named lists.files), range.few_names);
-    few_slots = omega (arith, len-from_entries nat_cmp_total lists.slots, slots_few);
+    few_open_files = omega (arith, len-from_entries nat_cmp_total lists.open_files, open_files_few);
     good_names = λ name number is. (found_name (λ e. IsHeldName e.0) (named lists.files) name number range.good_names is).0;
     name_bytes = λ name number is. (found_name (λ e. IsHeldName e.0) (named lists.files) name number range.good_names is).1;
     low_numbers = λ number held. let found = some_of (fin.get (world_of lists).files number) held in
@@ -226,8 +226,8 @@ module _ (lists : FileLists) (order : AreOrdered lists) (range : AreInRange list
           values_sum lists.files,
           ap (λ es. sum_by length (map (λ e. e.1) es)) (entries_risen nat_cmp_total fin.nat_cmp-IsAntisymmetric (numbered_contents lists.files) order.files_rise),
         );
-    low_slots = λ fd slot is. found_nat (λ e. e.0 < 1024) lists.slots fd slot range.low_slots is;
-    good_slots = λ fd slot is. found_nat (λ e. IsSlotAt e.0 e.1) lists.slots fd slot range.good_slots is;
+    low_open_files = λ fd open_file is. found_nat (λ e. e.0 < 1024) lists.open_files fd open_file range.low_open_files is;
+    good_open_files = λ fd open_file is. found_nat (λ e. IsOpenFileAt e.0 e.1) lists.open_files fd open_file range.good_open_files is;
   }
 
   module _ (refer : AreJoined lists) where
@@ -237,24 +237,24 @@ module _ (lists : FileLists) (order : AreOrdered lists) (range : AreInRange list
     name_at : (name : List ℕ) (number : ℕ) → fin.get (world_of lists).names name ≡ Some number → fin.find bytes_cmp name (named lists.files) ≡ Some number
     name_at name number is = sym (fin.get-from_entries nat_list_cmp_total (named lists.files) name) ∙ is
 
-    used_at : (number : ℕ) (content : List ℕ) → FileAt lists.files (λ file. IsTrue (is_used lists.slots file)) number content → (is_named (world_of lists) number || is_open (world_of lists) number) ≡ true
-    used_at number content at = or_cases (is_some at.file.name) (list_any (λ e. is_of at.file.number e.1) lists.slots) at.holds
+    used_at : (number : ℕ) (content : List ℕ) → FileAt lists.files (λ file. IsTrue (is_used lists.open_files file)) number content → (is_named (world_of lists) number || is_open (world_of lists) number) ≡ true
+    used_at number content at = or_cases (is_some at.file.name) (list_any (λ e. is_of at.file.number e.1) lists.open_files) at.holds
         (λ titled. let name = some_of at.file.name titled in
         or_left (is_named (world_of lists) number) (is_open (world_of lists) number)
         (any_at nat_list_cmp_total (λ held. eqb held number) (world_of lists).names name.0 number (fin.get-from_entries nat_list_cmp_total (named lists.files) name.0 ∙ at.called name.0 name.1) (eq-eqb number number refl)))
         (λ opened. or_right (is_named (world_of lists) number) (is_open (world_of lists) number)
-        (ap (λ es. list_any (is_of number) (map (λ e. e.1) es)) (entries_risen nat_cmp_total fin.nat_cmp-IsAntisymmetric lists.slots order.slots_rise)
-        ∙ any_value number lists.slots ∙ sym (ap (λ n. list_any (λ e. is_of n e.1) lists.slots) at.numbered) ∙ opened))
+        (ap (λ es. list_any (is_of number) (map (λ e. e.1) es)) (entries_risen nat_cmp_total fin.nat_cmp-IsAntisymmetric lists.open_files order.open_files_rise)
+        ∙ any_value number lists.open_files ∙ sym (ap (λ n. list_any (λ e. is_of n e.1) lists.open_files) at.numbered) ∙ opened))
 
     lists-joined : IsWorldJoined (world_of lists)
     lists-joined = record {
       held = λ name number is. number_at number (name_held lists.files name number (name_at name number is));
       named_once = λ name other number is also. one_name lists.files files_sorted name other number (name_at name number is) (name_at other number also);
-      open_held = λ fd number cursor access is.
-          number_at number (number_held lists.files number (found_nat (λ e. IsTrue (is_listed lists.files e.1)) lists.slots fd (File number cursor access) refer.held is));
+      open_held = λ fd number file_offset access is.
+          number_at number (number_held lists.files number (found_nat (λ e. IsTrue (is_listed lists.files e.1)) lists.open_files fd (File number file_offset access) refer.held is));
       used = λ number held.
           let found = some_of (fin.get (world_of lists).files number) held in
-          used_at number found.0 (file_at lists.files (λ file. IsTrue (is_used lists.slots file)) range.distinct refer.used number found.0 (sym (fin.get-from_entries nat_cmp_total (numbered_contents lists.files) number) ∙ found.1));
+          used_at number found.0 (file_at lists.files (λ file. IsTrue (is_used lists.open_files file)) range.distinct refer.used number found.0 (sym (fin.get-from_entries nat_cmp_total (numbered_contents lists.files) number) ∙ found.1));
     }
 
     pub lists-sound : IsSound (world_of lists)

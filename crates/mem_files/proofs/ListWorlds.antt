@@ -80,7 +80,7 @@ names_pushed xs None number absent = ap (λ es. fin.from_entries {R = bytes_cmp}
 names_pushed xs (Some name) number absent = fin.from_entries_push nat_list_cmp_total bytes_cmp-IsAntisymmetric (named xs) name number (absent name refl)
 
 abbrev pub of_files : List ListedFile → World
-of_files files = world_of (record { files = files; slots = []; streams = [] })
+of_files files = world_of (record { files = files; open_files = []; streams = [] })
 
 -- what is known of a file before it is put
 module _ (xs ys : List ListedFile) (f : ListedFile) (rise : fin.is_sorted nat_cmp (numbered_contents (xs ++ f ∷ ys)) ≡ true) (distinct : IsDistinct (eq_by_cmp bytes_cmp) (map (λ e. e.0) (named (xs ++ f ∷ ys)))) where
@@ -97,7 +97,7 @@ module _ (xs ys : List ListedFile) (f : ListedFile) (rise : fin.is_sorted nat_cm
   put_world = λ i. record {
     names = sym (ap (λ es. fin.from_entries {R = bytes_cmp} es) (named_more xs f) ∙ names_pushed xs f.name f.number (λ name is. fresh_name xs ys f name is distinct)) i;
     files = sym (ap (λ es. fin.from_entries {R = nat_cmp} es) (map-append (λ (file : ListedFile). (file.number, file.content)) xs (f ∷ [])) ∙ pushed f.number f.content (numbered_contents xs) (numbered_contents ys) risen) i;
-    slots = fin.empty;
+    open_files = fin.empty;
     stream1 = [];
     stream2 = [];
   }
@@ -180,14 +180,14 @@ module _ (views : List FileView) (i : ℕ) (d : FileView) (inside : i < length v
     next_total n is = ap (λ l. total (of_files l)) more ∙ put_total (take i all) (drop (i + 1) all) next split_rise split_distinct n is
 
 -- the descriptor at a place of a list
-module _ {X : Type 0} (slots : List (ℕ × X)) (i : ℕ) (d : ℕ × X) (inside : i < length slots) (rise : fin.is_sorted nat_cmp slots ≡ true) where
-  slots_split : T (fin.is_sorted nat_cmp (take i slots ++ get_or slots i d ∷ drop (i + 1) slots))
-  slots_split = subst (λ (es : List (ℕ × X)). T (fin.is_sorted nat_cmp es)) (sym (at_place slots i d inside)) (subst T (sym rise) tt)
+module _ {X : Type 0} (open_files : List (ℕ × X)) (i : ℕ) (d : ℕ × X) (inside : i < length open_files) (rise : fin.is_sorted nat_cmp open_files ≡ true) where
+  open_files_split : T (fin.is_sorted nat_cmp (take i open_files ++ get_or open_files i d ∷ drop (i + 1) open_files))
+  open_files_split = subst (λ (es : List (ℕ × X)). T (fin.is_sorted nat_cmp es)) (sym (at_place open_files i d inside)) (subst T (sym rise) tt)
 
-  pub next_fresh : fin.get (fin.from_entries {R = nat_cmp} (take i slots)) (get_or slots i d).0 ≡ None
-  next_fresh = fin.get-from_entries nat_cmp_total (take i slots) (get_or slots i d).0 ∙ fresh (get_or slots i d).0 (get_or slots i d).1 (take i slots) (drop (i + 1) slots) slots_split
+  pub next_fresh : fin.get (fin.from_entries {R = nat_cmp} (take i open_files)) (get_or open_files i d).0 ≡ None
+  next_fresh = fin.get-from_entries nat_cmp_total (take i open_files) (get_or open_files i d).0 ∙ fresh (get_or open_files i d).0 (get_or open_files i d).1 (take i open_files) (drop (i + 1) open_files) open_files_split
 
-  pub next_pushed : fin.insert (fin.from_entries (take i slots)) (get_or slots i d).0 (get_or slots i d).1 ≡ fin.from_entries {R = nat_cmp} (take (i + 1) slots)
+  pub next_pushed : fin.insert (fin.from_entries (take i open_files)) (get_or open_files i d).0 (get_or open_files i d).1 ≡ fin.from_entries {R = nat_cmp} (take (i + 1) open_files)
   next_pushed =
-      sym (pushed (get_or slots i d).0 (get_or slots i d).1 (take i slots) (drop (i + 1) slots) slots_split)
-      ∙ ap (λ (es : List (ℕ × X)). fin.from_entries {R = nat_cmp} es) (sym (take_more slots i d inside))
+      sym (pushed (get_or open_files i d).0 (get_or open_files i d).1 (take i open_files) (drop (i + 1) open_files) open_files_split)
+      ∙ ap (λ (es : List (ℕ × X)). fin.from_entries {R = nat_cmp} es) (sym (take_more open_files i d inside))

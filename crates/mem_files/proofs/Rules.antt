@@ -4,18 +4,18 @@ use Rattle.std.proofs.lemmas.List.Elements.{All-append, All-drop, All-nil, All-r
 use Rattle.std.proofs.lemmas.Option.{none-some}
 use Rattle.std.specs.Ordering.{nat_cmp}
 use Rattle.std.specs.FinMap as fin
-use Rattle.mem_files.specs.declared.slot.Access.{Access}
-use Rattle.mem_files.specs.declared.slot.Slot.{Slot}
-use Rattle.mem_files.specs.declared.slot.Slot.TheVariants.{Input, Stream1, Stream2, File}
-use Rattle.mem_files.specs.declared.slot.PlaceRefusal.{PlaceRefusal}
-use Rattle.mem_files.specs.declared.slot.PlaceRefusal.TheVariants.{BadName, Twice, Full}
+use Rattle.mem_files.specs.declared.open_file.Access.{Access}
+use Rattle.mem_files.specs.declared.open_file.OpenFile.{OpenFile}
+use Rattle.mem_files.specs.declared.open_file.OpenFile.TheVariants.{Input, Stream1, Stream2, File}
+use Rattle.mem_files.specs.declared.open_file.PlaceRefusal.{PlaceRefusal}
+use Rattle.mem_files.specs.declared.open_file.PlaceRefusal.TheVariants.{BadName, Twice, Full}
 use Rattle.mem_files.specs.Linux.{o_accmode, o_creat, o_excl, o_trunc, einval, emfile, eexist, enoent, enospc}
 use Rattle.mem_files.specs.Limits.{most_descriptors, most_names}
 use Rattle.mem_files.specs.Names.{is_stripped_name, is_file_name, stripped}
 use Rattle.mem_files.specs.World.{World, content_of, is_named, is_open, lowest_unused}
-use Rattle.mem_files.specs.Calls.{first_world, with_file, with_descriptor, has, written_over, opened, opened_at, emptied_if, with_cursor, sought, sought_at, ready, skipped, skipped_at, fits, write_cursor, filled, written, written_if, placed, is_full, without_unused, closed, closed_at, removed, removed_at, drained, drained_at}
-use Rattle.mem_files.specs.Sound.{AreBytes, IsSlotAt, IsSound}
-use Rattle.mem_files.specs.Inside.Kept.{IsHeldSlot, IsKept, HasBytes}
+use Rattle.mem_files.specs.Calls.{first_world, with_file, with_descriptor, has, written_over, opened, opened_at, emptied_if, with_file_offset, sought, sought_at, ready, skipped, skipped_at, fits, write_file_offset, filled, written, written_if, placed, is_full, without_unused, closed, closed_at, removed, removed_at, drained, drained_at}
+use Rattle.mem_files.specs.Sound.{AreBytes, IsOpenFileAt, IsSound}
+use Rattle.mem_files.specs.Inside.Kept.{IsHeldOpenFile, IsKept, HasBytes}
 use Rattle.mem_files.proofs.Entries.{insert_cases, name_insert_cases, remove_cases, name_remove_cases}
 use Rattle.mem_files.proofs.Keeping.{closed-kept, removed-kept}
 use Rattle.mem_files.proofs.KeepingCalls.{first-kept, opened-kept, placed-kept, set_content-kept, skipped-kept, sought-kept, written-kept}
@@ -23,7 +23,7 @@ use Rattle.mem_files.proofs.KeepingCalls.{first-kept, opened-kept, placed-kept, 
 pub kept_of : (w : World) → IsSound w → IsKept w
 kept_of w s = record {
   few_names = s.within.few_names;
-  few_slots = s.within.few_slots;
+  few_open_files = s.within.few_open_files;
   small_stream1 = s.within.small_stream1;
   small_stream2 = s.within.small_stream2;
   small_files = s.within.small_files;
@@ -31,16 +31,16 @@ kept_of w s = record {
   good_names = s.within.good_names;
   held = s.joined.held;
   named_once = s.joined.named_once;
-  good_slots = λ fd slot e. (s.within.low_slots fd slot e, at_slot fd slot e (s.within.good_slots fd slot e));
+  good_open_files = λ fd open_file e. (s.within.low_open_files fd open_file e, at_open_file fd open_file e (s.within.good_open_files fd open_file e));
   used = s.joined.used;
   low_numbers = λ number h. s.within.low_numbers number h;
 }
   where
-    at_slot : (fd : ℕ) (slot : Slot) → fin.get w.slots fd ≡ Some slot → IsSlotAt fd slot → IsHeldSlot w fd slot
-    at_slot fd Input e h = h
-    at_slot fd Stream1 e h = h
-    at_slot fd Stream2 e h = h
-    at_slot fd (File number cursor access) e h = (s.joined.open_held fd number cursor access e, h)
+    at_open_file : (fd : ℕ) (open_file : OpenFile) → fin.get w.open_files fd ≡ Some open_file → IsOpenFileAt fd open_file → IsHeldOpenFile w fd open_file
+    at_open_file fd Input e h = h
+    at_open_file fd Stream1 e h = h
+    at_open_file fd Stream2 e h = h
+    at_open_file fd (File number file_offset access) e h = (s.joined.open_held fd number file_offset access e, h)
 
 pub bytes_of : (w : World) → IsSound w → HasBytes w
 bytes_of w s = record {
@@ -54,7 +54,7 @@ pub sound_of : (w : World) → IsKept w → HasBytes w → IsSound w
 sound_of w k b = record {
   within = record {
     few_names = k.few_names;
-    few_slots = k.few_slots;
+    few_open_files = k.few_open_files;
     good_names = k.good_names;
     name_bytes = b.name_bytes;
     low_numbers = λ number h. k.low_numbers number h;
@@ -65,22 +65,22 @@ sound_of w k b = record {
     small_stream1 = k.small_stream1;
     small_stream2 = k.small_stream2;
     small_total = k.small_total;
-    low_slots = λ fd slot e. (k.good_slots fd slot e).0;
-    good_slots = λ fd slot e. alone fd slot (k.good_slots fd slot e).1;
+    low_open_files = λ fd open_file e. (k.good_open_files fd open_file e).0;
+    good_open_files = λ fd open_file e. alone fd open_file (k.good_open_files fd open_file e).1;
   };
   joined = record {
     held = k.held;
     named_once = k.named_once;
-    open_held = λ fd number cursor access e. (k.good_slots fd (File number cursor access) e).1.0;
+    open_held = λ fd number file_offset access e. (k.good_open_files fd (File number file_offset access) e).1.0;
     used = k.used;
   };
 }
   where
-    alone : (fd : ℕ) (slot : Slot) → IsHeldSlot w fd slot → IsSlotAt fd slot
+    alone : (fd : ℕ) (open_file : OpenFile) → IsHeldOpenFile w fd open_file → IsOpenFileAt fd open_file
     alone fd Input h = h
     alone fd Stream1 h = h
     alone fd Stream2 h = h
-    alone fd (File number cursor access) h = h.1
+    alone fd (File number file_offset access) h = h.1
 
 -- bytes, change by change
 no_bytes_at_all : AreBytes []
@@ -128,8 +128,8 @@ without_unused-bytes w number b = elim (is_named w number || is_open w number) a
 ]
 
 -- other descriptors
-slots-bytes : (w : World) (slots : fin.FinMap nat_cmp Slot) → HasBytes w → HasBytes (record w { slots = slots })
-slots-bytes w slots b = record { name_bytes = b.name_bytes; file_bytes = b.file_bytes; stream1_bytes = b.stream1_bytes; stream2_bytes = b.stream2_bytes }
+open_files-bytes : (w : World) (open_files : fin.FinMap nat_cmp OpenFile) → HasBytes w → HasBytes (record w { open_files = open_files })
+open_files-bytes w open_files b = record { name_bytes = b.name_bytes; file_bytes = b.file_bytes; stream1_bytes = b.stream1_bytes; stream2_bytes = b.stream2_bytes }
 
 written_over-bytes : (old : List ℕ) (place : ℕ) (bytes : List ℕ) → AreBytes old → AreBytes bytes → AreBytes (written_over old place bytes)
 written_over-bytes old place bytes o b =
@@ -174,9 +174,9 @@ placed-bytes w name content b good new =
 
 opened-bytes : (w : World) (name : List ℕ) (flags : ℕ) → HasBytes w → AreBytes name → HasBytes (opened w name flags).1
 opened-bytes w name flags b good =
-    elim (eqb (bit_and flags o_accmode) o_accmode) as (λ t. HasBytes (cond {A = Result ℕ ℕ × World} t (Err einval, w) (if nat_le most_descriptors (fin.len w.slots) then (Err emfile, w) else opened_at w name flags (fin.get w.names name))).1) [
+    elim (eqb (bit_and flags o_accmode) o_accmode) as (λ t. HasBytes (cond {A = Result ℕ ℕ × World} t (Err einval, w) (if nat_le most_descriptors (fin.len w.open_files) then (Err emfile, w) else opened_at w name flags (fin.get w.names name))).1) [
       | true ↦ b
-      | false ↦ elim (nat_le most_descriptors (fin.len w.slots)) as (λ t. HasBytes (cond {A = Result ℕ ℕ × World} t (Err emfile, w) (opened_at w name flags (fin.get w.names name))).1) [
+      | false ↦ elim (nat_le most_descriptors (fin.len w.open_files)) as (λ t. HasBytes (cond {A = Result ℕ ℕ × World} t (Err emfile, w) (opened_at w name flags (fin.get w.names name))).1) [
         | true ↦ b
         | false ↦ at_name (fin.get w.names name)
       ]
@@ -189,25 +189,25 @@ opened-bytes w name flags b good =
     at_name : (o : Option ℕ) → HasBytes (opened_at w name flags o).1
     at_name (Some number) = elim (has flags o_creat && has flags o_excl) as (λ t. HasBytes (cond {A = Result ℕ ℕ × World} t (Err eexist, w) (with_descriptor (emptied_if (has flags o_trunc) w number) number flags)).1) [
       | true ↦ b
-      | false ↦ slots-bytes (emptied_if (has flags o_trunc) w number) _ (emptied number (has flags o_trunc))
+      | false ↦ open_files-bytes (emptied_if (has flags o_trunc) w number) _ (emptied number (has flags o_trunc))
     ]
     at_name None = elim (not (has flags o_creat)) as (λ t. HasBytes (cond {A = Result ℕ ℕ × World} t (Err enoent, w) (if nat_le most_names (fin.len w.names) then (Err enospc, w) else with_descriptor (with_file w name []) (lowest_unused w.files) flags)).1) [
       | true ↦ b
       | false ↦ elim (nat_le most_names (fin.len w.names)) as (λ t. HasBytes (cond {A = Result ℕ ℕ × World} t (Err enospc, w) (with_descriptor (with_file w name []) (lowest_unused w.files) flags)).1) [
         | true ↦ b
-        | false ↦ slots-bytes (with_file w name []) _ (with_file-bytes w name [] b good no_bytes_at_all)
+        | false ↦ open_files-bytes (with_file w name []) _ (with_file-bytes w name [] b good no_bytes_at_all)
       ]
     ]
 
 closed-bytes : (w : World) (fd : ℕ) → HasBytes w → HasBytes (closed w fd).1
-closed-bytes w fd b = at_slot (fin.get w.slots fd)
+closed-bytes w fd b = at_open_file (fin.get w.open_files fd)
   where
-    at_slot : (o : Option Slot) → HasBytes (closed_at w fd o).1
-    at_slot None = b
-    at_slot (Some Input) = slots-bytes w _ b
-    at_slot (Some Stream1) = slots-bytes w _ b
-    at_slot (Some Stream2) = slots-bytes w _ b
-    at_slot (Some (File number cursor access)) = without_unused-bytes _ number (slots-bytes w _ b)
+    at_open_file : (o : Option OpenFile) → HasBytes (closed_at w fd o).1
+    at_open_file None = b
+    at_open_file (Some Input) = open_files-bytes w _ b
+    at_open_file (Some Stream1) = open_files-bytes w _ b
+    at_open_file (Some Stream2) = open_files-bytes w _ b
+    at_open_file (Some (File number file_offset access)) = without_unused-bytes _ number (open_files-bytes w _ b)
 
 removed-bytes : (w : World) (name : List ℕ) → HasBytes w → HasBytes (removed w name).1
 removed-bytes w name b = at_name (fin.get w.names name)
@@ -222,46 +222,46 @@ removed-bytes w name b = at_name (fin.get w.names name)
     })
 
 sought-bytes : (w : World) (fd : ℕ) (offset : ℤ) (whence : ℕ) → HasBytes w → HasBytes (sought w fd offset whence).1
-sought-bytes w fd offset whence b = at_slot (fin.get w.slots fd)
+sought-bytes w fd offset whence b = at_open_file (fin.get w.open_files fd)
   where
-    at_cursor : (number : ℕ) (access : Access) (o : Option ℕ) → HasBytes (with_cursor w fd number access o).1
-    at_cursor number access None = b
-    at_cursor number access (Some to) = slots-bytes w _ b
+    at_file_offset : (number : ℕ) (access : Access) (o : Option ℕ) → HasBytes (with_file_offset w fd number access o).1
+    at_file_offset number access None = b
+    at_file_offset number access (Some to) = open_files-bytes w _ b
 
-    at_slot : (o : Option Slot) → HasBytes (sought_at w fd offset whence o).1
-    at_slot None = b
-    at_slot (Some Input) = b
-    at_slot (Some Stream1) = b
-    at_slot (Some Stream2) = b
-    at_slot (Some (File number cursor access)) = at_cursor number access _
+    at_open_file : (o : Option OpenFile) → HasBytes (sought_at w fd offset whence o).1
+    at_open_file None = b
+    at_open_file (Some Input) = b
+    at_open_file (Some Stream1) = b
+    at_open_file (Some Stream2) = b
+    at_open_file (Some (File number file_offset access)) = at_file_offset number access _
 
 skipped-bytes : (w : World) (fd count : ℕ) → HasBytes w → HasBytes (skipped w fd count)
-skipped-bytes w fd count b = at_slot (fin.get w.slots fd)
+skipped-bytes w fd count b = at_open_file (fin.get w.open_files fd)
   where
-    at_slot : (o : Option Slot) → HasBytes (skipped_at w fd count o)
-    at_slot None = b
-    at_slot (Some Input) = b
-    at_slot (Some Stream1) = b
-    at_slot (Some Stream2) = b
-    at_slot (Some (File number cursor access)) = slots-bytes w _ b
+    at_open_file : (o : Option OpenFile) → HasBytes (skipped_at w fd count o)
+    at_open_file None = b
+    at_open_file (Some Input) = b
+    at_open_file (Some Stream1) = b
+    at_open_file (Some Stream2) = b
+    at_open_file (Some (File number file_offset access)) = open_files-bytes w _ b
 
-filled-bytes : (w : World) (fd : ℕ) (bytes : List ℕ) → HasBytes w → AreBytes bytes → HasBytes (filled w fd bytes (fin.get w.slots fd))
-filled-bytes w fd bytes b new = at_slot (fin.get w.slots fd)
+filled-bytes : (w : World) (fd : ℕ) (bytes : List ℕ) → HasBytes w → AreBytes bytes → HasBytes (filled w fd bytes (fin.get w.open_files fd))
+filled-bytes w fd bytes b new = at_open_file (fin.get w.open_files fd)
   where
-    at_slot : (o : Option Slot) → HasBytes (filled w fd bytes o)
-    at_slot None = b
-    at_slot (Some Input) = b
-    at_slot (Some Stream1) = record { name_bytes = b.name_bytes; file_bytes = b.file_bytes; stream1_bytes = All-append (λ byte. byte < 256) w.stream1 bytes b.stream1_bytes new; stream2_bytes = b.stream2_bytes }
-    at_slot (Some Stream2) = record { name_bytes = b.name_bytes; file_bytes = b.file_bytes; stream1_bytes = b.stream1_bytes; stream2_bytes = All-append (λ byte. byte < 256) w.stream2 bytes b.stream2_bytes new }
-    at_slot (Some (File number cursor access)) =
-        slots-bytes _ _ (set_file-bytes w number _ b (written_over-bytes (content_of w number) (write_cursor access (length (content_of w number)) cursor) bytes (content_bytes w number b) new))
+    at_open_file : (o : Option OpenFile) → HasBytes (filled w fd bytes o)
+    at_open_file None = b
+    at_open_file (Some Input) = b
+    at_open_file (Some Stream1) = record { name_bytes = b.name_bytes; file_bytes = b.file_bytes; stream1_bytes = All-append (λ byte. byte < 256) w.stream1 bytes b.stream1_bytes new; stream2_bytes = b.stream2_bytes }
+    at_open_file (Some Stream2) = record { name_bytes = b.name_bytes; file_bytes = b.file_bytes; stream1_bytes = b.stream1_bytes; stream2_bytes = All-append (λ byte. byte < 256) w.stream2 bytes b.stream2_bytes new }
+    at_open_file (Some (File number file_offset access)) =
+        open_files-bytes _ _ (set_file-bytes w number _ b (written_over-bytes (content_of w number) (write_file_offset access (length (content_of w number)) file_offset) bytes (content_bytes w number b) new))
 
 written-bytes : (w : World) (fd : ℕ) (bytes : List ℕ) → HasBytes w → AreBytes bytes → HasBytes (written w fd bytes).1
 written-bytes w fd bytes b new = at_fit (fits w fd (length bytes))
   where
     at_fit : (r : Result (Unit {0}) ℕ) → HasBytes (written_if w fd bytes r).1
     at_fit (Err errno) = b
-    at_fit (Ok done) = elim (eqb (length bytes) 0) as (λ t. HasBytes (cond t w (filled w fd bytes (fin.get w.slots fd)))) [
+    at_fit (Ok done) = elim (eqb (length bytes) 0) as (λ t. HasBytes (cond t w (filled w fd bytes (fin.get w.open_files fd)))) [
       | true ↦ b
       | false ↦ filled-bytes w fd bytes b new
     ]

@@ -11,15 +11,15 @@ use Rattle.std.proofs.lemmas.List.{get_or_past}
 use Rattle.std.proofs.lemmas.List.Elements.{All-head, All-tail}
 use Rattle.std.proofs.lemmas.Option.{none-some, same_Some}
 use Rattle.std.specs.Option.{option_copied}
-use Rattle.mem_files.specs.declared.slot.Slot.{Slot}
+use Rattle.mem_files.specs.declared.open_file.OpenFile.{OpenFile}
 use Rattle.mem_files.specs.declared.stored.Stored.{Stored}
 use Rattle.mem_files.specs.declared.view.FileView.{FileView}
-use Rattle.mem_files.specs.Lists.{listed, first_from, name_of_file, listed_file, file_from, slot_from}
+use Rattle.mem_files.specs.Lists.{listed, first_from, name_of_file, listed_file, file_from, open_file_from}
 use Rattle.mem_files.specs.World.{World, is_named}
 use Rattle.mem_files.specs.Inside.Cells.{AreEmpty, IsFirstFull}
 use Rattle.mem_files.specs.Inside.Stored.{content_in, name_in}
-use Rattle.mem_files.specs.Inside.Table.{Parts, world_of, IsConsistent}
-use Rattle.mem_files.proofs.Changes.{file-is, slot-is, is_named-is}
+use Rattle.mem_files.specs.Inside.FileTable.{Parts, world_of, IsConsistent}
+use Rattle.mem_files.proofs.Changes.{file-is, open_file-is, is_named-is}
 use Rattle.mem_files.proofs.Maps.{both, find_apart, find_here, find_low}
 use Rattle.mem_files.proofs.Leftovers.{all_names}
 
@@ -109,14 +109,14 @@ module _ (p : Parts) (w : World) (is : world_of p ≡ w) (ok : IsConsistent p) w
         (λ other held. same_Some other name (sym (ok.found other number (ap (λ (v : World). fin.get v.names other) is ∙ held)) ∙ e))
   ] refl
 
-  module _ (cells : List (Option Slot)) (shown : cells ≡ p.slots) where
-    pub slot_from-some : (fd at : ℕ) (slot : Slot) → IsFirstFull cells fd at slot → Some (at, slot) ≡ slot_from w fd
-    slot_from-some fd at slot first = let held = rw shown at first in
-        sym (least_from w.slots fd at slot (slot-is p w is ok at ∙ held.1) held.0 (λ q low high. slot-is p w is ok q ∙ held.2 q low high))
+  module _ (cells : List (Option OpenFile)) (shown : cells ≡ p.open_files) where
+    pub open_file_from-some : (fd at : ℕ) (open_file : OpenFile) → IsFirstFull cells fd at open_file → Some (at, open_file) ≡ open_file_from w fd
+    open_file_from-some fd at open_file first = let held = rw shown at first in
+        sym (least_from w.open_files fd at open_file (open_file-is p w is ok at ∙ held.1) held.0 (λ q low high. open_file-is p w is ok q ∙ held.2 q low high))
 
-    pub slot_from-none : (fd : ℕ) → AreEmpty cells fd (length cells) → None ≡ slot_from w fd
-    slot_from-none fd empty = let none = rw shown at empty in
-        sym (none_from w.slots fd (λ q low. slot-is p w is ok q ∙ empty_past p.slots fd none q low))
+    pub open_file_from-none : (fd : ℕ) → AreEmpty cells fd (length cells) → None ≡ open_file_from w fd
+    open_file_from-none fd empty = let none = rw shown at empty in
+        sym (none_from w.open_files fd (λ q low. open_file-is p w is ok q ∙ empty_past p.open_files fd none q low))
 
   module _ (cells : List (Option Stored)) (shown : cells ≡ p.files) where
     pub file_from-some : (number at : ℕ) (file : Stored) (view : FileView) → IsFirstFull cells number at file

@@ -163,15 +163,15 @@ abbrev AreFound : List (List ℕ × ℕ) → List (List ℕ × ℕ) → Type 0
 AreFound all [] = Unit {0}
 AreFound all (e ∷ es) = (finite.find bytes_cmp e.0 all ≡ Some e.1) × AreFound all es
 
-found-behind : (e : List ℕ × ℕ) (all es : List (List ℕ × ℕ)) → IsBelowAll e.0 (map (λ f. f.0) es) → AreFound all es → AreFound (e ∷ all) es
-found-behind e all [] below found = tt
-found-behind e all (f ∷ fs) below found = (rw (not-tied e.0 f.0 below.0) found.0, found-behind e all fs below.1 found.1)
+found-following : (e : List ℕ × ℕ) (all es : List (List ℕ × ℕ)) → IsBelowAll e.0 (map (λ f. f.0) es) → AreFound all es → AreFound (e ∷ all) es
+found-following e all [] below found = tt
+found-following e all (f ∷ fs) below found = (rw (not-tied e.0 f.0 below.0) found.0, found-following e all fs below.1 found.1)
 
 all-found : (es : List (List ℕ × ℕ)) → Rise (map (λ e. e.0) es) → AreFound es es
 all-found [] rise = tt
 all-found (e ∷ es) rise =
     let tied : eq_by_cmp bytes_cmp e.0 e.0 ≡ true = ap is_eq (tied_itself nat_list_cmp_total e.0) in
-    (rw tied refl, found-behind e es es rise.0 (all-found es rise.1))
+    (rw tied refl, found-following e es es rise.0 (all-found es rise.1))
 
 -- a name with what its file holds
 abbrev pub named_at : World → List ℕ → List ℕ × List ℕ

@@ -1,8 +1,8 @@
 -- How a descriptor uses its file.
 use Rattle.std.specs.Prelude.{Bool, true, false}
-use Rattle.mem_files.specs.declared.slot.Mode.{Mode}
-use Rattle.mem_files.specs.declared.slot.Mode.TheVariants.{Read, Write, ReadWrite}
-use Rattle.mem_files.specs.declared.slot.Access.{Access}
+use Rattle.mem_files.specs.declared.open_file.Mode.{Mode}
+use Rattle.mem_files.specs.declared.open_file.Mode.TheVariants.{Read, Write, ReadWrite}
+use Rattle.mem_files.specs.declared.open_file.Access.{Access}
 
 abbrev pub mode_reads : Mode → Bool
 mode_reads Read = true

@@ -3,13 +3,13 @@
 use Rattle.std.specs.Prelude.{ℕ, ◌+◌, ◌-◌, ◌^◌, ℤ, pos, negsuc, ◌+ℤ◌, Bool, true, ◌&&◌, ◌||◌, not, ◌==◌, nat_lt, nat_le, if◌then◌else◌, Option, Some, None, option_and_then, Result, Ok, Err, List, [], ◌∷◌, ◌++◌, length, take, drop, replicate, bit_and, find}
 use Rattle.std.specs.Ordering.{is_lt}
 use Rattle.std.specs.FinMap as map
-use Rattle.mem_files.specs.declared.slot.Slot.{Slot}
-use Rattle.mem_files.specs.declared.slot.Slot.TheVariants.{Input, Stream1, Stream2, File}
-use Rattle.mem_files.specs.declared.slot.Access.{Access}
-use Rattle.mem_files.specs.declared.slot.Mode.{Mode}
-use Rattle.mem_files.specs.declared.slot.Mode.TheVariants.{Read, Write, ReadWrite}
-use Rattle.mem_files.specs.declared.slot.PlaceRefusal.{PlaceRefusal}
-use Rattle.mem_files.specs.declared.slot.PlaceRefusal.TheVariants.{BadName, Twice, Full}
+use Rattle.mem_files.specs.declared.open_file.OpenFile.{OpenFile}
+use Rattle.mem_files.specs.declared.open_file.OpenFile.TheVariants.{Input, Stream1, Stream2, File}
+use Rattle.mem_files.specs.declared.open_file.Access.{Access}
+use Rattle.mem_files.specs.declared.open_file.Mode.{Mode}
+use Rattle.mem_files.specs.declared.open_file.Mode.TheVariants.{Read, Write, ReadWrite}
+use Rattle.mem_files.specs.declared.open_file.PlaceRefusal.{PlaceRefusal}
+use Rattle.mem_files.specs.declared.open_file.PlaceRefusal.TheVariants.{BadName, Twice, Full}
 use Rattle.mem_files.specs.Linux.{enoent, ebadf, eexist, einval, emfile, efbig, enospc, espipe, o_accmode, o_rdonly, o_wronly, o_creat, o_excl, o_trunc, o_append, seek_set, seek_cur, seek_end}
 use Rattle.mem_files.specs.Limits.{most_content, most_total, most_descriptors, most_names}
 use Rattle.mem_files.specs.Access.{is_read, is_written}
@@ -22,14 +22,14 @@ has flags bit = not (bit_and flags bit == 0)
 
 -- no files and no descriptors
 abbrev pub bare_world : World
-bare_world = record { names = map.empty; files = map.empty; slots = map.empty; stream1 = []; stream2 = [] }
+bare_world = record { names = map.empty; files = map.empty; open_files = map.empty; stream1 = []; stream2 = [] }
 
 -- at the start: descriptor 0 is the empty input, 1 and 2 are the streams
 abbrev pub first_world : World
 first_world = record {
   names = map.empty;
   files = map.empty;
-  slots = map.from_entries ((0, Input) ∷ (1, Stream1) ∷ (2, Stream2) ∷ []);
+  open_files = map.from_entries ((0, Input) ∷ (1, Stream1) ∷ (2, Stream2) ∷ []);
   stream1 = [];
   stream2 = [];
 }
@@ -72,20 +72,20 @@ abbrev pub removed : World → List ℕ → Result (Unit {0}) ℕ × World
 removed w name = removed_at w name (map.get w.names name)
 
 -- the file that a closed descriptor stood for goes, where nothing else has it
-abbrev pub released : World → Slot → World
+abbrev pub released : World → OpenFile → World
 released w Input = w
 released w Stream1 = w
 released w Stream2 = w
-released w (File number cursor access) = without_unused w number
+released w (File number file_offset access) = without_unused w number
 
 -- `close`, by what stands at the descriptor
-abbrev pub closed_at : World → ℕ → Option Slot → Result (Unit {0}) ℕ × World
+abbrev pub closed_at : World → ℕ → Option OpenFile → Result (Unit {0}) ℕ × World
 closed_at w fd None = (Err ebadf, w)
-closed_at w fd (Some slot) = (Ok tt, released (record w { slots = map.remove w.slots fd }) slot)
+closed_at w fd (Some open_file) = (Ok tt, released (record w { open_files = map.remove w.open_files fd }) open_file)
 
 -- `close`
 abbrev pub closed : World → ℕ → Result (Unit {0}) ℕ × World
-closed w fd = closed_at w fd (map.get w.slots fd)
+closed w fd = closed_at w fd (map.get w.open_files fd)
 
 -- how the flags of openat(2) say that a file is used
 abbrev pub mode_of : ℕ → Mode
@@ -97,7 +97,7 @@ access_of flags = record { mode = mode_of (bit_and flags o_accmode); appends = h
 -- the lowest unused descriptor stands for the file, with its cursor at the start
 abbrev pub with_descriptor : World → ℕ → ℕ → Result ℕ ℕ × World
 with_descriptor w number flags =
-    (Ok (lowest_unused w.slots), record w { slots = map.insert w.slots (lowest_unused w.slots) (File number 0 (access_of flags)) })
+    (Ok (lowest_unused w.open_files), record w { open_files = map.insert w.open_files (lowest_unused w.open_files) (File number 0 (access_of flags)) })
 
 -- o_trunc empties a present file
 abbrev pub emptied_if : Bool → World → ℕ → World
@@ -117,79 +117,79 @@ opened_at w name flags None =
 abbrev pub opened : World → List ℕ → ℕ → Result ℕ ℕ × World
 opened w name flags =
     if bit_and flags o_accmode == o_accmode then (Err einval, w)
-    else (if nat_le most_descriptors (map.len w.slots) then (Err emfile, w)
+    else (if nat_le most_descriptors (map.len w.open_files) then (Err emfile, w)
     else opened_at w name flags (map.get w.names name))
 
 -- the number that an offset counts from: 0, the cursor or the length
 abbrev pub seek_base : ℕ → ℕ → ℕ → Option ℕ
-seek_base whence cursor len =
+seek_base whence file_offset len =
     if whence == seek_set then Some 0
-    else (if whence == seek_cur then Some cursor
+    else (if whence == seek_cur then Some file_offset
     else (if whence == seek_end then Some len
     else None))
 
 -- a cursor is from 0 to 2^63 - 1
-abbrev pub as_cursor : ℤ → Option ℕ
-as_cursor (pos n) = if nat_lt n (2 ^ 63) then Some n else None
-as_cursor (negsuc n) = None
+abbrev pub as_file_offset : ℤ → Option ℕ
+as_file_offset (pos n) = if nat_lt n (2 ^ 63) then Some n else None
+as_file_offset (negsuc n) = None
 
 -- `seek`, by where the cursor goes
-abbrev pub with_cursor : World → ℕ → ℕ → Access → Option ℕ → Result ℕ ℕ × World
-with_cursor w fd number access None = (Err einval, w)
-with_cursor w fd number access (Some cursor) = (Ok cursor, record w { slots = map.insert w.slots fd (File number cursor access) })
+abbrev pub with_file_offset : World → ℕ → ℕ → Access → Option ℕ → Result ℕ ℕ × World
+with_file_offset w fd number access None = (Err einval, w)
+with_file_offset w fd number access (Some file_offset) = (Ok file_offset, record w { open_files = map.insert w.open_files fd (File number file_offset access) })
 
 -- `seek`, by what stands at the descriptor
-abbrev pub sought_at : World → ℕ → ℤ → ℕ → Option Slot → Result ℕ ℕ × World
+abbrev pub sought_at : World → ℕ → ℤ → ℕ → Option OpenFile → Result ℕ ℕ × World
 sought_at w fd offset whence None = (Err ebadf, w)
 sought_at w fd offset whence (Some Input) = (Err espipe, w)
 sought_at w fd offset whence (Some Stream1) = (Err espipe, w)
 sought_at w fd offset whence (Some Stream2) = (Err espipe, w)
-sought_at w fd offset whence (Some (File number cursor access)) =
-    with_cursor w fd number access (option_and_then (λ base. as_cursor (pos base +ℤ offset)) (seek_base whence cursor (length (content_of w number))))
+sought_at w fd offset whence (Some (File number file_offset access)) =
+    with_file_offset w fd number access (option_and_then (λ base. as_file_offset (pos base +ℤ offset)) (seek_base whence file_offset (length (content_of w number))))
 
 -- `seek`
 abbrev pub sought : World → ℕ → ℤ → ℕ → Result ℕ ℕ × World
-sought w fd offset whence = sought_at w fd offset whence (map.get w.slots fd)
+sought w fd offset whence = sought_at w fd offset whence (map.get w.open_files fd)
 
 -- `ready`, by what stands at the descriptor: at most `count` bytes from the cursor on
-abbrev pub ready_at : World → ℕ → Option Slot → Result (List ℕ) ℕ
+abbrev pub ready_at : World → ℕ → Option OpenFile → Result (List ℕ) ℕ
 ready_at w count None = Err ebadf
 ready_at w count (Some Input) = Ok []
 ready_at w count (Some Stream1) = Err ebadf
 ready_at w count (Some Stream2) = Err ebadf
-ready_at w count (Some (File number cursor access)) =
-    if is_read access then Ok (take count (drop cursor (content_of w number))) else Err ebadf
+ready_at w count (Some (File number file_offset access)) =
+    if is_read access then Ok (take count (drop file_offset (content_of w number))) else Err ebadf
 
 -- `ready`
 abbrev pub ready : World → ℕ → ℕ → Result (List ℕ) ℕ
-ready w fd count = ready_at w count (map.get w.slots fd)
+ready w fd count = ready_at w count (map.get w.open_files fd)
 
 -- `skip`, by what stands at the descriptor: the cursor rises by `count`
-abbrev pub skipped_at : World → ℕ → ℕ → Option Slot → World
+abbrev pub skipped_at : World → ℕ → ℕ → Option OpenFile → World
 skipped_at w fd count None = w
 skipped_at w fd count (Some Input) = w
 skipped_at w fd count (Some Stream1) = w
 skipped_at w fd count (Some Stream2) = w
-skipped_at w fd count (Some (File number cursor access)) =
-    record w { slots = map.insert w.slots fd (File number (cursor + count) access) }
+skipped_at w fd count (Some (File number file_offset access)) =
+    record w { open_files = map.insert w.open_files fd (File number (file_offset + count) access) }
 
 -- `skip`
 abbrev pub skipped : World → ℕ → ℕ → World
-skipped w fd count = skipped_at w fd count (map.get w.slots fd)
+skipped w fd count = skipped_at w fd count (map.get w.open_files fd)
 
 -- a write goes to the end of a file that appends, else to the cursor
-abbrev pub write_cursor : Access → ℕ → ℕ → ℕ
-write_cursor access end cursor = if access.appends then end else cursor
+abbrev pub write_file_offset : Access → ℕ → ℕ → ℕ
+write_file_offset access end file_offset = if access.appends then end else file_offset
 
 -- where a write goes: how many bytes are there now, and the place of the first byte that is written
-abbrev pub write_place : World → Option Slot → Option (ℕ × ℕ)
+abbrev pub write_place : World → Option OpenFile → Option (ℕ × ℕ)
 write_place w None = None
 write_place w (Some Input) = None
 write_place w (Some Stream1) = Some (length w.stream1, length w.stream1)
 write_place w (Some Stream2) = Some (length w.stream2, length w.stream2)
-write_place w (Some (File number cursor access)) =
+write_place w (Some (File number file_offset access)) =
     if is_written access
-    then Some (length (content_of w number), write_cursor access (length (content_of w number)) cursor)
+    then Some (length (content_of w number), write_file_offset access (length (content_of w number)) file_offset)
     else None
 
 -- `fits`, by where the write goes: what refuses a write of `count` bytes
@@ -203,7 +203,7 @@ fits_at w count (Some (len, place)) =
 
 -- `fits`
 abbrev pub fits : World → ℕ → ℕ → Result (Unit {0}) ℕ
-fits w fd count = fits_at w count (write_place w (map.get w.slots fd))
+fits w fd count = fits_at w count (write_place w (map.get w.open_files fd))
 
 -- the bytes of a file after `bytes` were written at `place`: a gap before the place is zeros
 abbrev pub written_over : List ℕ → ℕ → List ℕ → List ℕ
@@ -213,22 +213,22 @@ written_over old place bytes = take place old ++ replicate (place - length old) 
 abbrev pub with_content : World → ℕ → ℕ → Access → List ℕ → ℕ → World
 with_content w fd number access bytes place = record w {
   files = map.insert w.files number (written_over (content_of w number) place bytes);
-  slots = map.insert w.slots fd (File number (place + length bytes) access);
+  open_files = map.insert w.open_files fd (File number (place + length bytes) access);
 }
 
 -- bytes that fit are written, by what stands at the descriptor
-abbrev pub filled : World → ℕ → List ℕ → Option Slot → World
+abbrev pub filled : World → ℕ → List ℕ → Option OpenFile → World
 filled w fd bytes None = w
 filled w fd bytes (Some Input) = w
 filled w fd bytes (Some Stream1) = record w { stream1 = w.stream1 ++ bytes }
 filled w fd bytes (Some Stream2) = record w { stream2 = w.stream2 ++ bytes }
-filled w fd bytes (Some (File number cursor access)) =
-    with_content w fd number access bytes (write_cursor access (length (content_of w number)) cursor)
+filled w fd bytes (Some (File number file_offset access)) =
+    with_content w fd number access bytes (write_file_offset access (length (content_of w number)) file_offset)
 
 -- `write`, by what refuses it: a write of no byte changes nothing
 abbrev pub written_if : World → ℕ → List ℕ → Result (Unit {0}) ℕ → Result (Unit {0}) ℕ × World
 written_if w fd bytes (Err errno) = (Err errno, w)
-written_if w fd bytes (Ok done) = (Ok done, (if length bytes == 0 then w else filled w fd bytes (map.get w.slots fd)))
+written_if w fd bytes (Ok done) = (Ok done, (if length bytes == 0 then w else filled w fd bytes (map.get w.open_files fd)))
 
 -- `write`
 abbrev pub written : World → ℕ → List ℕ → Result (Unit {0}) ℕ × World

@@ -5,12 +5,12 @@ use Rattle.std.specs.Option.{option_copied}
 use Rattle.std.specs.Ordering.{nat_cmp, eq_by_cmp}
 use Rattle.std.specs.FinMap as fin
 use Rattle.mem_files.specs.declared.view.FileView.{FileView}
-use Rattle.mem_files.specs.declared.slot.Slot.{Slot}
-use Rattle.mem_files.specs.declared.slot.Slot.TheVariants.{Input, Stream1, Stream2, File}
+use Rattle.mem_files.specs.declared.open_file.OpenFile.{OpenFile}
+use Rattle.mem_files.specs.declared.open_file.OpenFile.TheVariants.{Input, Stream1, Stream2, File}
 use Rattle.mem_files.specs.Limits.{most_total, most_descriptors, most_names}
 use Rattle.mem_files.specs.Names.{bytes_cmp, is_stripped_name}
 use Rattle.mem_files.specs.World.{World, is_of}
-use Rattle.mem_files.specs.Sound.{AreBytes, IsSlotAt}
+use Rattle.mem_files.specs.Sound.{AreBytes, IsOpenFileAt}
 use Rattle.mem_files.specs.Outputs.{IsContent}
 
 -- a file: its number, its name if it still has one, and its bytes
@@ -26,12 +26,12 @@ listed view = record { number = view.number; name = option_copied view.name; con
 -- the files, the descriptors with what they stand for, and the contents of the streams
 pub record FileLists : Type 0 where
   pub files : List ListedFile
-  pub slots : List (ℕ × Slot)
+  pub open_files : List (ℕ × OpenFile)
   pub streams : List (List ℕ)
 
 -- the lists that are handed over as slices
-abbrev pub lists_from : List FileView → List (ℕ × Slot) → List ℕ → List ℕ → FileLists
-lists_from files slots stream1 stream2 = record { files = map listed files; slots = slots; streams = stream1 ∷ stream2 ∷ [] }
+abbrev pub lists_from : List FileView → List (ℕ × OpenFile) → List ℕ → List ℕ → FileLists
+lists_from files open_files stream1 stream2 = record { files = map listed files; open_files = open_files; streams = stream1 ∷ stream2 ∷ [] }
 
 -- ---- the lists of a world
 
@@ -46,7 +46,7 @@ listed_file w file = record { number = file.0; name = name_of_file w file.0; con
 abbrev pub lists_of : World → FileLists
 lists_of w = record {
   files = map (listed_file w) (fin.entries w.files);
-  slots = fin.entries w.slots;
+  open_files = fin.entries w.open_files;
   streams = w.stream1 ∷ w.stream2 ∷ [];
 }
 
@@ -58,9 +58,9 @@ first_from m number = find (λ e. nat_le number e.0) (fin.entries m)
 abbrev pub file_from : World → ℕ → Option ListedFile
 file_from w number = option_map (listed_file w) (first_from w.files number)
 
--- `slot_from`
-abbrev pub slot_from : World → ℕ → Option (ℕ × Slot)
-slot_from w fd = first_from w.slots fd
+-- `open_file_from`
+abbrev pub open_file_from : World → ℕ → Option (ℕ × OpenFile)
+open_file_from w fd = first_from w.open_files fd
 
 -- ---- the world of lists
 
@@ -81,7 +81,7 @@ abbrev pub world_of : FileLists → World
 world_of lists = record {
   names = fin.from_entries (named lists.files);
   files = fin.from_entries (numbered_contents lists.files);
-  slots = fin.from_entries lists.slots;
+  open_files = fin.from_entries lists.open_files;
   stream1 = slice_index_or lists.streams 0 [];
   stream2 = slice_index_or lists.streams 1 [];
 }
@@ -91,7 +91,7 @@ world_of lists = record {
 -- numbers and descriptors rise, and there are two streams
 pub record AreOrdered (lists : FileLists) : Type 0 where
   pub files_rise : IsTrue (fin.is_sorted nat_cmp (numbered_contents lists.files))
-  pub slots_rise : IsTrue (fin.is_sorted nat_cmp lists.slots)
+  pub open_files_rise : IsTrue (fin.is_sorted nat_cmp lists.open_files)
   pub two_streams : length lists.streams ≡ 2
 
 -- a name as files hold it
@@ -108,21 +108,21 @@ pub record AreInRange (lists : FileLists) : Type 0 where
   pub good_files : All (λ file. IsContent file.content) lists.files
   pub good_streams : All IsContent lists.streams
   pub small_total : sum_by length lists.streams + sum_by (λ file. length file.content) lists.files ≤ most_total
-  pub low_slots : All (λ e. e.0 < most_descriptors) lists.slots
-  pub good_slots : All (λ e. IsSlotAt e.0 e.1) lists.slots
+  pub low_open_files : All (λ e. e.0 < most_descriptors) lists.open_files
+  pub good_open_files : All (λ e. IsOpenFileAt e.0 e.1) lists.open_files
 
 -- is the file that a descriptor stands for among these?
-abbrev pub is_listed : List ListedFile → Slot → Bool
+abbrev pub is_listed : List ListedFile → OpenFile → Bool
 is_listed files Input = true
 is_listed files Stream1 = true
 is_listed files Stream2 = true
-is_listed files (File number cursor access) = list_any (λ file. file.number == number) files
+is_listed files (File number file_offset access) = list_any (λ file. file.number == number) files
 
 -- does a file have a name, or one of these descriptors?
-abbrev pub is_used : List (ℕ × Slot) → ListedFile → Bool
-is_used slots file = is_some file.name || list_any (λ e. is_of file.number e.1) slots
+abbrev pub is_used : List (ℕ × OpenFile) → ListedFile → Bool
+is_used open_files file = is_some file.name || list_any (λ e. is_of file.number e.1) open_files
 
 -- what references say: each descriptor's file is listed, and each listed file has a name or a descriptor
 pub record AreJoined (lists : FileLists) : Type 0 where
-  pub held : All (λ e. IsTrue (is_listed lists.files e.1)) lists.slots
-  pub used : All (λ file. IsTrue (is_used lists.slots file)) lists.files
+  pub held : All (λ e. IsTrue (is_listed lists.files e.1)) lists.open_files
+  pub used : All (λ file. IsTrue (is_used lists.open_files file)) lists.files

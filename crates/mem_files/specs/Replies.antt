@@ -1,10 +1,10 @@
 -- How an answer that may also be out of memory fits the answer that is meant.
 use Rattle.std.specs.Prelude.{◌≡◌, ℕ, ◌+◌, ◌<◌, Result, Ok, Err, IsOk, IfSome}
 use Rattle.std.specs.FinMap as map
-use Rattle.mem_files.specs.declared.slot.FileRefusal.{FileRefusal}
-use Rattle.mem_files.specs.declared.slot.FileRefusal.TheVariants as file
-use Rattle.mem_files.specs.declared.slot.PlaceRefusal.{PlaceRefusal}
-use Rattle.mem_files.specs.declared.slot.PlaceRefusal.TheVariants.{BadName, Twice, Full, OutOfMemory}
+use Rattle.mem_files.specs.declared.open_file.FileRefusal.{FileRefusal}
+use Rattle.mem_files.specs.declared.open_file.FileRefusal.TheVariants as file
+use Rattle.mem_files.specs.declared.open_file.PlaceRefusal.{PlaceRefusal}
+use Rattle.mem_files.specs.declared.open_file.PlaceRefusal.TheVariants.{BadName, Twice, Full, OutOfMemory}
 use Rattle.mem_files.specs.World.{World}
 use Rattle.mem_files.specs.Calls.{write_place}
 
@@ -25,4 +25,4 @@ Places (Err OutOfMemory) old new meant = IsOk meant.0 × (new ≡ old)
 
 -- a write of `count` bytes ends past the bytes that are there
 abbrev pub Grows : World → ℕ → ℕ → Type 0
-Grows w fd count = IfSome (write_place w (map.get w.slots fd)) (λ (len, place). len < place + count)
+Grows w fd count = IfSome (write_place w (map.get w.open_files fd)) (λ (len, place). len < place + count)

@@ -3,15 +3,15 @@ use Rattle.std.specs.Prelude.{ℕ, ◌+◌, Bool, false, ◌==◌, if◌then◌e
 use Rattle.std.specs.List.{list_any}
 use Rattle.std.specs.Ordering.{nat_cmp}
 use Rattle.std.specs.FinMap as map
-use Rattle.mem_files.specs.declared.slot.Slot.{Slot}
-use Rattle.mem_files.specs.declared.slot.Slot.TheVariants.{Input, Stream1, Stream2, File}
+use Rattle.mem_files.specs.declared.open_file.OpenFile.{OpenFile}
+use Rattle.mem_files.specs.declared.open_file.OpenFile.TheVariants.{Input, Stream1, Stream2, File}
 use Rattle.mem_files.specs.Names.{bytes_cmp}
 
 -- names to file numbers, numbers to contents, descriptors to what they stand for, and the two collected streams
 pub record World : Type 0 where
   pub names : map.FinMap bytes_cmp ℕ
   pub files : map.FinMap nat_cmp (List ℕ)
-  pub slots : map.FinMap nat_cmp Slot
+  pub open_files : map.FinMap nat_cmp OpenFile
   pub stream1 : List ℕ
   pub stream2 : List ℕ
 
@@ -24,11 +24,11 @@ abbrev pub total : World → ℕ
 total w = length w.stream1 + length w.stream2 + sum_by length (map.values w.files)
 
 -- does what a descriptor stands for have this file number?
-abbrev pub is_of : ℕ → Slot → Bool
+abbrev pub is_of : ℕ → OpenFile → Bool
 is_of number Input = false
 is_of number Stream1 = false
 is_of number Stream2 = false
-is_of number (File held cursor access) = held == number
+is_of number (File held file_offset access) = held == number
 
 -- does a file have a name?
 abbrev pub is_named : World → ℕ → Bool
@@ -36,7 +36,7 @@ is_named w number = list_any (λ held. held == number) (map.values w.names)
 
 -- does a descriptor stand for a file?
 abbrev pub is_open : World → ℕ → Bool
-is_open w number = list_any (is_of number) (map.values w.slots)
+is_open w number = list_any (is_of number) (map.values w.open_files)
 
 -- the least number, from n on, that isn't in a rising list
 abbrev pub first_gap : ℕ → List ℕ → ℕ

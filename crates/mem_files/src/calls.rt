@@ -3,17 +3,17 @@
 ghost use Rattle.std.specs.Prelude.{◌≡◌, ◌+◌, ◌-◌, ◌<◌, ◌≤◌, ◌≢◌, ◌^◌, pos, ◌+ℤ◌, IfOk, IsOkAnd, IsSome, OnOk, OnErr, MatchResult, Ok, Err, Some, None, length, take, drop, [], unwrap_or};
 ghost use Rattle.std.specs.Option.{option_copied};
 ghost use Rattle.std.specs.FinMap as map;
-ghost use Rattle.mem_files.specs.Calls.{placed, is_full, opened, opened_at, access_of, has, closed, released, without_unused, sought, seek_base, as_cursor, ready, skipped, fits, write_place, write_cursor, filled, written, removed, content_at, drained};
+ghost use Rattle.mem_files.specs.Calls.{placed, is_full, opened, opened_at, access_of, has, closed, released, without_unused, sought, seek_base, as_file_offset, ready, skipped, fits, write_place, write_file_offset, filled, written, removed, content_at, drained};
 ghost use Rattle.mem_files.specs.Replies.{Replies, Places, Grows};
 ghost use Rattle.mem_files.specs.Sound.{IsSound};
 ghost use Rattle.mem_files.specs.Inside.Kept.{HasFile};
 
 use crate::names::{is_file_name, strip};
-use crate::table::Table;
+use crate::table::FileTable;
 use crate::{
     Access, EBADF, EEXIST, EFBIG, EINVAL, EMFILE, ENOENT, ENOSPC, ESPIPE, FileRefusal, MAX_CONTENT,
-    MAX_NAME, MAX_NAMES, MAX_SLOTS, MAX_TOTAL, Mode, O_ACCMODE, O_APPEND, O_CREAT, O_EXCL,
-    O_RDONLY, O_TRUNC, O_WRONLY, PlaceRefusal, SEEK_CUR, SEEK_END, SEEK_SET, Slot,
+    MAX_NAME, MAX_NAMES, MAX_OPEN_FILES, MAX_TOTAL, Mode, O_ACCMODE, O_APPEND, O_CREAT, O_EXCL,
+    O_RDONLY, O_TRUNC, O_WRONLY, PlaceRefusal, SEEK_CUR, SEEK_END, SEEK_SET, OpenFile,
 };
 use ddc_base::OutOfMemory;
 use std::alloc::{AllocError, Global};
@@ -39,27 +39,27 @@ fn access_of(flags: u32) -> Access
 }
 
 /// The number that an offset counts from.
-fn seek_base(whence: u32, cursor: u64, len: u64) -> Option<u64>
-    ensures { result ≡ seek_base whence cursor len }
+fn seek_base(whence: u32, file_offset: u64, len: u64) -> Option<u64>
+    ensures { result ≡ seek_base whence file_offset len }
 {
     match whence {
         SEEK_SET => Some(0),
-        SEEK_CUR => Some(cursor),
+        SEEK_CUR => Some(file_offset),
         SEEK_END => Some(len),
         _ => None,
     }
 }
 
 /// A cursor after an offset, from 0 to 2^63 - 1.
-fn moved_cursor(base: u64, offset: i64) -> Option<u64>
+fn moved_file_offset(base: u64, offset: i64) -> Option<u64>
     requires { base < 2 ^ 63 }
-    ensures { result ≡ as_cursor (pos base +ℤ offset) }
+    ensures { result ≡ as_file_offset (pos base +ℤ offset) }
 {
     let to = (base as i64).checked_add(offset)?;
     if to < 0 { None } else { Some(to as u64) }
 }
 
-impl Table {
+impl FileTable {
     pub fn place(&mut self, name: &[u8], content: &[u8]) -> Result<(), PlaceRefusal>
         requires { IsSound self.old }
         ensures { Places result self.old self.new (placed self.old name.now content.now) }
@@ -112,7 +112,7 @@ impl Table {
         if flags & O_ACCMODE == O_ACCMODE {
             return Err(FileRefusal::Errno(EINVAL));
         }
-        if self.slot_count() >= MAX_SLOTS {
+        if self.open_file_count() >= MAX_OPEN_FILES {
             return Err(FileRefusal::Errno(EMFILE));
         }
         match self.number(name) {
@@ -123,15 +123,15 @@ impl Table {
 
     fn open_present(&mut self, number: u32, flags: u32) -> Result<u32, FileRefusal>
         requires held { IsSome (map.get self.old.files number) }
-        requires room { map.len self.old.slots < MAX_SLOTS }
+        requires room { map.len self.old.open_files < MAX_OPEN_FILES }
         ensures { Replies result self.old self.new (opened_at self.old [] flags (Some number)) }
     {
         if has(flags, O_CREAT) && has(flags, O_EXCL) {
             return Err(FileRefusal::Errno(EEXIST));
         }
-        let fd = self.add_slot(Slot::File {
+        let fd = self.add_open_file(OpenFile::File {
             number,
-            cursor: 0,
+            file_offset: 0,
             access: access_of(flags),
         })?;
         if has(flags, O_TRUNC) {
@@ -144,7 +144,7 @@ impl Table {
         requires sound { IsSound self.old }
         requires absent { map.get self.old.names name.now ≡ None }
         requires short { length name.now ≤ MAX_NAME }
-        requires room { map.len self.old.slots < MAX_SLOTS }
+        requires room { map.len self.old.open_files < MAX_OPEN_FILES }
         ensures { Replies result self.old self.new (opened_at self.old name.now flags None) }
     {
         if !has(flags, O_CREAT) {
@@ -154,13 +154,13 @@ impl Table {
             return Err(FileRefusal::Errno(ENOSPC));
         }
         let number = self.free_number();
-        let fd = self.add_slot(Slot::File {
+        let fd = self.add_open_file(OpenFile::File {
             number,
-            cursor: 0,
+            file_offset: 0,
             access: access_of(flags),
         })?;
         if let Err(error) = self.add_file(name, &[]) {
-            self.clear_slot(fd);
+            self.clear_open_file(fd);
             return Err(error.into());
         }
         Ok(fd)
@@ -170,20 +170,20 @@ impl Table {
         requires { IsSound self.old }
         ensures { closed self.old fd ≡ (result, self.new) }
     {
-        let Some(slot) = self.slot(fd) else {
+        let Some(open_file) = self.open_file(fd) else {
             return Err(EBADF);
         };
-        self.clear_slot(fd);
-        self.release(slot);
+        self.clear_open_file(fd);
+        self.release(open_file);
         Ok(())
     }
 
     /// A file that a descriptor stood for goes, where nothing else has it.
-    fn release(&mut self, slot: Slot)
-        requires { HasFile self.old slot }
-        ensures { self.new ≡ released self.old slot }
+    fn release(&mut self, open_file: OpenFile)
+        requires { HasFile self.old open_file }
+        ensures { self.new ≡ released self.old open_file }
     {
-        if let Slot::File { number, .. } = slot {
+        if let OpenFile::File { number, .. } = open_file {
             self.drop_unused(number);
         }
     }
@@ -214,34 +214,34 @@ impl Table {
         requires { IsSound self.old }
         ensures { sought self.old fd offset whence ≡ (result, self.new) }
     {
-        match self.slot(fd) {
+        match self.open_file(fd) {
             None => Err(EBADF),
-            Some(Slot::Input) => Err(ESPIPE),
-            Some(Slot::Stream1) => Err(ESPIPE),
-            Some(Slot::Stream2) => Err(ESPIPE),
+            Some(OpenFile::Input) => Err(ESPIPE),
+            Some(OpenFile::Stream1) => Err(ESPIPE),
+            Some(OpenFile::Stream2) => Err(ESPIPE),
             Some(
-                Slot::File {
+                OpenFile::File {
                     number,
-                    cursor,
+                    file_offset,
                     access,
                 },
             ) => {
                 let len = self.content(number).len() as u64;
-                let Some(base) = seek_base(whence, cursor, len) else {
+                let Some(base) = seek_base(whence, file_offset, len) else {
                     return Err(EINVAL);
                 };
-                let Some(cursor) = moved_cursor(base, offset) else {
+                let Some(file_offset) = moved_file_offset(base, offset) else {
                     return Err(EINVAL);
                 };
-                self.set_slot(
+                self.set_open_file(
                     fd,
-                    Slot::File {
+                    OpenFile::File {
                         number,
-                        cursor,
+                        file_offset,
                         access,
                     },
                 );
-                Ok(cursor)
+                Ok(file_offset)
             }
         }
     }
@@ -252,15 +252,15 @@ impl Table {
         // As many bytes are ready again, so that `skip` may follow.
         ensures skippable { IfOk result (λ bytes. IsOkAnd (ready self.now fd (length bytes.now)) (λ again. length again ≡ length bytes.now)) }
     {
-        match self.slot(fd) {
-            Some(Slot::Input) => Ok(&[]),
+        match self.open_file(fd) {
+            Some(OpenFile::Input) => Ok(&[]),
             Some(
-                Slot::File {
+                OpenFile::File {
                     number,
-                    cursor,
+                    file_offset,
                     access,
                 },
-            ) if access.is_read() => { Ok(part(self.content(number), cursor, count)) }
+            ) if access.is_read() => { Ok(part(self.content(number), file_offset, count)) }
             _ => Err(EBADF),
         }
     }
@@ -271,19 +271,19 @@ impl Table {
         ensures { self.new ≡ skipped self.old fd count }
     {
         if let Some(
-            Slot::File {
+            OpenFile::File {
                 number,
-                cursor,
+                file_offset,
                 access,
             },
-        ) = self.slot(fd)
+        ) = self.open_file(fd)
         {
-            let cursor = cursor + count;
-            self.set_slot(
+            let file_offset = file_offset + count;
+            self.set_open_file(
                 fd,
-                Slot::File {
+                OpenFile::File {
                     number,
-                    cursor,
+                    file_offset,
                     access,
                 },
             );
@@ -292,26 +292,26 @@ impl Table {
 
     /// Where a write goes: how many bytes are there now, and the place of the first byte that is written.
     pub fn write_place(&self, fd: u32) -> Option<(u64, u64)>
-        ensures { result ≡ write_place self.now (map.get self.now.slots fd) }
+        ensures { result ≡ write_place self.now (map.get self.now.open_files fd) }
     {
-        match self.slot(fd) {
-            Some(Slot::Stream1) => {
+        match self.open_file(fd) {
+            Some(OpenFile::Stream1) => {
                 let len = self.stream(1).len() as u64;
                 Some((len, len))
             }
-            Some(Slot::Stream2) => {
+            Some(OpenFile::Stream2) => {
                 let len = self.stream(2).len() as u64;
                 Some((len, len))
             }
             Some(
-                Slot::File {
+                OpenFile::File {
                     number,
-                    cursor,
+                    file_offset,
                     access,
                 },
             ) if access.is_written() => {
                 let len = self.content(number).len() as u64;
-                Some((len, write_cursor(access, len, cursor)))
+                Some((len, write_file_offset(access, len, file_offset)))
             }
             _ => None,
         }
@@ -355,29 +355,29 @@ impl Table {
         requires sound { IsSound self.old }
         requires some { length bytes.now ≢ 0 }
         requires fit { fits self.old fd (length bytes.now) ≡ Ok tt }
-        ensures ok { OnOk result (self.new ≡ filled self.old fd bytes.now (map.get self.old.slots fd)) }
+        ensures ok { OnOk result (self.new ≡ filled self.old fd bytes.now (map.get self.old.open_files fd)) }
         ensures err { OnErr result (self.new ≡ self.old) }
         ensures memory { OnErr result (Grows self.old fd (length bytes.now)) }
     {
-        match self.slot(fd) {
-            Some(Slot::Stream1) => self.extend_stream1(bytes)?,
-            Some(Slot::Stream2) => self.extend_stream2(bytes)?,
+        match self.open_file(fd) {
+            Some(OpenFile::Stream1) => self.extend_stream1(bytes)?,
+            Some(OpenFile::Stream2) => self.extend_stream2(bytes)?,
             Some(
-                Slot::File {
+                OpenFile::File {
                     number,
-                    cursor,
+                    file_offset,
                     access,
                 },
             ) => {
                 let end = self.content(number).len() as u64;
-                let place = write_cursor(access, end, cursor);
+                let place = write_file_offset(access, end, file_offset);
                 self.overwrite(number, place as usize, bytes)?;
-                let cursor = place + bytes.len() as u64;
-                self.set_slot(
+                let file_offset = place + bytes.len() as u64;
+                self.set_open_file(
                     fd,
-                    Slot::File {
+                    OpenFile::File {
                         number,
-                        cursor,
+                        file_offset,
                         access,
                     },
                 );
@@ -409,18 +409,18 @@ impl Table {
 }
 
 /// The place of a write: the end of a file that appends, else the cursor.
-fn write_cursor(access: Access, end: u64, cursor: u64) -> u64
-    ensures { result ≡ write_cursor access end cursor }
+fn write_file_offset(access: Access, end: u64, file_offset: u64) -> u64
+    ensures { result ≡ write_file_offset access end file_offset }
 {
-    if access.appends { end } else { cursor }
+    if access.appends { end } else { file_offset }
 }
 
 /// At most `count` bytes past a cursor.
-fn part(content: &[u8], cursor: u64, count: u64) -> &[u8]
-    ensures { result.now ≡ take count (drop cursor content.now) }
+fn part(content: &[u8], file_offset: u64, count: u64) -> &[u8]
+    ensures { result.now ≡ take count (drop file_offset content.now) }
 {
     let len = content.len() as u64;
-    let from = cursor.min(len);
+    let from = file_offset.min(len);
     let count = count.min(len - from);
     &content[from as usize..(from + count) as usize]
 }

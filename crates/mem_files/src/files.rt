@@ -5,12 +5,12 @@ ghost use Rattle.std.specs.Option.{option_copied};
 ghost use Rattle.std.specs.FinMap as map;
 ghost use Rattle.mem_files.specs.Names.{is_stripped_name};
 ghost use Rattle.mem_files.specs.Calls.{first_world, placed, opened, closed, sought, ready, skipped, fits, write_place, written, removed, content_at, stream, name_after, drained};
-ghost use Rattle.mem_files.specs.Lists.{listed, file_from, slot_from, lists_from, world_of, AreOrdered, AreInRange, AreJoined};
+ghost use Rattle.mem_files.specs.Lists.{listed, file_from, open_file_from, lists_from, world_of, AreOrdered, AreInRange, AreJoined};
 ghost use Rattle.mem_files.specs.Replies.{Replies, Places, Grows};
 ghost use Rattle.mem_files.specs.Sound.{AreBytes, IsSound};
 
-use crate::table::Table;
-use crate::{FileRefusal, FileView, PlaceRefusal, Slot};
+use crate::table::FileTable;
+use crate::{FileRefusal, FileView, PlaceRefusal, OpenFile};
 use ddc_base::OutOfMemory;
 use std::alloc::Global;
 use std::marker::Model;
@@ -21,7 +21,7 @@ use std::marker::Model;
 /// and bytes that are written at the end cost the same each on average.
 #[derive(Drop)]
 pub struct Files {
-    table: Table,
+    table: FileTable,
 }
 
 impl Model for Files {
@@ -44,7 +44,7 @@ impl Files {
     pub fn new(alloc: Global) -> Result<Files, OutOfMemory>
         ensures { IfOk result (λ files. files ≡ first_world) }
     {
-        let table = Table::new(alloc)?;
+        let table = FileTable::new(alloc)?;
         Ok(Files { table })
     }
 
@@ -52,16 +52,16 @@ impl Files {
     pub fn from_lists(
         alloc: Global,
         files: &[FileView<'_>],
-        slots: &[(u32, Slot)],
+        open_files: &[(u32, OpenFile)],
         stream1: &[u8],
         stream2: &[u8],
     ) -> Result<Files, OutOfMemory>
-        requires ordered { AreOrdered (lists_from files.now slots.now stream1.now stream2.now) }
-        requires within { AreInRange (lists_from files.now slots.now stream1.now stream2.now) }
-        requires joined { AreJoined (lists_from files.now slots.now stream1.now stream2.now) }
-        ensures { IfOk result (λ made. made ≡ world_of (lists_from files.now slots.now stream1.now stream2.now)) }
+        requires ordered { AreOrdered (lists_from files.now open_files.now stream1.now stream2.now) }
+        requires within { AreInRange (lists_from files.now open_files.now stream1.now stream2.now) }
+        requires joined { AreJoined (lists_from files.now open_files.now stream1.now stream2.now) }
+        ensures { IfOk result (λ made. made ≡ world_of (lists_from files.now open_files.now stream1.now stream2.now)) }
     {
-        let table = Table::of_lists(alloc, files, slots, stream1, stream2)?;
+        let table = FileTable::of_lists(alloc, files, open_files, stream1, stream2)?;
         Ok(Files { table })
     }
 
@@ -114,7 +114,7 @@ impl Files {
 
     /// Whether bytes may be written to this descriptor.
     pub fn is_writable(&self, fd: u32) -> bool
-        ensures { result ≡ is_some (write_place self.now (map.get self.now.slots fd)) }
+        ensures { result ≡ is_some (write_place self.now (map.get self.now.open_files fd)) }
     {
         self.table.write_place(fd).is_some()
     }
@@ -186,17 +186,17 @@ impl Files {
     }
 
     /// The least descriptor that isn't below the given one, with what it stands for.
-    pub fn slot_from(&self, fd: u32) -> Option<(u32, Slot)>
-        ensures { result ≡ slot_from self.now fd }
+    pub fn open_file_from(&self, fd: u32) -> Option<(u32, OpenFile)>
+        ensures { result ≡ open_file_from self.now fd }
     {
-        self.table.slot_from(fd)
+        self.table.open_file_from(fd)
     }
 
     /// Whether this is a descriptor.
     pub fn is_descriptor(&self, fd: u32) -> bool
-        ensures { result ≡ map.contains_key self.now.slots fd }
+        ensures { result ≡ map.contains_key self.now.open_files fd }
     {
-        self.table.slot(fd).is_some()
+        self.table.open_file(fd).is_some()
     }
 }
 

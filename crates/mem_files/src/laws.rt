@@ -2,9 +2,9 @@
 
 ghost use Rattle.std.specs.Prelude.{◌≡◌, ◌<◌, ◌≤◌, ℕ, ℤ, pos, List, length, All, IsTrue, IsSome, IsOkAnd, Ok, Some, None, false};
 ghost use Rattle.std.specs.FinMap as map;
-ghost use Rattle.mem_files.specs.declared.slot.Slot.TheVariants.{File};
+ghost use Rattle.mem_files.specs.declared.open_file.OpenFile.TheVariants.{File};
 ghost use Rattle.mem_files.specs.Limits.{most_name, most_names, most_descriptors, most_content, most_total};
-ghost use Rattle.mem_files.specs.declared.slot.Access.{Access};
+ghost use Rattle.mem_files.specs.declared.open_file.Access.{Access};
 ghost use Rattle.mem_files.specs.Access.{is_read};
 ghost use Rattle.mem_files.specs.Linux.{enoent, ebadf, eexist, einval, emfile, efbig, enospc, espipe, o_accmode, o_rdonly, o_wronly, o_rdwr, o_creat, o_excl, o_trunc, o_append, seek_set, seek_cur, seek_end};
 ghost use Rattle.mem_files.specs.Names.{is_stripped_name};
@@ -18,11 +18,11 @@ use crate::*;
 
 /// Bytes that were written are read at the same place.
 pub fn written_bytes_are_read()
-    ensures { (w new : World) (fd number cursor : ℕ) (access : Access) (bytes : List ℕ)
-        → IsSound w → map.get w.slots fd ≡ Some (File number cursor access)
+    ensures { (w new : World) (fd number file_offset : ℕ) (access : Access) (bytes : List ℕ)
+        → IsSound w → map.get w.open_files fd ≡ Some (File number file_offset access)
         → IsTrue (is_read access) → access.appends ≡ false
         → written w fd bytes ≡ (Ok tt, new)
-        → ready (sought new fd (pos cursor) seek_set).1 fd (length bytes) ≡ Ok bytes }
+        → ready (sought new fd (pos file_offset) seek_set).1 fd (length bytes) ≡ Ok bytes }
 {}
 
 /// To remove a name changes nothing of what a descriptor reads.
@@ -66,8 +66,8 @@ pub fn what_is_left_keeps_the_limits()
 
 /// The lowest unused number is none of the numbers, and every smaller number is one of them: of descriptors and of files.
 pub fn lowest_unused_is_free()
-    ensures slots { (w : World) → map.get w.slots (lowest_unused w.slots) ≡ None }
-    ensures slots_below { (w : World) (fd : ℕ) → fd < lowest_unused w.slots → IsSome (map.get w.slots fd) }
+    ensures open_files { (w : World) → map.get w.open_files (lowest_unused w.open_files) ≡ None }
+    ensures open_files_below { (w : World) (fd : ℕ) → fd < lowest_unused w.open_files → IsSome (map.get w.open_files fd) }
     ensures files { (w : World) → map.get w.files (lowest_unused w.files) ≡ None }
     ensures files_below { (w : World) (number : ℕ) → number < lowest_unused w.files → IsSome (map.get w.files number) }
 {}
@@ -79,6 +79,6 @@ pub fn numbers_are_those_written()
     ensures flags { (O_ACCMODE ≡ o_accmode) × (O_RDONLY ≡ o_rdonly) × (O_WRONLY ≡ o_wronly) × (O_RDWR ≡ o_rdwr)
         × (O_CREAT ≡ o_creat) × (O_EXCL ≡ o_excl) × (O_TRUNC ≡ o_trunc) × (O_APPEND ≡ o_append) }
     ensures bases { (SEEK_SET ≡ seek_set) × (SEEK_CUR ≡ seek_cur) × (SEEK_END ≡ seek_end) }
-    ensures limits { (MAX_NAME ≡ most_name) × (MAX_NAMES ≡ most_names) × (MAX_SLOTS ≡ most_descriptors)
+    ensures limits { (MAX_NAME ≡ most_name) × (MAX_NAMES ≡ most_names) × (MAX_OPEN_FILES ≡ most_descriptors)
         × (MAX_CONTENT ≡ most_content) × (MAX_TOTAL ≡ most_total) }
 {}

@@ -12,14 +12,14 @@ pub mod laws;
 mod names;
 mod numbers;
 mod restoring;
-mod slot;
+mod open_file;
 mod stored;
 mod table;
 mod view;
 
 pub use files::Files;
 pub use names::{is_file_name, is_stripped_name, strip};
-pub use slot::{Access, FileRefusal, Mode, PlaceRefusal, Slot};
+pub use open_file::{Access, FileRefusal, Mode, PlaceRefusal, OpenFile};
 pub use view::FileView;
 
 /// No such file (Linux, asm-generic/errno-base.h, as the other error numbers).
@@ -68,7 +68,7 @@ pub const MAX_CONTENT: u64 = 268_435_456;
 /// The most bytes of all files and streams together.
 pub const MAX_TOTAL: u64 = 536_870_912;
 /// The most descriptors, 0, 1 and 2 among them while they are open.
-pub const MAX_SLOTS: usize = 1_024;
+pub const MAX_OPEN_FILES: usize = 1_024;
 /// The most names.
 pub const MAX_NAMES: usize = 4_096;
 /// The most bytes of a name.

@@ -8,10 +8,10 @@ use crate::MAX_NAME;
 use arrayvec::ArrayVec;
 
 /// A name as it stands in the tree of names: it takes no memory of its own.
-pub type Key = ArrayVec<u8, MAX_NAME>;
+pub type NameKey = ArrayVec<u8, MAX_NAME>;
 
 /// As many bytes of a name as a key has room for: all of a guest file name.
-pub fn key(name: &[u8]) -> Key
+pub fn key(name: &[u8]) -> NameKey
     ensures { result.items ≡ take MAX_NAME name.now }
 {
     let len = name.len().min(MAX_NAME);

@@ -11,26 +11,26 @@ ghost use Rattle.mem_files.specs.Calls.{bare_world};
 ghost use Rattle.mem_files.specs.Lists.{listed, named, numbered_contents, world_of, lists_from, AreOrdered, AreInRange};
 ghost use Rattle.mem_files.specs.Inside.Listing.{with_listed};
 
-use crate::table::Table;
-use crate::{FileView, MAX_NAME, MAX_NAMES, MAX_SLOTS, Slot};
+use crate::table::FileTable;
+use crate::{FileView, MAX_NAME, MAX_NAMES, MAX_OPEN_FILES, OpenFile};
 use std::alloc::{AllocError, Global};
 
-impl Table {
+impl FileTable {
     /// The table of lists that keep their rules.
     pub fn of_lists(
         alloc: Global,
         files: &[FileView<'_>],
-        slots: &[(u32, Slot)],
+        open_files: &[(u32, OpenFile)],
         stream1: &[u8],
         stream2: &[u8],
-    ) -> Result<Table, AllocError>
-        requires ordered { AreOrdered (lists_from files.now slots.now stream1.now stream2.now) }
-        requires within { AreInRange (lists_from files.now slots.now stream1.now stream2.now) }
-        ensures { IfOk result (λ table. table ≡ world_of (lists_from files.now slots.now stream1.now stream2.now)) }
+    ) -> Result<FileTable, AllocError>
+        requires ordered { AreOrdered (lists_from files.now open_files.now stream1.now stream2.now) }
+        requires within { AreInRange (lists_from files.now open_files.now stream1.now stream2.now) }
+        ensures { IfOk result (λ table. table ≡ world_of (lists_from files.now open_files.now stream1.now stream2.now)) }
     {
-        let mut table = Table::bare(alloc)?;
+        let mut table = FileTable::bare(alloc)?;
         table.put_files(files)?;
-        table.put_slots(slots)?;
+        table.put_open_files(open_files)?;
         table.extend_stream1(stream1)?;
         table.extend_stream2(stream2)?;
         Ok(table)
@@ -40,11 +40,11 @@ impl Table {
     fn put_files(&mut self, files: &[FileView<'_>]) -> Result<(), AllocError>
         requires bare { self.old ≡ bare_world }
         requires rise { IsTrue (map.is_sorted nat_cmp (numbered_contents (map_list listed files.now))) }
-        requires low { All (λ file. file.number < MAX_NAMES + MAX_SLOTS) (map_list listed files.now) }
+        requires low { All (λ file. file.number < MAX_NAMES + MAX_OPEN_FILES) (map_list listed files.now) }
         requires short { All (λ e. length e.0 ≤ MAX_NAME) (named (map_list listed files.now)) }
         requires distinct { IsDistinct (eq_by_cmp bytes_cmp) (map_list (λ e. e.0) (named (map_list listed files.now))) }
         requires small { sum_by (λ file. length file.content) (map_list listed files.now) < 2 ^ 63 }
-        ensures world { OnOk result (self.new ≡ world_of (record { files = map_list listed files.now; slots = []; streams = [] })) }
+        ensures world { OnOk result (self.new ≡ world_of (record { files = map_list listed files.now; open_files = []; streams = [] })) }
         ensures total { OnOk result (total self.new ≡ sum_by (λ file. length file.content) (map_list listed files.now)) }
     {
         for file in files {
@@ -56,7 +56,7 @@ impl Table {
     /// Puts a file under a number of its own.
     fn put_file(&mut self, file: &FileView<'_>) -> Result<(), AllocError>
         requires unused { map.get self.old.files file.now.number ≡ None }
-        requires low { file.now.number < MAX_NAMES + MAX_SLOTS }
+        requires low { file.now.number < MAX_NAMES + MAX_OPEN_FILES }
         requires absent { IfSome (option_copied file.now.name) (λ name. map.get self.old.names name ≡ None) }
         requires short { IfSome (option_copied file.now.name) (λ name. length name ≤ MAX_NAME) }
         requires small { total self.old + length file.now.content.now < 2 ^ 64 }
@@ -69,14 +69,14 @@ impl Table {
     }
 
     /// Puts all descriptors.
-    fn put_slots(&mut self, slots: &[(u32, Slot)]) -> Result<(), AllocError>
-        requires empty { self.old.slots ≡ map.empty }
-        requires rise { IsTrue (map.is_sorted nat_cmp slots.now) }
-        requires low { All (λ held. held.0 < MAX_SLOTS) slots.now }
-        ensures { OnOk result (self.new ≡ record self.old { slots = map.from_entries slots.now }) }
+    fn put_open_files(&mut self, open_files: &[(u32, OpenFile)]) -> Result<(), AllocError>
+        requires empty { self.old.open_files ≡ map.empty }
+        requires rise { IsTrue (map.is_sorted nat_cmp open_files.now) }
+        requires low { All (λ held. held.0 < MAX_OPEN_FILES) open_files.now }
+        ensures { OnOk result (self.new ≡ record self.old { open_files = map.from_entries open_files.now }) }
     {
-        for (fd, slot) in slots {
-            self.put_slot(*fd, *slot)?;
+        for (fd, open_file) in open_files {
+            self.put_open_file(*fd, *open_file)?;
         }
         Ok(())
     }

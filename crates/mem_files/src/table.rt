@@ -5,36 +5,36 @@ ghost use Rattle.std.specs.Option.{option_copied};
 ghost use Rattle.std.specs.FinMap as map;
 ghost use Rattle.mem_files.specs.World.{content_of, total, is_named, is_open, lowest_unused};
 ghost use Rattle.mem_files.specs.Calls.{bare_world, first_world, with_file, written_over, stream, name_after, is_after};
-ghost use Rattle.mem_files.specs.Lists.{listed, file_from, slot_from};
+ghost use Rattle.mem_files.specs.Lists.{listed, file_from, open_file_from};
 ghost use Rattle.mem_files.specs.Inside.Keys.{begins};
 ghost use Rattle.std.specs.List.{All};
 ghost use Rattle.mem_files.specs.Inside.Counts.{opens_in};
 
 use crate::cells::{cell, full_from, reach};
 use crate::counts::{count, count_of, uncount};
-use crate::names::{Key, key};
+use crate::names::{NameKey, key};
 use crate::numbers::Numbers;
 use crate::stored::{self, Stored};
-use crate::{FileView, MAX_NAME, MAX_NAMES, MAX_SLOTS, Slot};
+use crate::{FileView, MAX_NAME, MAX_NAMES, MAX_OPEN_FILES, OpenFile};
 use std::alloc::{AllocError, Global};
 use std::collections::BTreeMap;
 use std::marker::Model;
 use std::ops::Bound;
 
 /// There are at most 2^10 descriptors.
-const SLOTS_HEIGHT: u32 = 10;
+const OPEN_FILES_HEIGHT: u32 = 10;
 /// Each file has a name or a descriptor, so there are fewer than 2^13 files.
 const FILES_HEIGHT: u32 = 13;
 
 /// The files by number, the descriptors by number, and the numbers by name.
 #[derive(Drop)]
-pub struct Table {
-    names: BTreeMap<Key, u32>,
+pub struct FileTable {
+    names: BTreeMap<NameKey, u32>,
     files: Vec<Option<Stored>>,
     used_files: Numbers,
-    slots: Vec<Option<Slot>>,
-    used_slots: Numbers,
-    slot_count: usize,
+    open_files: Vec<Option<OpenFile>>,
+    used_open_files: Numbers,
+    open_file_count: usize,
     /// Of each file number, how many descriptors stand for the file.
     open_counts: Vec<u32>,
     stream1: Vec<u8>,
@@ -43,7 +43,7 @@ pub struct Table {
     alloc: Global,
 }
 
-impl Model for Table {
+impl Model for FileTable {
     ghost use Rattle.mem_files.specs.World.{World};
     ghost use Rattle.mem_files.specs.Inside.Codes.{world_code};
 
@@ -51,25 +51,25 @@ impl Model for Table {
 
     ghost coded = { world_code };
 
-    ghost use Rattle.mem_files.specs.Inside.Table.{parts_of, world_of, IsConsistent};
+    ghost use Rattle.mem_files.specs.Inside.FileTable.{parts_of, world_of, IsConsistent};
 
     ghost view = { λ table. world_of (parts_of table) };
 
     ghost invariant = { λ table. IsConsistent (parts_of table) };
 }
 
-impl Table {
+impl FileTable {
     /// No files and no descriptors.
-    pub fn bare(alloc: Global) -> Result<Table, AllocError>
+    pub fn bare(alloc: Global) -> Result<FileTable, AllocError>
         ensures { IfOk result (λ table. table ≡ bare_world) }
     {
-        Ok(Table {
+        Ok(FileTable {
             names: BTreeMap::new(alloc),
             files: Vec::new(alloc),
             used_files: Numbers::new(alloc, FILES_HEIGHT)?,
-            slots: Vec::new(alloc),
-            used_slots: Numbers::new(alloc, SLOTS_HEIGHT)?,
-            slot_count: 0,
+            open_files: Vec::new(alloc),
+            used_open_files: Numbers::new(alloc, OPEN_FILES_HEIGHT)?,
+            open_file_count: 0,
             open_counts: Vec::new(alloc),
             stream1: Vec::new(alloc),
             stream2: Vec::new(alloc),
@@ -79,21 +79,21 @@ impl Table {
     }
 
     /// No files, and the three first descriptors.
-    pub fn new(alloc: Global) -> Result<Table, AllocError>
+    pub fn new(alloc: Global) -> Result<FileTable, AllocError>
         ensures { IfOk result (λ table. table ≡ first_world) }
     {
-        let mut table = Table::bare(alloc)?;
-        table.put_slot(2, Slot::Stream2)?;
-        table.put_slot(1, Slot::Stream1)?;
-        table.put_slot(0, Slot::Input)?;
+        let mut table = FileTable::bare(alloc)?;
+        table.put_open_file(2, OpenFile::Stream2)?;
+        table.put_open_file(1, OpenFile::Stream1)?;
+        table.put_open_file(0, OpenFile::Input)?;
         Ok(table)
     }
 
     /// What a descriptor stands for.
-    pub fn slot(&self, fd: u32) -> Option<Slot>
-        ensures { result ≡ map.get self.now.slots fd }
+    pub fn open_file(&self, fd: u32) -> Option<OpenFile>
+        ensures { result ≡ map.get self.now.open_files fd }
     {
-        cell(&self.slots, fd).copied()
+        cell(&self.open_files, fd).copied()
     }
 
     /// The number of the file of this name.
@@ -141,10 +141,10 @@ impl Table {
     }
 
     /// How many descriptors there are.
-    pub fn slot_count(&self) -> usize
-        ensures { result ≡ map.len self.now.slots }
+    pub fn open_file_count(&self) -> usize
+        ensures { result ≡ map.len self.now.open_files }
     {
-        self.slot_count
+        self.open_file_count
     }
 
     /// Whether a file has a name.
@@ -165,10 +165,10 @@ impl Table {
     }
 
     /// The lowest unused descriptor.
-    pub fn free_slot(&self) -> u32
-        ensures { result ≡ lowest_unused self.now.slots }
+    pub fn free_open_file(&self) -> u32
+        ensures { result ≡ lowest_unused self.now.open_files }
     {
-        self.used_slots.lowest_unused() as u32
+        self.used_open_files.lowest_unused() as u32
     }
 
     /// The lowest unused file number.
@@ -179,56 +179,56 @@ impl Table {
     }
 
     /// Puts what a descriptor stands for at the lowest unused one, which is the answer.
-    pub fn add_slot(&mut self, slot: Slot) -> Result<u32, AllocError>
-        requires { map.len self.old.slots < MAX_SLOTS }
-        ensures ok { IfOk result (λ fd. (fd ≡ lowest_unused self.old.slots) × (self.new ≡ record self.old { slots = map.insert self.old.slots fd slot })) }
+    pub fn add_open_file(&mut self, open_file: OpenFile) -> Result<u32, AllocError>
+        requires { map.len self.old.open_files < MAX_OPEN_FILES }
+        ensures ok { IfOk result (λ fd. (fd ≡ lowest_unused self.old.open_files) × (self.new ≡ record self.old { open_files = map.insert self.old.open_files fd open_file })) }
         ensures err { OnErr result (self.new ≡ self.old) }
     {
-        let fd = self.free_slot();
-        self.put_slot(fd, slot)?;
+        let fd = self.free_open_file();
+        self.put_open_file(fd, open_file)?;
         Ok(fd)
     }
 
     /// Puts what a descriptor stands for at an unused one.
-    pub fn put_slot(&mut self, fd: u32, slot: Slot) -> Result<(), AllocError>
-        requires unused { map.get self.old.slots fd ≡ None }
-        requires low { fd < MAX_SLOTS }
-        ensures ok { OnOk result (self.new ≡ record self.old { slots = map.insert self.old.slots fd slot }) }
+    pub fn put_open_file(&mut self, fd: u32, open_file: OpenFile) -> Result<(), AllocError>
+        requires unused { map.get self.old.open_files fd ≡ None }
+        requires low { fd < MAX_OPEN_FILES }
+        ensures ok { OnOk result (self.new ≡ record self.old { open_files = map.insert self.old.open_files fd open_file }) }
         ensures err { OnErr result (self.new ≡ self.old) }
     {
-        reach(&mut self.slots, fd as usize)?;
-        count(&mut self.open_counts, slot)?;
-        self.slots[fd as usize] = Some(slot);
-        self.used_slots.insert(fd);
-        self.slot_count += 1;
+        reach(&mut self.open_files, fd as usize)?;
+        count(&mut self.open_counts, open_file)?;
+        self.open_files[fd as usize] = Some(open_file);
+        self.used_open_files.insert(fd);
+        self.open_file_count += 1;
         Ok(())
     }
 
     /// What a descriptor stands for changes, but for its file.
-    pub fn set_slot(&mut self, fd: u32, slot: Slot)
-        requires held { IsSome (map.get self.old.slots fd) }
-        requires same_file { (number : ℕ) → opens_in number (map.get self.old.slots fd) ≡ opens_in number (Some slot) }
-        ensures { self.new ≡ record self.old { slots = map.insert self.old.slots fd slot } }
+    pub fn set_open_file(&mut self, fd: u32, open_file: OpenFile)
+        requires held { IsSome (map.get self.old.open_files fd) }
+        requires same_file { (number : ℕ) → opens_in number (map.get self.old.open_files fd) ≡ opens_in number (Some open_file) }
+        ensures { self.new ≡ record self.old { open_files = map.insert self.old.open_files fd open_file } }
     {
-        self.slots[fd as usize] = Some(slot);
+        self.open_files[fd as usize] = Some(open_file);
     }
 
     /// A descriptor goes.
-    pub fn clear_slot(&mut self, fd: u32)
-        requires { IsSome (map.get self.old.slots fd) }
-        ensures { self.new ≡ record self.old { slots = map.remove self.old.slots fd } }
+    pub fn clear_open_file(&mut self, fd: u32)
+        requires { IsSome (map.get self.old.open_files fd) }
+        ensures { self.new ≡ record self.old { open_files = map.remove self.old.open_files fd } }
     {
-        uncount(&mut self.open_counts, self.slots[fd as usize]);
-        self.slots[fd as usize] = None;
-        self.used_slots.remove(fd);
-        self.slot_count -= 1;
+        uncount(&mut self.open_counts, self.open_files[fd as usize]);
+        self.open_files[fd as usize] = None;
+        self.used_open_files.remove(fd);
+        self.open_file_count -= 1;
     }
 
     /// A new file, under the lowest unused number.
     pub fn add_file(&mut self, name: &[u8], content: &[u8]) -> Result<(), AllocError>
         requires absent { map.get self.old.names name.now ≡ None }
         requires short { length name.now ≤ MAX_NAME }
-        requires few { lowest_unused self.old.files < MAX_NAMES + MAX_SLOTS }
+        requires few { lowest_unused self.old.files < MAX_NAMES + MAX_OPEN_FILES }
         requires small { total self.old + length content.now < 2 ^ 64 }
         ensures ok { OnOk result (self.new ≡ with_file self.old name.now content.now) }
         ensures err { OnErr result (self.new ≡ self.old) }
@@ -242,7 +242,7 @@ impl Table {
         requires absent { map.get self.old.names name.now ≡ None }
         requires short { length name.now ≤ MAX_NAME }
         requires unused { map.get self.old.files number ≡ None }
-        requires low { number < MAX_NAMES + MAX_SLOTS }
+        requires low { number < MAX_NAMES + MAX_OPEN_FILES }
         requires small { total self.old + length content.now < 2 ^ 64 }
         ensures ok { OnOk result (self.new ≡ record self.old { names = map.insert self.old.names name.now number; files = map.insert self.old.files number content.now }) }
         ensures err { OnErr result (self.new ≡ self.old) }
@@ -259,7 +259,7 @@ impl Table {
     /// A new file without a name, under an unused number.
     pub fn put_unnamed(&mut self, number: u32, content: &[u8]) -> Result<(), AllocError>
         requires unused { map.get self.old.files number ≡ None }
-        requires low { number < MAX_NAMES + MAX_SLOTS }
+        requires low { number < MAX_NAMES + MAX_OPEN_FILES }
         requires small { total self.old + length content.now < 2 ^ 64 }
         ensures ok { OnOk result (self.new ≡ record self.old { files = map.insert self.old.files number content.now }) }
         ensures err { OnErr result (self.new ≡ self.old) }
@@ -348,11 +348,11 @@ impl Table {
     }
 
     /// The least descriptor that isn't below the given one, with what it stands for.
-    pub fn slot_from(&self, fd: u32) -> Option<(u32, Slot)>
-        ensures { result ≡ slot_from self.now fd }
+    pub fn open_file_from(&self, fd: u32) -> Option<(u32, OpenFile)>
+        ensures { result ≡ open_file_from self.now fd }
     {
-        match full_from(&self.slots, fd) {
-            Some((fd, slot)) => Some((fd, *slot)),
+        match full_from(&self.open_files, fd) {
+            Some((fd, open_file)) => Some((fd, *open_file)),
             None => None,
         }
     }
@@ -366,7 +366,7 @@ impl Table {
 }
 
 /// The first name that comes after the given one; without one, the first of all.
-fn next_name<'a>(names: &'a BTreeMap<Key, u32>, name: Option<&[u8]>) -> Option<&'a [u8]>
+fn next_name<'a>(names: &'a BTreeMap<NameKey, u32>, name: Option<&[u8]>) -> Option<&'a [u8]>
     requires { All (λ e. length e.0.items ≤ MAX_NAME) names.now.entries }
     ensures { option_copied result ≡ find (is_after (option_copied name.entry)) (map_list (λ e. e.0.items) names.now.entries) }
 {
@@ -377,7 +377,7 @@ fn next_name<'a>(names: &'a BTreeMap<Key, u32>, name: Option<&[u8]>) -> Option<&
 }
 
 /// Where the names begin that come after the given one; without one, all of them.
-fn start_after(name: Option<&[u8]>) -> Bound<Key>
+fn start_after(name: Option<&[u8]>) -> Bound<NameKey>
     ensures { (held : List ℕ) → length held ≤ MAX_NAME → begins result held ≡ is_after (option_copied name.entry) held }
 {
     match name {
@@ -386,12 +386,12 @@ fn start_after(name: Option<&[u8]>) -> Bound<Key>
     }
 }
 
-impl Table {
+impl FileTable {
     /// A new file under the lowest unused number, which takes the bytes over.
     pub fn add_moved(&mut self, name: &[u8], content: Vec<u8>) -> Result<(), AllocError>
         requires absent { map.get self.old.names name.now ≡ None }
         requires short { length name.now ≤ MAX_NAME }
-        requires few { lowest_unused self.old.files < MAX_NAMES + MAX_SLOTS }
+        requires few { lowest_unused self.old.files < MAX_NAMES + MAX_OPEN_FILES }
         requires small { total self.old + length content.items < 2 ^ 64 }
         ensures ok { OnOk result (self.new ≡ with_file self.old name.now content.items) }
         ensures err { OnErr result (self.new ≡ self.old) }
@@ -405,7 +405,7 @@ impl Table {
         requires absent { map.get self.old.names name.now ≡ None }
         requires short { length name.now ≤ MAX_NAME }
         requires unused { map.get self.old.files number ≡ None }
-        requires low { number < MAX_NAMES + MAX_SLOTS }
+        requires low { number < MAX_NAMES + MAX_OPEN_FILES }
         requires small { total self.old + length content.items < 2 ^ 64 }
         ensures ok { OnOk result (self.new ≡ record self.old { names = map.insert self.old.names name.now number; files = map.insert self.old.files number content.items }) }
         ensures err { OnErr result (self.new ≡ self.old) }

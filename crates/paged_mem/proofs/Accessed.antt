@@ -13,7 +13,7 @@ use Rattle.paged_mem.specs.Inside.Flat.{memory_of, place, slot, Spans, overwritt
 use Rattle.paged_mem.specs.Inside.Wholeness.{place-some}
 use Rattle.paged_mem.specs.Inside.Entries.{Entry, ArePages, AreFull, IsHeldPage, page_content, flat, held_pages}
 use Rattle.paged_mem.specs.Paged.{TouchesUnheld}
-use Rattle.paged_mem.specs.declared.rows.Row.{Row}
+use Rattle.paged_mem.specs.declared.rows.PageRow.{PageRow}
 use Rattle.paged_mem.proofs.InRows.{place-in_row}
 use Rattle.paged_mem.specs.Ram.{count_of}
 use Rattle.paged_mem.specs.declared.ram.Width.{Width}
@@ -130,7 +130,7 @@ held_found pages entries are at index entry found here is =
       held = λ some. ap is_some (get_or_default entries index None entry (placed pages entries are (at / 4096) index found) ∙ sym here) ∙ is;
     }
 
-pub held_read : (pages : List ℕ) (entries : List Entry) → ArePages pages entries → (page : Row) → IsHeldPage pages entries page
+pub held_read : (pages : List ℕ) (entries : List Entry) → ArePages pages entries → (page : PageRow) → IsHeldPage pages entries page
     → (at ahead value : ℕ) (entry : Entry) → at < 2 ^ 64 → at % 4 ≡ 0 → ahead ≡ (at + (2 ^ 64 - page.base)) % 2 ^ 64 → ahead < page.size
     → entry ≡ get_or entries page.index entry → value ≡ number_at (page_content entry) ahead 4 → reads (memory_of pages (flat entries)) at 4 ≡ Some value
 held_read pages entries are page is at ahead value entry fits aligned is_ahead below here value_is =

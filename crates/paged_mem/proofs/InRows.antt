@@ -3,7 +3,7 @@ use Rattle.std.proofs.Common.{◌≡◌, ℕ, ◌+◌, ◌-◌, ◌*◌, ◌/◌
 use Rattle.paged_mem.specs.Inside.Flat.{place, Rises, AreLow}
 use Rattle.paged_mem.specs.Inside.Wholeness.{place-some}
 use Rattle.paged_mem.specs.Inside.Entries.{IsRowOf}
-use Rattle.paged_mem.specs.declared.rows.Row.{Row}
+use Rattle.paged_mem.specs.declared.rows.PageRow.{PageRow}
 use Rattle.paged_mem.proofs.Places.{place-at}
 use Rattle.paged_mem.proofs.Spans.{between}
 
@@ -17,7 +17,7 @@ row_between pages rising low index more number base size within first last is_ba
   numbers = λ k below. (place-some pages (number + k) (index + k) (between pages rising index number more first within last k (omega arith))).1 ∙ omega arith;
 }
 
-pub place-in_row : (pages : List ℕ) → Rises pages → (row : Row) → IsRowOf pages row → (at ahead : ℕ) → at < 2 ^ 64
+pub place-in_row : (pages : List ℕ) → Rises pages → (row : PageRow) → IsRowOf pages row → (at ahead : ℕ) → at < 2 ^ 64
     → ahead ≡ (at + (2 ^ 64 - row.base)) % 2 ^ 64 → ahead < row.size → place pages (at / 4096) ≡ Some (row.index + ahead / 4096)
 place-in_row pages rising row is at ahead fits is_ahead inside =
     let from : at ≡ row.base + ahead = omega (arith, is.low) in

@@ -29,21 +29,21 @@ module _ (front back bytes rest : List ℕ) (number count : ℕ) (full : length 
     middle : length between ≡ 4096 * length numbers
     middle = omega (arith, length-range_with_len number count)
 
-    behind : length (between ++ rest) ≡ 4096 * length (numbers ++ back)
-    behind = omega (arith, length-append between rest, length-append numbers back, length-range_with_len number count)
+    after : length (between ++ rest) ≡ 4096 * length (numbers ++ back)
+    after = omega (arith, length-append between rest, length-append numbers back, length-range_with_len number count)
 
     -- elsewhere nothing changes
     elsewhere : (q : ℕ) → place numbers (q / 4096) ≡ None → get (memory_of (front ++ (numbers ++ back)) (bytes ++ (between ++ rest))) q ≡ get (memory_of (front ++ back) (bytes ++ rest)) q
     elsewhere q out = by_front (place front (q / 4096)) refl
       where
         by_front : (o : Option ℕ) → place front (q / 4096) ≡ o → get (memory_of (front ++ (numbers ++ back)) (bytes ++ (between ++ rest))) q ≡ get (memory_of (front ++ back) (bytes ++ rest)) q
-        by_front (Some i) was = get_front front (numbers ++ back) bytes (between ++ rest) full behind q i was ∙ sym (get_front front back bytes rest full full_too q i was)
-        by_front None was = get_back front (numbers ++ back) bytes (between ++ rest) full behind q was ∙ get_back numbers back between rest middle full_too q out ∙ sym (get_back front back bytes rest full full_too q was)
+        by_front (Some i) was = get_front front (numbers ++ back) bytes (between ++ rest) full after q i was ∙ sym (get_front front back bytes rest full full_too q i was)
+        by_front None was = get_back front (numbers ++ back) bytes (between ++ rest) full after q was ∙ get_back numbers back between rest middle full_too q out ∙ sym (get_back front back bytes rest full full_too q was)
 
     -- among the new pages their bytes stand
     among : (q i : ℕ) → place front (q / 4096) ≡ None → place numbers (q / 4096) ≡ Some i → get (memory_of (front ++ (numbers ++ back)) (bytes ++ (between ++ rest))) q ≡ Some (get_or between (4096 * i + q % 4096) 0)
     among q i out at =
-        get_back front (numbers ++ back) bytes (between ++ rest) full behind q out
+        get_back front (numbers ++ back) bytes (between ++ rest) full after q out
         ∙ get_front numbers back between rest middle full_too q i at
         ∙ get-memory_of numbers between q middle
         ∙ ap (λ o. option_map (λ s. get_or between s 0) (option_map (λ i. 4096 * i + q % 4096) o)) at

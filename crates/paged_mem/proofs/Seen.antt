@@ -1,4 +1,4 @@
--- What a `FlatRam` answers from what its slices show: `shown` and `held` are its pages and bytes as they were lent.
+-- What a `FlatRam` answers from what its slices show: `shown` and `held` are its pages and bytes as they were borrowed.
 use Rattle.std.proofs.Common.{◌≡◌, ℕ, Option, None, Some, is_some, unwrap_or, List, length, take, drop, sym, ap, subst, ◌∙◌, arith}
 use Rattle.std.specs.Option.{option_map}
 use Rattle.paged_mem.specs.Memory.{Memory, maps, bytes_at, reads, number_of, with_bytes}

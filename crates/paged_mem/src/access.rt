@@ -10,7 +10,7 @@ ghost use Rattle.paged_mem.specs.Paged.{pages_touched, TouchesUnheld};
 use crate::entries::{Entry, number_held, number_in, put_into, read, take_memory, write};
 use crate::pages::{find, row_from, span};
 use crate::ram::{PageView, StoreRefusal, Width};
-use crate::rows::{Row, Rows};
+use crate::rows::{PageRow, Rows};
 use crate::{PAGE, PAGE_LEN};
 use ddc_base::OutOfMemory;
 use std::alloc::Global;
@@ -111,7 +111,7 @@ pub fn fetch_near(
     _pages: &[u64],
     entries: &[Entry],
     rows: &Rows,
-    code: &mut Row,
+    code: &mut PageRow,
     at: u64,
 ) -> Option<u64>
     requires pages { ArePages _pages.now entries.now }
@@ -130,24 +130,24 @@ pub fn fetch_near(
 
 /// The page of an address, where it lies in one of the rows and holds bytes; no page else.
 #[inline(always)]
-fn held_page(_pages: &[u64], entries: &[Entry], rows: &Rows, at: u64) -> Row
+fn held_page(_pages: &[u64], entries: &[Entry], rows: &Rows, at: u64) -> PageRow
     requires pages { ArePages _pages.now entries.now }
     requires rows { AreRowsOf _pages.now rows.now }
     ensures { IsHeldPage _pages.now entries.now result }
 {
     match rows.find(at) {
-        Some(index) if entries[index].is_some() => Row {
+        Some(index) if entries[index].is_some() => PageRow {
             base: at - at % PAGE,
             size: PAGE,
             index,
         },
-        _ => Row::none(),
+        _ => PageRow::none(),
     }
 }
 
 /// The four bytes at a multiple of 4, where they lie on this page, which holds bytes.
 #[inline(always)]
-fn word_in(_pages: &[u64], entries: &[Entry], page: Row, at: u64) -> Option<u64>
+fn word_in(_pages: &[u64], entries: &[Entry], page: PageRow, at: u64) -> Option<u64>
     requires pages { ArePages _pages.now entries.now }
     requires page { IsHeldPage _pages.now entries.now page }
     requires aligned { at % 4 ≡ 0 }
@@ -262,7 +262,7 @@ pub fn store_near(
     ensures stores { StoresNear (memory_of _pages.now (flat entries.old)) at (count_of width) value result
         (memory_of _pages.now (flat entries.new)) }
     ensures held { held_pages _pages.now entries.new ≡ held_pages _pages.now entries.old }
-    ensures code { (page : Row) → IsHeldPage _pages.now entries.old page → IsHeldPage _pages.now entries.new page }
+    ensures code { (page : PageRow) → IsHeldPage _pages.now entries.old page → IsHeldPage _pages.now entries.new page }
 {
     let low = (at % PAGE) as usize;
     let count = width.count() as usize;

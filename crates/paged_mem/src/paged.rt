@@ -13,7 +13,7 @@ use crate::access::{
 use crate::entries::{Entry, count_held};
 use crate::mapping::{map_entries, unmap_entries};
 use crate::ram::{PageView, Ram, StoreRefusal, Width};
-use crate::rows::{Row, Rows};
+use crate::rows::{PageRow, Rows};
 use ddc_base::OutOfMemory;
 use std::alloc::Global;
 use std::marker::Model;
@@ -29,7 +29,7 @@ pub struct PagedRam {
     pages: Vec<u64>,
     entries: Vec<Entry>,
     rows: Rows,
-    code: Row,
+    code: PageRow,
     alloc: Global,
     ghost are: { ArePages pages.items entries.items } by { ArePages-prop pages.items entries.items },
     ghost rows_are: { AreRowsOf pages.items rows } by { AreRowsOf-prop pages.items rows },
@@ -74,7 +74,7 @@ impl Ram for PagedRam {
             pages: Vec::new(alloc),
             entries: Vec::new(alloc),
             rows: Rows::none(),
-            code: Row::none(),
+            code: PageRow::none(),
             alloc,
         }
     }
@@ -103,7 +103,7 @@ impl Ram for PagedRam {
             width,
             value,
         );
-        self.code = Row::none();
+        self.code = PageRow::none();
         stored
     }
 
@@ -155,7 +155,7 @@ impl Ram for PagedRam {
             at,
             source,
         );
-        self.code = Row::none();
+        self.code = PageRow::none();
         written
     }
 
@@ -169,7 +169,7 @@ impl Ram for PagedRam {
     {
         let mapped = map_entries(&mut self.pages, &mut self.entries, first, pages as usize);
         self.rows = Rows::of(&self.pages);
-        self.code = Row::none();
+        self.code = PageRow::none();
         mapped
     }
 
@@ -181,7 +181,7 @@ impl Ram for PagedRam {
     {
         unmap_entries(&mut self.pages, &mut self.entries, first, pages as usize);
         self.rows = Rows::of(&self.pages);
-        self.code = Row::none();
+        self.code = PageRow::none();
     }
 
     fn run_from(&self, at: u64) -> Option<(u64, u64)> {

@@ -31,9 +31,9 @@ pub fn find(pages: &[u64], number: u64) -> Option<usize>
     if is_at(pages, ahead, number) {
         return Some(ahead);
     }
-    let behind = last.wrapping_sub(pages[last].wrapping_sub(number) as usize);
-    if is_at(pages, behind, number) {
-        return Some(behind);
+    let after = last.wrapping_sub(pages[last].wrapping_sub(number) as usize);
+    if is_at(pages, after, number) {
+        return Some(after);
     }
     let rank = rank(pages, number);
     if is_at(pages, rank, number) {

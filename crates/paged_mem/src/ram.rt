@@ -36,7 +36,7 @@ pub enum StoreRefusal {
     OutOfMemory,
 }
 
-/// What a page holds: nothing, 4,096 zero bytes, or the 4,096 bytes that are lent.
+/// What a page holds: nothing, 4,096 zero bytes, or the 4,096 bytes that are borrowed.
 ///
 /// `Zero` and `Full` both speak of a mapped page, and a page that is all zero may be shown either way.
 #[derive(Clone, Copy, PartialEq, Eq)]

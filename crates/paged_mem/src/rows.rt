@@ -9,19 +9,19 @@ use crate::PAGE;
 /// Pages with numbers in a row: the address of the first one, how many bytes all of them have, and where the first one stands among the
 /// mapped pages.
 #[derive(Clone, Copy, PartialEq, Eq)]
-pub struct Row {
+pub struct PageRow {
     pub base: u64,
     pub size: u64,
     pub index: usize,
 }
 
-impl Row {
+impl PageRow {
     /// The row of no pages.
-    pub fn none() -> Row
+    pub fn none() -> PageRow
         ensures held { (pages : List ℕ) (entries : List Entry) → IsHeldPage pages entries result }
         ensures start { result.index ≡ 0 }
     {
-        Row {
+        PageRow {
             base: 0,
             size: 0,
             index: 0,
@@ -31,7 +31,7 @@ impl Row {
 
 /// Where the page of an address stands among the mapped pages, if it lies in this row.
 #[inline(always)]
-pub fn find_in(row: Row, at: u64) -> Option<usize>
+pub fn find_in(row: PageRow, at: u64) -> Option<usize>
     requires { row.index + row.size < 2 ^ 64 }
     ensures { (pages : List ℕ) → Rises pages → IsRowOf pages row → IfSome result (λ index. place pages (at / 4096) ≡ Some index) }
 {
@@ -44,14 +44,14 @@ pub fn find_in(row: Row, at: u64) -> Option<usize>
 }
 
 /// The pages in a row from the one at an index on; none where no page stands there.
-pub fn row_at(pages: &[u64], start: usize) -> Row
+pub fn row_at(pages: &[u64], start: usize) -> PageRow
     requires rising { Rises pages.now }
     requires low { AreLow pages.now }
     ensures row { IsRowOf pages.now result }
     ensures start { start ≡ 0 → result.index ≡ 0 }
 {
     if start >= pages.len() {
-        return Row::none();
+        return PageRow::none();
     }
     let first = pages[start];
     let mut known = start;
@@ -64,7 +64,7 @@ pub fn row_at(pages: &[u64], start: usize) -> Row
             end = middle;
         }
     }
-    Row {
+    PageRow {
         base: PAGE * first,
         size: PAGE * ((known - start) as u64 + 1),
         index: start,
@@ -72,13 +72,13 @@ pub fn row_at(pages: &[u64], start: usize) -> Row
 }
 
 /// The pages in a row up to the last one.
-pub fn last_row(pages: &[u64]) -> Row
+pub fn last_row(pages: &[u64]) -> PageRow
     requires rising { Rises pages.now }
     requires low { AreLow pages.now }
     ensures { IsRowOf pages.now result }
 {
     if pages.is_empty() {
-        return Row::none();
+        return PageRow::none();
     }
     let last = pages.len() - 1;
     let mut start = 0;
@@ -91,7 +91,7 @@ pub fn last_row(pages: &[u64]) -> Row
             start = middle + 1;
         }
     }
-    Row {
+    PageRow {
         base: PAGE * pages[known],
         size: PAGE * (last - known + 1) as u64,
         index: known,
@@ -102,9 +102,9 @@ pub fn last_row(pages: &[u64]) -> Row
 /// stack's.
 #[derive(Clone, Copy)]
 pub struct Rows {
-    pub first: Row,
-    pub second: Row,
-    pub last: Row,
+    pub first: PageRow,
+    pub second: PageRow,
+    pub last: PageRow,
 }
 
 impl Rows {
@@ -113,9 +113,9 @@ impl Rows {
         ensures { (pages : List ℕ) → AreRowsOf pages result }
     {
         Rows {
-            first: Row::none(),
-            second: Row::none(),
-            last: Row::none(),
+            first: PageRow::none(),
+            second: PageRow::none(),
+            last: PageRow::none(),
         }
     }
 
@@ -142,7 +142,7 @@ impl Rows {
         ensures { (pages : List ℕ) → Rises pages → AreRowsOf pages self.now → IfSome result (λ index. place pages (at / 4096) ≡ Some index) }
     {
         // The compiler knows this index, and adds none.
-        let first = Row {
+        let first = PageRow {
             index: 0,
             ..self.first
         };

@@ -6,7 +6,7 @@ use Rattle.ddc_base.specs.declared.outside.PutFail.TheVariants as putting
 use Rattle.ddc_base.specs.Outside.{SinkState, after_piece}
 use Rattle.prompt.specs.Prompts.{PromptState, after_line, asked_of, left_after}
 use Rattle.prompt.specs.Converses.{Converses, Exchanged, after_pieces, after_talk}
-use Rattle.prompt.specs.Talks.{Talk, hears, replies, heard, led_by, left_behind, pieces_of, talk}
+use Rattle.prompt.specs.Talks.{Talk, hears, replies, heard, led_by, left_following, pieces_of, talk}
 use Rattle.prompt.specs.Inside.Turns.{GoesOn, Turns}
 
 -- what is said of a prompt that tells
@@ -25,21 +25,21 @@ always false p = tt
 moved : (P : Type 0) (tells other : Bool) → tells ≡ other → OnTrue tells P → OnTrue other P
 moved P tells other is p = subst (λ b. OnTrue b P) is p
 
--- ---- exchanges, one list behind the other
+-- ---- exchanges, one list after the other
 
 put-more : (done more : Talk) (sink : SinkState) → after_pieces (pieces_of more) (after_pieces (pieces_of done) sink) ≡ after_pieces (pieces_of (done ++ more)) sink
 put-more [] more sink = refl
 put-more (hears left ∷ done) more sink = put-more done more sink
 put-more (replies piece ∷ done) more sink = put-more done more (after_piece piece sink)
 
-behind-more : (done more : Talk) (left : List ℕ) → left_behind more (left_behind done left) ≡ left_behind (done ++ more) left
-behind-more [] more left = refl
-behind-more (hears now ∷ done) more left = behind-more done more now
-behind-more (replies piece ∷ done) more left = behind-more done more left
+following-more : (done more : Talk) (left : List ℕ) → left_following more (left_following done left) ≡ left_following (done ++ more) left
+following-more [] more left = refl
+following-more (hears now ∷ done) more left = following-more done more now
+following-more (replies piece ∷ done) more left = following-more done more left
 
 asked-more : (done more : Talk) (tells : Bool) (left : List ℕ) (faults : ℕ)
     → after_talk more (after_talk done (record { tells = tells; left = left; faults = faults })) ≡ after_talk (done ++ more) (record { tells = tells; left = left; faults = faults })
-asked-more done more true left faults = ap (λ l. record { tells = true; left = l; faults = faults }) (behind-more done more left)
+asked-more done more true left faults = ap (λ l. record { tells = true; left = l; faults = faults }) (following-more done more left)
 asked-more done more false left faults = refl
 
 and_more : (done more : Talk) (before mid after : SinkState) (old at new : PromptState) → Exchanged done before mid old at → Exchanged more mid after at new → Exchanged (done ++ more) before after old new
@@ -48,7 +48,7 @@ and_more done more before mid after old at new first second = record {
   asked = second.asked ∙ ap (after_talk more) first.asked ∙ asked-more done more old.tells old.left old.faults;
 }
 
--- behind a line that was asked for
+-- after a line that was asked for
 left-told : (old new : PromptState) → IsTrue old.tells → new ≡ after_line old → new.left ≡ left_after old.left
 left-told old new told is = ap (λ p. p.left) is ∙ rw told refl
 

@@ -5,16 +5,16 @@ use Rattle.ddc_base.specs.declared.outside.PutFail.{PutFail}
 use Rattle.ddc_base.specs.declared.outside.PutFail.TheVariants.{Failed, OutOfMemory}
 use Rattle.ddc_base.specs.Outside.{SinkState, PutFails, after_piece}
 use Rattle.prompt.specs.Prompts.{PromptState, LineFails}
-use Rattle.prompt.specs.Talks.{Talk, hears, replies, pieces_of, left_behind}
+use Rattle.prompt.specs.Talks.{Talk, hears, replies, pieces_of, left_following}
 
 -- a sink that took these pieces whole, in order
 abbrev pub after_pieces : List (List ℕ) → SinkState → SinkState
 after_pieces [] sink = sink
 after_pieces (piece ∷ pieces) sink = after_pieces pieces (after_piece piece sink)
 
--- a prompt behind these exchanges; one that does not tell shows none
+-- a prompt after these exchanges; one that does not tell shows none
 abbrev pub after_talk : Talk → PromptState → PromptState
-after_talk done prompt = record prompt { left = if prompt.tells then left_behind done prompt.left else prompt.left }
+after_talk done prompt = record prompt { left = if prompt.tells then left_following done prompt.left else prompt.left }
 
 -- these exchanges were held, no other, and none failed
 pub record Exchanged (done : Talk) (before after : SinkState) (old new : PromptState) : Type 0 where

@@ -4,7 +4,7 @@ use Rattle.prompt.specs.declared.asking.Asked.{Asked}
 use Rattle.prompt.specs.declared.asking.Asked.TheVariants.{Line, TooLong, End}
 use Rattle.prompt.specs.Prompts.{asked_of, left_after}
 
--- a line is asked for, and the prompt has so much left behind it; or a piece is put
+-- a line is asked for, and the prompt has so much left after it; or a piece is put
 pub data Exchange : Type 0 where
   hears : List ℕ → Exchange
   replies : List ℕ → Exchange
@@ -18,11 +18,11 @@ pieces_of [] = []
 pieces_of (hears left ∷ rest) = pieces_of rest
 pieces_of (replies piece ∷ rest) = piece ∷ pieces_of rest
 
--- what a prompt that had so much has left behind them
-abbrev pub left_behind : Talk → List ℕ → List ℕ
-left_behind [] left = left
-left_behind (hears now ∷ rest) left = left_behind rest now
-left_behind (replies piece ∷ rest) left = left_behind rest left
+-- what a prompt that had so much has left after them
+abbrev pub left_following : Talk → List ℕ → List ℕ
+left_following [] left = left
+left_following (hears now ∷ rest) left = left_following rest now
+left_following (replies piece ∷ rest) left = left_following rest left
 
 -- the line that is answered; one that is too long is answered as an empty one is
 abbrev pub heard : Asked → Option (List ℕ)
@@ -35,7 +35,7 @@ abbrev pub replied : List ℕ → Talk → Talk
 replied [] rest = []
 replied (byte ∷ reply) rest = replies (byte ∷ reply) ∷ rest
 
--- what follows a line, in a state in which `answered` gives each line's reply and the state behind it; where there is no line it ends
+-- what follows a line, in a state in which `answered` gives each line's reply and the state after it; where there is no line it ends
 abbrev pub led_by : {S : Type 0} → (S → List ℕ → List ℕ × S) → (S → Talk) → S → Option (List ℕ) → Talk
 led_by answered next state None = []
 led_by answered next state (Some line) = replied (answered state line).0 (next (answered state line).1)

@@ -10,7 +10,7 @@ use ddc_base::{Bytes, OutOfMemory, PutFail, Sink};
 
 /// What answers lines, each by its state, and may change by it.
 pub trait Respond {
-    /// The reply to a line, and the state behind it.
+    /// The reply to a line, and the state after it.
     ghost answered: { Self → List ℕ → List ℕ × Self };
 
     /// The reply to a line; one of no bytes says that no further line is to come.
@@ -20,7 +20,7 @@ pub trait Respond {
 
 /// Answers lines of a prompt, at most so many, and puts each reply as a piece of its own.
 ///
-/// It ends behind the line whose reply has no bytes, which is not put, where the prompt has nothing left, and after so many lines.
+/// It ends after the line whose reply has no bytes, which is not put, where the prompt has nothing left, and after so many lines.
 pub fn converse<R: Respond, P: Prompt, K: Sink>(
     session: &mut R,
     lines: u32,

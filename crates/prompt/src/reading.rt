@@ -21,7 +21,7 @@ fn next_byte<R: Read>(reader: &mut R) -> io::Result<Option<u8>>
     }
 }
 
-/// The next line of a reader, taken byte by byte, so that nothing behind it is taken. An error of the reader is this call's error, and comes
+/// The next line of a reader, taken byte by byte, so that nothing after it is taken. An error of the reader is this call's error, and comes
 /// before a line was taken whole.
 pub fn read_line<R: Read>(reader: &mut R) -> io::Result<Asked>
     ensures line { IfOk result (GivesLine (R.remaining reader.old) (R.remaining reader.new)) }

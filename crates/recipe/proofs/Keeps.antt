@@ -10,7 +10,7 @@ use Rattle.recipe.specs.declared.parts.Compare.{Compare}
 use Rattle.recipe.specs.declared.text.keys.Key.TheVariants as key
 use Rattle.recipe.specs.Text.Reading.{a_list, a_name, an_array, a_number, a_table, no_other_key, document_of, gathered, optional, required, ◌>>◌}
 use Rattle.recipe.proofs.TextLemmas.Accepted.{bind_unless, number_ok, array_ok, bound, ok_same, required_ok, optional_ok, list_ok, gathered_each, gathered_keeps, gathered_length, passes_at, unless_ok, Few, Read}
-use Rattle.recipe.specs.declared.contents.Said.{Said}
+use Rattle.recipe.specs.declared.contents.RecipeContents.{RecipeContents}
 use Rattle.recipe.specs.declared.parts.Input.{Input}
 use Rattle.recipe.specs.declared.parts.Source.{Source}
 use Rattle.recipe.specs.declared.parts.Stage.{Stage}
@@ -109,7 +109,7 @@ compare_said format table compare e =
 
 -- ---- the first walk
 
-record FirstSaid (said : Said) : Type 0 where
+record FirstSaid (said : RecipeContents) : Type 0 where
   format : IsFormat said.format
   compare : StagesSaid (said.format == 1) said.compare.stages
   digest : (bytes : List ℕ) × (said.digest.0 ≡ sha256 bytes)
@@ -131,7 +131,7 @@ stage_next : (inputs : List Input) (sources : List Source) (before : List Stage)
     → StageSaid inputs sources before stage
 stage_next inputs sources before table stage e = stage_said inputs sources before (stage_place (length before + 1)) table stage e
 
-walked_first : (bytes : List ℕ) (said : Said) → first_walk bytes ≡ Ok said → FirstSaid said
+walked_first : (bytes : List ℕ) (said : RecipeContents) → first_walk bytes ≡ Ok said → FirstSaid said
 unfolding first_walk IsDistinct
 walked_first bytes said e =
     bound _ (document_of bytes) _ said e (λ document document_is rest1.
@@ -169,7 +169,7 @@ walked_first bytes said e =
 
 -- ---- both
 
-stage_kept : (said : Said) (i : ℕ) (stage : Stage) → FirstSaid said → second_walk said ≡ Ok tt → slice_get said.stages i ≡ Some stage → IsStage said (take i said.stages) stage
+stage_kept : (said : RecipeContents) (i : ℕ) (stage : Stage) → FirstSaid said → second_walk said ≡ Ok tt → slice_get said.stages i ≡ Some stage → IsStage said (take i said.stages) stage
 stage_kept said i stage first second is =
     let walk = walked said second in
     let told = (first.stages i stage is).1 in
@@ -194,7 +194,7 @@ stage_kept said i stage first second is =
       argued = argued_at said i stage walk.argued is refers.program;
     }
 
-pub keeps : (bytes : List ℕ) (said : Said) → first_walk bytes ≡ Ok said → second_walk said ≡ Ok tt → IsRecipe said
+pub keeps : (bytes : List ℕ) (said : RecipeContents) → first_walk bytes ≡ Ok said → second_walk said ≡ Ok tt → IsRecipe said
 keeps bytes said is second =
     let first = walked_first bytes said is in
     let walk = walked said second in
@@ -228,11 +228,11 @@ keeps bytes said is second =
     }
 
 -- what bytes that read say is a recipe
-pub reads_keep : (bytes : List ℕ) (said : Said) → recipe_of bytes ≡ Ok said → IsRecipe said
+pub reads_keep : (bytes : List ℕ) (said : RecipeContents) → recipe_of bytes ≡ Ok said → IsRecipe said
 unfolding recipe_of
 reads_keep bytes said is = bound (IsRecipe said) (first_walk bytes) (λ read. second_walk read >> Ok read) said is (λ read walked ends. by read walked (second_walk read) refl ends) where
-  by : (read : Said) → first_walk bytes ≡ Ok read → (second : Result (Unit {0}) RecipeRefusal) → second_walk read ≡ second → (second >> Ok read) ≡ Ok said → IsRecipe said
+  by : (read : RecipeContents) → first_walk bytes ≡ Ok read → (second : Result (Unit {0}) RecipeRefusal) → second_walk read ≡ second → (second >> Ok read) ≡ Ok said → IsRecipe said
   by read walked (Ok u) passed ends =
       let same : read ≡ said = cc in
-      keeps bytes said (walked ∙ ap Ok same) (subst (λ (s : Said). second_walk s ≡ Ok u) same passed)
+      keeps bytes said (walked ∙ ap Ok same) (subst (λ (s : RecipeContents). second_walk s ≡ Ok u) same passed)
   by read walked (Err refusal) passed ends = absurd cc

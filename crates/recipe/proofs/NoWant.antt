@@ -11,7 +11,7 @@ use Rattle.recipe.specs.declared.text.refusal.RecipeRefusal.TheVariants.{Missing
 use Rattle.recipe.specs.Text.Keys.{key_word}
 use Rattle.recipe.specs.Text.Reading.{or_refused, refused_unless, gathered, each_passes, a_text, a_name, a_path, a_word, a_number, a_table, an_array, a_list, required, optional, no_other_key, document_of}
 use Rattle.recipe.proofs.TextLemmas.Sated.{Sated, fine, sated_bind, sated_ok, sated_or, sated_unless, sated_gathered, sated_passes, sated_text, sated_name, sated_path, sated_word, sated_number, sated_table, sated_array, sated_list, sated_required, sated_optional, sated_no_other_key, sated_document}
-use Rattle.recipe.specs.declared.contents.Said.{Said}
+use Rattle.recipe.specs.declared.contents.RecipeContents.{RecipeContents}
 use Rattle.recipe.specs.declared.parts.Content.{Content}
 use Rattle.recipe.specs.declared.parts.Content.TheVariants as content
 use Rattle.recipe.specs.declared.parts.Input.{Input}
@@ -156,19 +156,19 @@ sated_reference : (sources : List Source) (place : Place) (k : Key) (name : Opti
 sated_reference sources place k None = sated_ok tt
 sated_reference sources place k (Some name) = sated_unless (NotMadeYet place k) (is_some (source_named sources name)) (λ is. absurd cc)
 
-sated_checks : (said : Said) (earlier : List Stage) (place : Place) (found : Option Source) → Sated (checks_source said earlier place found)
+sated_checks : (said : RecipeContents) (earlier : List Stage) (place : Place) (found : Option Source) → Sated (checks_source said earlier place found)
 sated_checks said earlier place None = sated_or {A = Unit {0}} (NotMadeYet place key.Check) None (λ is. absurd cc)
 sated_checks said earlier place (Some source) =
     sated_bind (refused_unless (NotMadeYet place key.Check) (list_all (is_content said.inputs earlier) source.files)) (λ _. refused_unless (BadName place key.Check) (is_defined source.lang))
     (sated_unless (NotMadeYet place key.Check) (list_all (is_content said.inputs earlier) source.files) (λ is. absurd cc)) (λ u.
     sated_unless (BadName place key.Check) (is_defined source.lang) (λ is. absurd cc))
 
-sated_check : (said : Said) (earlier : List Stage) (place : Place) (check : Option (List ℕ)) → Sated (check_refers said earlier place check)
+sated_check : (said : RecipeContents) (earlier : List Stage) (place : Place) (check : Option (List ℕ)) → Sated (check_refers said earlier place check)
 unfolding check_refers
 sated_check said earlier place None = sated_ok tt
 sated_check said earlier place (Some name) = sated_checks said earlier place (source_named said.sources name)
 
-sated_after : (said : Said) (earlier : List Stage) (place : Place) (stage : Stage) → Sated (stage_refers_after said earlier place stage)
+sated_after : (said : RecipeContents) (earlier : List Stage) (place : Place) (stage : Stage) → Sated (stage_refers_after said earlier place stage)
 unfolding stage_refers_after
 sated_after said earlier place stage =
     sated_bind (refused_unless (NotMadeYet place key.Program) (is_content said.inputs earlier stage.program)) _
@@ -178,7 +178,7 @@ sated_after said earlier place stage =
     sated_bind (check_refers said earlier place stage.check) (λ _. refers_to_source said.sources place key.Becomes stage.becomes) (sated_check said earlier place stage.check) (λ w.
     sated_reference said.sources place key.Becomes stage.becomes)))
 
-sated_comparison : (said : Said) → Sated (compare_refers said)
+sated_comparison : (said : RecipeContents) → Sated (compare_refers said)
 unfolding compare_refers
 sated_comparison said =
     sated_bind (refused_unless (NotMadeYet compare_place (stages_key said.format)) (list_all (is_stage said.stages) said.compare.stages))
@@ -186,16 +186,16 @@ sated_comparison said =
     (sated_unless (NotMadeYet compare_place (stages_key said.format)) (list_all (is_stage said.stages) said.compare.stages) (λ is. absurd cc)) (λ u.
     sated_unless (NotMadeYet compare_place key.Binary) (is_some (input_at said.inputs said.compare.binary)) (λ is. absurd cc))
 
-sated_program : (said : Said) (found : Option Content) → Sated (has_source said found)
+sated_program : (said : RecipeContents) (found : Option Content) → Sated (has_source said found)
 sated_program said None = sated_ok tt
 sated_program said (Some (content.Input index)) = sated_unless _ (is_some (content_source said (content.Input index))) (λ is. absurd cc)
 sated_program said (Some (content.Stage index)) = sated_unless _ (is_some (content_source said (content.Stage index))) (λ is. absurd cc)
 
-sated_argued : (said : Said) (check : Option (List ℕ)) (program : List ℕ) → Sated (is_argued said check program)
+sated_argued : (said : RecipeContents) (check : Option (List ℕ)) (program : List ℕ) → Sated (is_argued said check program)
 sated_argued said (Some check) program = sated_ok tt
 sated_argued said None program = sated_program said (content_named said.inputs said.stages program)
 
-sated_second : (said : Said) → Sated (second_walk said)
+sated_second : (said : RecipeContents) → Sated (second_walk said)
 unfolding second_walk
 sated_second said =
     sated_bind (each_passes (input_refers said) 1 said.inputs) _

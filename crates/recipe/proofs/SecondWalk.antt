@@ -8,7 +8,7 @@ use Rattle.recipe.specs.declared.text.keys.Place.{Place}
 use Rattle.recipe.specs.declared.text.refusal.RecipeRefusal.TheVariants.{BadName, NotMadeYet}
 use Rattle.recipe.specs.Text.Reading.{refused_unless, each_passes}
 use Rattle.recipe.proofs.TextLemmas.Accepted.{bound, unless_ok, both_true, passes_at, some_same}
-use Rattle.recipe.specs.declared.contents.Said.{Said}
+use Rattle.recipe.specs.declared.contents.RecipeContents.{RecipeContents}
 use Rattle.recipe.specs.declared.parts.Content.{Content}
 use Rattle.recipe.specs.declared.parts.Content.TheVariants as content
 use Rattle.recipe.specs.declared.parts.Source.{Source}
@@ -29,13 +29,13 @@ pub source_there : (sources : List Source) (place : Place) (k : Key) (name : Opt
 source_there sources place k None e = tt
 source_there sources place k (Some name) e = unless_ok (NotMadeYet place k) (is_some (source_named sources name)) tt e
 
-pub record StageRefers (said : Said) (earlier : List Stage) (stage : Stage) : Type 0 where
+pub record StageRefers (said : RecipeContents) (earlier : List Stage) (stage : Stage) : Type 0 where
   pub program : IsMade said earlier stage.program
   pub files : Each (λ file. IsMade said earlier file.from) stage.files
   pub check : IsCheck said earlier stage.check
   pub becomes : NamesSource said.sources stage.becomes
 
-checks_there : (said : Said) (earlier : List Stage) (place : Place) (name : List ℕ) (found : Option Source) → source_named said.sources name ≡ found
+checks_there : (said : RecipeContents) (earlier : List Stage) (place : Place) (name : List ℕ) (found : Option Source) → source_named said.sources name ≡ found
     → checks_source said earlier place found ≡ Ok tt → (source : Source) × (source_named said.sources name ≡ Some source) × Checks said earlier source
 checks_there said earlier place name None is e = absurd cc
 checks_there said earlier place name (Some source) is e =
@@ -48,12 +48,12 @@ checks_there said earlier place name (Some source) is e =
       },
     ))
 
-check_there : (said : Said) (earlier : List Stage) (place : Place) (check : Option (List ℕ)) → check_refers said earlier place check ≡ Ok tt → IsCheck said earlier check
+check_there : (said : RecipeContents) (earlier : List Stage) (place : Place) (check : Option (List ℕ)) → check_refers said earlier place check ≡ Ok tt → IsCheck said earlier check
 unfolding check_refers
 check_there said earlier place None e = tt
 check_there said earlier place (Some name) e = checks_there said earlier place name (source_named said.sources name) refl e
 
-stage_there : (said : Said) (earlier : List Stage) (place : Place) (stage : Stage) → stage_refers_after said earlier place stage ≡ Ok tt → StageRefers said earlier stage
+stage_there : (said : RecipeContents) (earlier : List Stage) (place : Place) (stage : Stage) → stage_refers_after said earlier place stage ≡ Ok tt → StageRefers said earlier stage
 unfolding stage_refers_after
 stage_there said earlier place stage e =
     bound _ (refused_unless (NotMadeYet place key.Program) (is_content said.inputs earlier stage.program)) _ tt e (λ u program rest1.
@@ -66,7 +66,7 @@ stage_there said earlier place stage e =
       becomes = source_there said.sources place key.Becomes stage.becomes rest3;
     })))
 
-pub stage_refers_at : (said : Said) (i : ℕ) (stage : Stage) → each_passes (stage_refers said) 1 said.stages ≡ Ok tt → slice_get said.stages i ≡ Some stage
+pub stage_refers_at : (said : RecipeContents) (i : ℕ) (stage : Stage) → each_passes (stage_refers said) 1 said.stages ≡ Ok tt → slice_get said.stages i ≡ Some stage
     → StageRefers said (take i said.stages) stage
 stage_refers_at said i stage passed is =
     let here : (1 + i) - 1 ≡ i = omega arith in
@@ -75,12 +75,12 @@ stage_refers_at said i stage passed is =
 
 -- ---- the source of an unchecked stage's program
 
-sourced : (said : Said) (found : Option Content) → IsSome found → has_source said found ≡ Ok tt → IsSome (option_and_then (content_source said) found)
+sourced : (said : RecipeContents) (found : Option Content) → IsSome found → has_source said found ≡ Ok tt → IsSome (option_and_then (content_source said) found)
 sourced said None is e = absurd cc
 sourced said (Some (content.Input index)) is e = unless_ok _ (is_some (content_source said (content.Input index))) tt e
 sourced said (Some (content.Stage index)) is e = unless_ok _ (is_some (content_source said (content.Stage index))) tt e
 
-pub argued_at : (said : Said) (i : ℕ) (stage : Stage) → each_passes (program_has_source said) 1 said.stages ≡ Ok tt → slice_get said.stages i ≡ Some stage
+pub argued_at : (said : RecipeContents) (i : ℕ) (stage : Stage) → each_passes (program_has_source said) 1 said.stages ≡ Ok tt → slice_get said.stages i ≡ Some stage
     → IsMade said (take i said.stages) stage.program → stage.check ≡ None → IsSome (source_of said stage.program)
 argued_at said i stage passed is made unchecked =
     let has : is_argued said stage.check stage.program ≡ Ok tt = passes_at (program_has_source said) 1 said.stages i stage passed is in
@@ -89,7 +89,7 @@ argued_at said i stage passed is made unchecked =
 
 -- ---- the whole walk
 
-pub record Walked (said : Said) : Type 0 where
+pub record Walked (said : RecipeContents) : Type 0 where
   pub inputs : each_passes (input_refers said) 1 said.inputs ≡ Ok tt
   pub sources : each_passes (source_refers said) 1 said.sources ≡ Ok tt
   pub stages : each_passes (stage_refers said) 1 said.stages ≡ Ok tt
@@ -97,7 +97,7 @@ pub record Walked (said : Said) : Type 0 where
   pub binary : IsSome (input_at said.inputs said.compare.binary)
   pub argued : each_passes (program_has_source said) 1 said.stages ≡ Ok tt
 
-pub walked : (said : Said) → second_walk said ≡ Ok tt → Walked said
+pub walked : (said : RecipeContents) → second_walk said ≡ Ok tt → Walked said
 unfolding second_walk compare_refers
 walked said e =
     bound _ (each_passes (input_refers said) 1 said.inputs) _ tt e (λ a inputs rest1.

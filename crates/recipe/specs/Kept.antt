@@ -5,7 +5,7 @@ use Rattle.sha2.specs.Sha256.{sha256}
 use Rattle.ddc_base.specs.Names.{IsName}
 use Rattle.mem_files.specs.Names.{is_stripped_name}
 use Rattle.recipe.specs.Text.Reading.{is_path, is_word}
-use Rattle.recipe.specs.declared.contents.Said.{Said}
+use Rattle.recipe.specs.declared.contents.RecipeContents.{RecipeContents}
 use Rattle.recipe.specs.declared.parts.Input.{Input}
 use Rattle.recipe.specs.declared.parts.Output.{Output}
 use Rattle.recipe.specs.declared.parts.Output.TheVariants.{Stream, File}
@@ -25,7 +25,7 @@ abbrev pub NamesSource : List Source → Option (List ℕ) → Type 0
 NamesSource sources name = IfSome name (λ name. IsSome (source_named sources name))
 
 -- the name stands for an input or for what one of these stages makes
-abbrev pub IsMade : Said → List Stage → List ℕ → Type 0
+abbrev pub IsMade : RecipeContents → List Stage → List ℕ → Type 0
 IsMade said stages name = IsSome (content_named said.inputs stages name)
 
 -- a path of a program's file
@@ -35,14 +35,14 @@ pub record IsGuestPath (text : List ℕ) : Type 0 where
 
 -- ---- inputs
 
-pub record IsInput (said : Said) (input : Input) : Type 0 where
+pub record IsInput (said : RecipeContents) (input : Input) : Type 0 where
   pub name : IsName input.name
   pub path : IsTrue (is_path input.path)
   pub implements : NamesSource said.sources input.implements
 
 -- ---- sources
 
-pub record IsSource (said : Said) (source : Source) : Type 0 where
+pub record IsSource (said : RecipeContents) (source : Source) : Type 0 where
   pub name : IsName source.name
   pub base : source.base ≤ 2 ^ 37
   pub some_files : 1 ≤ length source.files
@@ -51,7 +51,7 @@ pub record IsSource (said : Said) (source : Source) : Type 0 where
 
 -- ---- stages, with those before them
 
-pub record IsStageFile (said : Said) (earlier : List Stage) (file : StageFile) : Type 0 where
+pub record IsStageFile (said : RecipeContents) (earlier : List Stage) (file : StageFile) : Type 0 where
   pub path : IsGuestPath file.path
   pub from : IsMade said earlier file.from
 
@@ -60,14 +60,14 @@ IsOutput Stream = Unit {0}
 IsOutput (File path) = IsGuestPath path
 
 -- a source against which a stage is checked
-pub record Checks (said : Said) (earlier : List Stage) (source : Source) : Type 0 where
+pub record Checks (said : RecipeContents) (earlier : List Stage) (source : Source) : Type 0 where
   pub files : Each (IsMade said earlier) source.files
   pub defined : is_defined source.lang ≡ true
 
-abbrev pub IsCheck : Said → List Stage → Option (List ℕ) → Type 0
+abbrev pub IsCheck : RecipeContents → List Stage → Option (List ℕ) → Type 0
 IsCheck said earlier check = IfSome check (λ name. (source : Source) × (source_named said.sources name ≡ Some source) × Checks said earlier source)
 
-pub record IsStage (said : Said) (earlier : List Stage) (stage : Stage) : Type 0 where
+pub record IsStage (said : RecipeContents) (earlier : List Stage) (stage : Stage) : Type 0 where
   pub name : IsName stage.name
   pub program : IsMade said earlier stage.program
   pub some_args : 1 ≤ length stage.args
@@ -90,14 +90,14 @@ pub record IsStage (said : Said) (earlier : List Stage) (stage : Stage) : Type 0
 -- ---- the recipe
 
 -- the names of all tables
-abbrev pub all_names : Said → List (List ℕ)
+abbrev pub all_names : RecipeContents → List (List ℕ)
 all_names said = map (λ input. input.name) said.inputs ++ map (λ source. source.name) said.sources ++ map (λ stage. stage.name) said.stages
 
 -- how many stages a recipe of a format compares at most
 abbrev pub most_compared : ℕ → ℕ
 most_compared format = if format == 1 then 1 else 16
 
-pub record IsRecipe (said : Said) : Type 0 where
+pub record IsRecipe (said : RecipeContents) : Type 0 where
   pub format : IsFormat said.format
   -- the digest is that of some bytes
   pub digest : (bytes : List ℕ) × (said.digest.0 ≡ sha256 bytes)

@@ -10,7 +10,7 @@ use Rattle.recipe.specs.declared.parts.Source.{Source}
 use Rattle.recipe.specs.declared.parts.SourceLanguage.{SourceLanguage}
 use Rattle.recipe.specs.declared.parts.SourceLanguage.TheVariants.{Defined, Other}
 use Rattle.recipe.specs.declared.parts.Stage.{Stage}
-use Rattle.recipe.specs.declared.contents.Said.{Said}
+use Rattle.recipe.specs.declared.contents.RecipeContents.{RecipeContents}
 
 -- the index of the input, and of the stage, of a name
 abbrev pub input_at : List Input → List ℕ → Option ℕ
@@ -44,12 +44,12 @@ unfoldable pub stage_source : List Source → Stage → Option (List ℕ)
 stage_source sources stage = option_or stage.becomes (option_and_then (hex_check sources) stage.check)
 
 -- the name of a program's source
-unfoldable pub content_source : Said → Content → Option (List ℕ)
+unfoldable pub content_source : RecipeContents → Content → Option (List ℕ)
 content_source said (content.Input index) = option_and_then (λ input. input.implements) (slice_get said.inputs index)
 content_source said (content.Stage index) = option_and_then (stage_source said.sources) (slice_get said.stages index)
 
 -- the name of the source of the program of a name
-abbrev pub source_of : Said → List ℕ → Option (List ℕ)
+abbrev pub source_of : RecipeContents → List ℕ → Option (List ℕ)
 source_of said name = option_and_then (content_source said) (content_named said.inputs said.stages name)
 
 -- the index is one of an input or of a stage

@@ -4,11 +4,11 @@ use Rattle.std.specs.Prelude.{ℕ, List, [], Result, Ok}
 use Rattle.sha2.specs.Sha256.{sha256}
 use Rattle.recipe.specs.Text.Reading.{◌>>=◌, ◌>>◌, gathered, document_of}
 use Rattle.recipe.specs.declared.text.refusal.RecipeRefusal.{RecipeRefusal}
-use Rattle.recipe.specs.declared.contents.Said.{Said}
+use Rattle.recipe.specs.declared.contents.RecipeContents.{RecipeContents}
 use Rattle.recipe.specs.SecondWalk.{second_walk}
 use Rattle.recipe.specs.Tables.{top_table, next_input, next_source, next_stage, compare_table}
 
-unfoldable pub first_walk : List ℕ → Result Said RecipeRefusal
+unfoldable pub first_walk : List ℕ → Result RecipeContents RecipeRefusal
 first_walk bytes = do
   document ← document_of bytes
   top ← top_table document
@@ -18,7 +18,7 @@ first_walk bytes = do
   compare ← compare_table top.format top.compare
   Ok (record { digest = record { 0 = sha256 bytes }; format = top.format; inputs = inputs; sources = sources; stages = stages; compare = compare })
 
-unfoldable pub recipe_of : List ℕ → Result Said RecipeRefusal
+unfoldable pub recipe_of : List ℕ → Result RecipeContents RecipeRefusal
 recipe_of bytes = do
   said ← first_walk bytes
   second_walk said

@@ -15,7 +15,7 @@ use Rattle.recipe.specs.declared.parts.SourceLanguage.{SourceLanguage}
 use Rattle.recipe.specs.declared.parts.SourceLanguage.TheVariants.{Defined, Other}
 use Rattle.recipe.specs.declared.parts.Stage.{Stage}
 use Rattle.recipe.specs.Lookups.{input_at, stage_at, source_named, content_named, content_source}
-use Rattle.recipe.specs.declared.contents.Said.{Said}
+use Rattle.recipe.specs.declared.contents.RecipeContents.{RecipeContents}
 use Rattle.recipe.specs.Tables.{input_place, source_place, stage_place, compare_place, stages_key}
 
 -- whether a name stands for one of these inputs or for what one of these stages makes
@@ -29,10 +29,10 @@ refers_to_source sources place key (Some name) = refused_unless (NotMadeYet plac
 
 -- ---- each table, with its number from 1
 
-abbrev pub input_refers : Said → ℕ → Input → Result (Unit {0}) RecipeRefusal
+abbrev pub input_refers : RecipeContents → ℕ → Input → Result (Unit {0}) RecipeRefusal
 input_refers said number input = refers_to_source said.sources (input_place number) key.Implements input.implements
 
-abbrev pub source_refers : Said → ℕ → Source → Result (Unit {0}) RecipeRefusal
+abbrev pub source_refers : RecipeContents → ℕ → Source → Result (Unit {0}) RecipeRefusal
 source_refers said number source =
     refused_unless (NotMadeYet (source_place number) key.Files) (list_all (is_content said.inputs said.stages) source.files)
 
@@ -42,33 +42,33 @@ is_defined (Defined language) = true
 is_defined Other = false
 
 -- the source of a check: its files stand before the stage, and its language has a definition
-abbrev pub checks_source : Said → List Stage → Place → Option Source → Result (Unit {0}) RecipeRefusal
+abbrev pub checks_source : RecipeContents → List Stage → Place → Option Source → Result (Unit {0}) RecipeRefusal
 checks_source said earlier place None = Err (NotMadeYet place key.Check)
 checks_source said earlier place (Some source) = do
   refused_unless (NotMadeYet place key.Check) (list_all (is_content said.inputs earlier) source.files)
   refused_unless (BadName place key.Check) (is_defined source.lang)
 
 -- the same, where a name stands at `check`
-unfoldable pub check_refers : Said → List Stage → Place → Option (List ℕ) → Result (Unit {0}) RecipeRefusal
+unfoldable pub check_refers : RecipeContents → List Stage → Place → Option (List ℕ) → Result (Unit {0}) RecipeRefusal
 check_refers said earlier place None = Ok tt
 check_refers said earlier place (Some name) = checks_source said earlier place (source_named said.sources name)
 
 -- a stage after these earlier ones
-unfoldable pub stage_refers_after : Said → List Stage → Place → Stage → Result (Unit {0}) RecipeRefusal
+unfoldable pub stage_refers_after : RecipeContents → List Stage → Place → Stage → Result (Unit {0}) RecipeRefusal
 stage_refers_after said earlier place stage = do
   refused_unless (NotMadeYet place key.Program) (is_content said.inputs earlier stage.program)
   refused_unless (NotMadeYet place key.Files) (list_all (λ file. is_content said.inputs earlier file.from) stage.files)
   check_refers said earlier place stage.check
   refers_to_source said.sources place key.Becomes stage.becomes
 
-abbrev pub stage_refers : Said → ℕ → Stage → Result (Unit {0}) RecipeRefusal
+abbrev pub stage_refers : RecipeContents → ℕ → Stage → Result (Unit {0}) RecipeRefusal
 stage_refers said number stage = stage_refers_after said (take (number - 1) said.stages) (stage_place number) stage
 
 -- whether a stage has the name
 abbrev pub is_stage : List Stage → List ℕ → Bool
 is_stage stages name = is_some (stage_at stages name)
 
-unfoldable pub compare_refers : Said → Result (Unit {0}) RecipeRefusal
+unfoldable pub compare_refers : RecipeContents → Result (Unit {0}) RecipeRefusal
 compare_refers said = do
   refused_unless (NotMadeYet compare_place (stages_key said.format)) (list_all (is_stage said.stages) said.compare.stages)
   refused_unless (NotMadeYet compare_place key.Binary) (is_some (input_at said.inputs said.compare.binary))
@@ -76,7 +76,7 @@ compare_refers said = do
 -- ---- the programs of the unchecked stages
 
 -- a program without a source is refused where its source would stand (what names no content was refused above)
-abbrev pub has_source : Said → Option Content → Result (Unit {0}) RecipeRefusal
+abbrev pub has_source : RecipeContents → Option Content → Result (Unit {0}) RecipeRefusal
 has_source said (Some (content.Input index)) =
     refused_unless (Missing (input_place (index + 1)) key.Implements) (is_some (content_source said (content.Input index)))
 has_source said (Some (content.Stage index)) =
@@ -84,16 +84,16 @@ has_source said (Some (content.Stage index)) =
 has_source said None = Ok tt
 
 -- the program of an unchecked stage
-abbrev pub is_argued : Said → Option (List ℕ) → List ℕ → Result (Unit {0}) RecipeRefusal
+abbrev pub is_argued : RecipeContents → Option (List ℕ) → List ℕ → Result (Unit {0}) RecipeRefusal
 is_argued said (Some check) program = Ok tt
 is_argued said None program = has_source said (content_named said.inputs said.stages program)
 
-abbrev pub program_has_source : Said → ℕ → Stage → Result (Unit {0}) RecipeRefusal
+abbrev pub program_has_source : RecipeContents → ℕ → Stage → Result (Unit {0}) RecipeRefusal
 program_has_source said number stage = is_argued said stage.check stage.program
 
 -- ---- the walk
 
-unfoldable pub second_walk : Said → Result (Unit {0}) RecipeRefusal
+unfoldable pub second_walk : RecipeContents → Result (Unit {0}) RecipeRefusal
 second_walk said = do
   each_passes (input_refers said) 1 said.inputs
   each_passes (source_refers said) 1 said.sources

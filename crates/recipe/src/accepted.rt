@@ -3,7 +3,7 @@ ghost use Rattle.recipe.specs.Lookups.{IsIndex};
 ghost use Rattle.recipe.specs.Kept.{IsRecipe};
 ghost use Rattle.recipe.specs.Lookups.{content_named, source_named, source_of};
 
-use crate::contents::Said;
+use crate::contents::RecipeContents;
 use crate::lookups::{content_of, content_source, source_named};
 use crate::parts::{Compare, Content, Input, Source, Stage};
 use ddc_base::digests::Digest;
@@ -13,14 +13,14 @@ use std::marker::Model;
 /// A recipe, which contracts see as what it says. Both walks accepted it.
 #[derive(Drop)]
 pub struct Recipe {
-    said: Said,
+    said: RecipeContents,
 }
 
 impl Model for Recipe {
     ghost use Rattle.recipe.specs.Kept.{IsRecipe};
-    ghost use Rattle.recipe.specs.declared.contents.Said.{Said};
+    ghost use Rattle.recipe.specs.declared.contents.RecipeContents.{RecipeContents};
 
-    ghost Value = { Said };
+    ghost Value = { RecipeContents };
 
     ghost view = { λ recipe. recipe.said };
 
@@ -29,7 +29,7 @@ impl Model for Recipe {
 
 impl Recipe {
     /// A recipe of what both walks accepted.
-    pub(crate) fn new(said: Said) -> Recipe
+    pub(crate) fn new(said: RecipeContents) -> Recipe
         requires { IsRecipe said }
         ensures { result ≡ said }
     {

@@ -4,7 +4,7 @@ use ddc_base::digests::Digest;
 
 /// What a recipe says.
 #[derive(Drop)]
-pub(crate) struct Said {
+pub(crate) struct RecipeContents {
     /// The digest of the recipe's bytes.
     pub(crate) digest: Digest,
     /// 1 or 2.

@@ -4,14 +4,14 @@ ghost use Rattle.std.specs.Prelude.{◌≡◌, ℕ, List, IsSome, take, Ok, Err}
 ghost use Rattle.recipe.specs.declared.text.refusal.RecipeRefusal.TheVariants.{OutOfMemory};
 ghost use Rattle.recipe.specs.declared.parts.Input.{Input};
 ghost use Rattle.recipe.specs.declared.parts.Stage.{Stage};
-ghost use Rattle.recipe.specs.declared.contents.Said.{Said};
+ghost use Rattle.recipe.specs.declared.contents.RecipeContents.{RecipeContents};
 ghost use Rattle.recipe.specs.Kept.{IsRecipe};
 ghost use Rattle.recipe.specs.Lookups.{content_named};
 ghost use Rattle.recipe.specs.Reading.{recipe_of};
 
 /// What bytes that read as a recipe say keeps the rules of a recipe.
 pub fn a_recipe_that_reads_keeps_the_rules()
-    ensures { (bytes : List ℕ) (said : Said) → recipe_of bytes ≡ Ok said → IsRecipe said }
+    ensures { (bytes : List ℕ) (said : RecipeContents) → recipe_of bytes ≡ Ok said → IsRecipe said }
 {}
 
 /// What a name stands for among the inputs and the first stages, it stands for among all of them.

@@ -4,7 +4,7 @@ ghost use Rattle.std.specs.Prelude.{◌≡◌, ◌<◌, IfSome, length, option_a
 ghost use Rattle.recipe.specs.Lookups.{IsIndex};
 ghost use Rattle.recipe.specs.Lookups.{content_named, content_source, hex_check, input_at, is_hex, source_named, stage_at, stage_source};
 
-use crate::contents::Said;
+use crate::contents::RecipeContents;
 use crate::parts::{Content, Input, Source, SourceLanguage, Stage};
 use ddc_base::Name;
 use ddc_base::languages::Language;
@@ -49,7 +49,7 @@ pub(crate) fn content_of(inputs: &[Input], stages: &[Stage], name: &Name) -> Opt
 
 /// The name of a program's source.
 #[tactic(auto, unfolding(crate::specs::Lookups::content_source))]
-pub(crate) fn content_source(said: &Said, content: Content) -> Option<&Name>
+pub(crate) fn content_source(said: &RecipeContents, content: Content) -> Option<&Name>
     ensures { option_map (λ x. x.now) result ≡ content_source said.now content }
 {
     match content {

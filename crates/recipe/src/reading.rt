@@ -4,7 +4,7 @@ ghost use Rattle.recipe.specs.Reading.{first_walk, recipe_of};
 
 use crate::accepted::Recipe;
 use crate::comparison::compare_of;
-use crate::contents::Said;
+use crate::contents::RecipeContents;
 use crate::front::top_of;
 use crate::inputs::inputs_of;
 use crate::references::second_walk;
@@ -25,7 +25,7 @@ pub fn read(alloc: Global, bytes: &[u8]) -> Result<Recipe, RecipeRefusal>
 
 /// The first walk: each table with its keys.
 #[tactic(auto, unfolding(crate::specs::Reading::first_walk))]
-fn first_walk(alloc: Global, bytes: &[u8]) -> Result<Said, RecipeRefusal>
+fn first_walk(alloc: Global, bytes: &[u8]) -> Result<RecipeContents, RecipeRefusal>
     ensures said { Gives (λ said. said) result (first_walk bytes.now) }
     ensures few_inputs { IfOk result (λ said. length said.inputs ≤ 256) }
     ensures few_sources { IfOk result (λ said. length said.sources ≤ 256) }
@@ -42,7 +42,7 @@ fn first_walk(alloc: Global, bytes: &[u8]) -> Result<Said, RecipeRefusal>
         top.stages.as_slice(),
     )?;
     let compare = compare_of(alloc, top.format, top.compare)?;
-    Ok(Said {
+    Ok(RecipeContents {
         digest: ddc_base::digest(bytes),
         format: top.format,
         inputs,

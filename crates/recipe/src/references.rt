@@ -9,7 +9,7 @@ ghost use Rattle.recipe.specs.Lookups.{IsIndex};
 ghost use Rattle.recipe.specs.SecondWalk.{check_refers, checks_source, compare_refers, has_source, input_refers, is_content, is_stage, program_has_source, refers_to_source, second_walk, source_refers, stage_refers, stage_refers_after};
 
 use crate::comparison::{COMPARE, stages_key};
-use crate::contents::Said;
+use crate::contents::RecipeContents;
 use crate::lookups::{content_of, content_source, input_at, source_named, stage_at};
 use crate::parts::{Content, Input, Source, SourceLanguage, Stage, StageFile};
 use crate::text::{Key, Place, RecipeRefusal, Table};
@@ -17,7 +17,7 @@ use ddc_base::Name;
 
 /// Whether all names refer to what is there by then.
 #[tactic(auto, unfolding(crate::specs::SecondWalk::second_walk))]
-pub(crate) fn second_walk(said: &Said) -> Result<(), RecipeRefusal>
+pub(crate) fn second_walk(said: &RecipeContents) -> Result<(), RecipeRefusal>
     requires inputs { length said.now.inputs ≤ 256 }
     requires sources { length said.now.sources ≤ 256 }
     requires stages { length said.now.stages ≤ 256 }
@@ -32,7 +32,7 @@ pub(crate) fn second_walk(said: &Said) -> Result<(), RecipeRefusal>
 }
 
 /// The inputs' `implements`.
-fn inputs_refer(said: &Said, inputs: &[Input]) -> Result<(), RecipeRefusal>
+fn inputs_refer(said: &RecipeContents, inputs: &[Input]) -> Result<(), RecipeRefusal>
     requires { length inputs.now < 2 ^ 32 - 1 }
     ensures refers { Gives (λ x. x) result (each_passes (input_refers said.now) 1 inputs.now) }
     ensures memory { NeverWants result }
@@ -45,7 +45,7 @@ fn inputs_refer(said: &Said, inputs: &[Input]) -> Result<(), RecipeRefusal>
     Ok(())
 }
 
-fn input_refers(said: &Said, number: u32, input: &Input) -> Result<(), RecipeRefusal>
+fn input_refers(said: &RecipeContents, number: u32, input: &Input) -> Result<(), RecipeRefusal>
     ensures refers { Gives (λ x. x) result (input_refers said.now number input.now) }
     ensures memory { NeverWants result }
 {
@@ -90,7 +90,7 @@ fn made_by_now(made: bool, place: Place, key: Key) -> Result<(), RecipeRefusal>
 }
 
 /// The sources' files.
-fn sources_refer(said: &Said, sources: &[Source]) -> Result<(), RecipeRefusal>
+fn sources_refer(said: &RecipeContents, sources: &[Source]) -> Result<(), RecipeRefusal>
     requires { length sources.now < 2 ^ 32 - 1 }
     ensures refers { Gives (λ x. x) result (each_passes (source_refers said.now) 1 sources.now) }
     ensures memory { NeverWants result }
@@ -103,7 +103,7 @@ fn sources_refer(said: &Said, sources: &[Source]) -> Result<(), RecipeRefusal>
     Ok(())
 }
 
-fn source_refers(said: &Said, number: u32, source: &Source) -> Result<(), RecipeRefusal>
+fn source_refers(said: &RecipeContents, number: u32, source: &Source) -> Result<(), RecipeRefusal>
     ensures refers { Gives (λ x. x) result (source_refers said.now number source.now) }
     ensures memory { NeverWants result }
 {
@@ -134,7 +134,7 @@ fn is_content(inputs: &[Input], stages: &[Stage], name: &Name) -> bool
 }
 
 /// The stages' programs, files, checks and what they become.
-fn stages_refer(said: &Said, stages: &[Stage]) -> Result<(), RecipeRefusal>
+fn stages_refer(said: &RecipeContents, stages: &[Stage]) -> Result<(), RecipeRefusal>
     requires few { length stages.now < 2 ^ 32 - 1 }
     requires same { stages.now ≡ said.now.stages }
     ensures refers { Gives (λ x. x) result (each_passes (stage_refers said.now) 1 stages.now) }
@@ -148,7 +148,7 @@ fn stages_refer(said: &Said, stages: &[Stage]) -> Result<(), RecipeRefusal>
     Ok(())
 }
 
-fn stage_refers(said: &Said, number: u32, stage: &Stage) -> Result<(), RecipeRefusal>
+fn stage_refers(said: &RecipeContents, number: u32, stage: &Stage) -> Result<(), RecipeRefusal>
     requires from_one { 1 ≤ number }
     requires within { number ≤ length said.now.stages }
     ensures refers { Gives (λ x. x) result (stage_refers said.now number stage.now) }
@@ -165,7 +165,7 @@ fn stage_refers(said: &Said, number: u32, stage: &Stage) -> Result<(), RecipeRef
 /// The same, of a stage after these earlier ones.
 #[tactic(auto, unfolding(crate::specs::SecondWalk::stage_refers_after))]
 fn stage_refers_after(
-    said: &Said,
+    said: &RecipeContents,
     earlier: &[Stage],
     place: Place,
     stage: &Stage,
@@ -200,7 +200,7 @@ fn are_made(inputs: &[Input], stages: &[Stage], files: &[StageFile]) -> bool
 /// Whether a stage may be checked against a source, where it names one.
 #[tactic(auto, unfolding(crate::specs::SecondWalk::check_refers))]
 fn check_refers(
-    said: &Said,
+    said: &RecipeContents,
     earlier: &[Stage],
     place: Place,
     check: &Option<Name>,
@@ -215,7 +215,7 @@ fn check_refers(
 }
 
 fn named_source_checks(
-    said: &Said,
+    said: &RecipeContents,
     earlier: &[Stage],
     place: Place,
     name: &Name,
@@ -231,7 +231,7 @@ fn named_source_checks(
 
 /// Whether a source's files stand before the stage, and its language has a definition.
 fn source_checks(
-    said: &Said,
+    said: &RecipeContents,
     earlier: &[Stage],
     place: Place,
     source: &Source,
@@ -250,7 +250,7 @@ fn source_checks(
 
 /// What is compared.
 #[tactic(auto, unfolding(crate::specs::SecondWalk::compare_refers))]
-fn compare_refers(said: &Said) -> Result<(), RecipeRefusal>
+fn compare_refers(said: &RecipeContents) -> Result<(), RecipeRefusal>
     ensures refers { Gives (λ x. x) result (compare_refers said.now) }
     ensures memory { NeverWants result }
 {
@@ -275,7 +275,7 @@ fn is_stage(stages: &[Stage], name: &Name) -> bool
 }
 
 /// Whether each unchecked stage's program has a source.
-fn programs_have_sources(said: &Said, stages: &[Stage]) -> Result<(), RecipeRefusal>
+fn programs_have_sources(said: &RecipeContents, stages: &[Stage]) -> Result<(), RecipeRefusal>
     requires few { length stages.now < 2 ^ 32 - 1 }
     requires few_inputs { length said.now.inputs ≤ 256 }
     requires few_stages { length said.now.stages ≤ 256 }
@@ -290,7 +290,7 @@ fn programs_have_sources(said: &Said, stages: &[Stage]) -> Result<(), RecipeRefu
     Ok(())
 }
 
-fn program_has_source(said: &Said, number: u32, stage: &Stage) -> Result<(), RecipeRefusal>
+fn program_has_source(said: &RecipeContents, number: u32, stage: &Stage) -> Result<(), RecipeRefusal>
     requires few_inputs { length said.now.inputs ≤ 256 }
     requires few_stages { length said.now.stages ≤ 256 }
     ensures refers { Gives (λ x. x) result (program_has_source said.now number stage.now) }
@@ -302,7 +302,7 @@ fn program_has_source(said: &Said, number: u32, stage: &Stage) -> Result<(), Rec
     }
 }
 
-fn named_has_source(said: &Said, program: &Name) -> Result<(), RecipeRefusal>
+fn named_has_source(said: &RecipeContents, program: &Name) -> Result<(), RecipeRefusal>
     requires few_inputs { length said.now.inputs ≤ 256 }
     requires few_stages { length said.now.stages ≤ 256 }
     ensures refers { Gives (λ x. x) result (has_source said.now (spec.content_named said.now.inputs said.now.stages program.now)) }
@@ -315,7 +315,7 @@ fn named_has_source(said: &Said, program: &Name) -> Result<(), RecipeRefusal>
 }
 
 /// Refuses a program without a source where its source would stand.
-fn has_source(said: &Said, content: Content) -> Result<(), RecipeRefusal>
+fn has_source(said: &RecipeContents, content: Content) -> Result<(), RecipeRefusal>
     requires index { IsIndex said.now.inputs said.now.stages content }
     requires few_inputs { length said.now.inputs ≤ 256 }
     requires few_stages { length said.now.stages ≤ 256 }

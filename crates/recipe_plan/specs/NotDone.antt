@@ -5,17 +5,17 @@ use Rattle.ddc_base.specs.Lines.{line}
 use Rattle.command_plan.specs.Causes.Texts.{spaced, trap_text, call_text, elf_text, args_text, box_text, spent_text, status_text}
 use Rattle.command_plan.specs.Plan.{Plan, answers}
 use Rattle.command_plan.specs.declared.status.Status.TheVariants.{RunFailed, CheckFailed}
-use Rattle.recipe.specs.declared.contents.Said.{Said}
+use Rattle.recipe.specs.declared.contents.RecipeContents.{RecipeContents}
 use Rattle.recipe.specs.declared.parts.Stage.{Stage}
-use Rattle.wheeler.specs.declared.answer.Fault.{Fault}
-use Rattle.wheeler.specs.declared.answer.Fault.TheVariants.{Runs, Checks}
-use Rattle.wheeler.specs.SourceCheck.Causes.{hex_cause_number, hex_cause_place, m1_cause_number, m1_cause_place}
-use Rattle.wheeler.specs.declared.source_check.cause.CheckCause.{CheckCause}
-use Rattle.wheeler.specs.declared.source_check.cause.CheckCause.TheVariants as check
-use Rattle.wheeler.specs.declared.cause.RunCause.{RunCause}
-use Rattle.wheeler.specs.declared.cause.RunCause.TheVariants as run
-use Rattle.wheeler.specs.declared.cause.StartCause.{StartCause}
-use Rattle.wheeler.specs.declared.cause.StartCause.TheVariants as start
+use Rattle.audit_rules.specs.declared.answer.StageFault.{StageFault}
+use Rattle.audit_rules.specs.declared.answer.StageFault.TheVariants.{Runs, Checks}
+use Rattle.audit_rules.specs.SourceCheck.Causes.{hex_cause_number, hex_cause_place, m1_cause_number, m1_cause_place}
+use Rattle.audit_rules.specs.declared.source_check.cause.CheckCause.{CheckCause}
+use Rattle.audit_rules.specs.declared.source_check.cause.CheckCause.TheVariants as check
+use Rattle.audit_rules.specs.declared.cause.RunCause.{RunCause}
+use Rattle.audit_rules.specs.declared.cause.RunCause.TheVariants as run
+use Rattle.audit_rules.specs.declared.cause.StartCause.{StartCause}
+use Rattle.audit_rules.specs.declared.cause.StartCause.TheVariants as start
 
 -- a start that is refused, and a run that made no artefact
 abbrev pub start_cause_text : StartCause → List ℕ
@@ -52,6 +52,6 @@ unfoldable pub check_failed_line : List ℕ → CheckCause → List ℕ
 check_failed_line stage cause = line (codes "check" ∷ codes "failed" ∷ stage ∷ check_cause_text cause ∷ [])
 
 -- a stage that is not done is said by its name, and nothing is saved
-abbrev pub undone : Said → ℕ → Fault → Plan
-undone recipe number (Runs cause step) = answers RunFailed (run_failed_line (stage_name recipe.stages number) cause step)
-undone recipe number (Checks cause) = answers CheckFailed (check_failed_line (stage_name recipe.stages number) cause)
+abbrev pub unfinished : RecipeContents → ℕ → StageFault → Plan
+unfinished recipe number (Runs cause step) = answers RunFailed (run_failed_line (stage_name recipe.stages number) cause step)
+unfinished recipe number (Checks cause) = answers CheckFailed (check_failed_line (stage_name recipe.stages number) cause)

@@ -3,7 +3,7 @@
 use Rattle.std.specs.Prelude.{ℕ, Bool, List, map, if◌then◌else◌}
 use Rattle.std.specs.List.{list_any}
 use Rattle.recipe.specs.Reading.{recipe_of}
-use Rattle.recipe.specs.declared.contents.Said.{Said}
+use Rattle.recipe.specs.declared.contents.RecipeContents.{RecipeContents}
 use Rattle.recipe.specs.declared.parts.Input.{Input}
 use Rattle.command_plan.specs.declared.status.Status.TheVariants.{RecipeRefused}
 use Rattle.command_plan.specs.Words.{is_one_file, usage}
@@ -11,29 +11,29 @@ use Rattle.command_plan.specs.Plan.{Plan, answers, needs, needs_all, unless_refu
 use Rattle.recipe_plan.specs.Texts.{recipe_line}
 
 -- a text is read as a recipe
-abbrev pub reads_recipe : List ℕ → (Said → Plan) → Plan
+abbrev pub reads_recipe : List ℕ → (RecipeContents → Plan) → Plan
 reads_recipe text next = unless_refused (recipe_of text) (λ refusal. answers RecipeRefused (recipe_line refusal)) next
 
 -- the recipe is needed, of at most 1,048,576 bytes, and read
-abbrev pub needs_recipe : List ℕ → (Said → Plan) → Plan
+abbrev pub needs_recipe : List ℕ → (RecipeContents → Plan) → Plan
 needs_recipe file next = needs file 1_048_576 (λ bytes. reads_recipe bytes next)
 
 -- the paths of the inputs, in order
-abbrev pub paths : Said → List (List ℕ)
+abbrev pub paths : RecipeContents → List (List ℕ)
 paths recipe = map (λ (input : Input). input.path) recipe.inputs
 
 -- whether a file is one of the inputs, by its path
-abbrev pub is_input : Said → List ℕ → Bool
+abbrev pub is_input : RecipeContents → List ℕ → Bool
 is_input recipe file = list_any (λ (input : Input). is_one_file input.path file) recipe.inputs
 
 -- the file is to be none of the inputs
-unfoldable pub needs_apart : Said → List ℕ → (Unit {0} → Plan) → Plan
+unfoldable pub needs_apart : RecipeContents → List ℕ → (Unit {0} → Plan) → Plan
 needs_apart recipe file next = if is_input recipe file then usage else next tt
 
 -- the inputs are needed, each of at most 268,435,456 bytes and all of at most `room`
-abbrev pub needs_inputs_within : ℕ → Said → (List (List ℕ) → Plan) → Plan
+abbrev pub needs_inputs_within : ℕ → RecipeContents → (List (List ℕ) → Plan) → Plan
 needs_inputs_within room recipe next = needs_all 268_435_456 room (paths recipe) next
 
 -- the same of at most 1,073,741,824
-abbrev pub needs_inputs : Said → (List (List ℕ) → Plan) → Plan
+abbrev pub needs_inputs : RecipeContents → (List (List ℕ) → Plan) → Plan
 needs_inputs recipe next = needs_inputs_within 1_073_741_824 recipe next

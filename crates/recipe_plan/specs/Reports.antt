@@ -3,7 +3,7 @@ use Rattle.std.specs.Prelude.{ℕ, List, if◌then◌else◌}
 use Rattle.report.specs.Reading.{report_of}
 use Rattle.report.specs.declared.types.CompareLine.{CompareLine}
 use Rattle.report.specs.declared.types.Report.{Report}
-use Rattle.wheeler.specs.Bench.{all_equal}
+use Rattle.audit_rules.specs.Bench.{all_equal}
 use Rattle.command_plan.specs.declared.status.Status.{Status}
 use Rattle.command_plan.specs.declared.status.Status.TheVariants as status
 use Rattle.command_plan.specs.Plan.{Plan, answers, needs, unless_refused}

@@ -6,8 +6,8 @@ ghost use Rattle.recipe_plan.specs.NotDone.{start_cause_text, run_cause_text, ch
 
 use ddc_base::OutOfMemory;
 use std::alloc::Global;
-use wheeler::source_check::CheckCause;
-use wheeler::{RunCause, StartCause};
+use audit_rules::source_check::CheckCause;
+use audit_rules::{RunCause, StartCause};
 
 /// A run that made no artefact.
 pub fn run_cause(alloc: Global, cause: RunCause) -> Result<String, OutOfMemory>

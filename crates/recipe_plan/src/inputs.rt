@@ -3,7 +3,7 @@
 ghost use Rattle.std.specs.Prelude.{◌≡◌, ◌≤◌, IfOk, All, length, map};
 ghost use Rattle.mem_files.specs.Outputs.{IsContent};
 ghost use Rattle.recipe.specs.Kept.{IsRecipe};
-ghost use Rattle.wheeler.specs.Valid.{IsInputs};
+ghost use Rattle.audit_rules.specs.Valid.{IsInputs};
 ghost use Rattle.command_plan.specs.Plan.{needs_all};
 ghost use Rattle.command_plan.specs.Steps.{Obtains};
 ghost use Rattle.recipe_plan.specs.Recipes.{needs_inputs, needs_inputs_within};
@@ -12,7 +12,7 @@ use command_plan::{Stop, fetch};
 use ddc_base::Shelf;
 use recipe::{Input, Inputs, Recipe};
 use std::alloc::Global;
-use wheeler::MAX_INPUT;
+use audit_rules::MAX_INPUT;
 
 /// The most bytes of all inputs together that a command takes.
 pub const INPUTS_LIMIT: u64 = 1_073_741_824;

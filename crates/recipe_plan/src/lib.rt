@@ -12,6 +12,6 @@ mod reports;
 pub mod texts;
 
 pub use inputs::{INPUTS_LIMIT, fetch_inputs, fetch_inputs_within};
-pub use not_done::{about_stage, run_failed, stage_name, undone};
+pub use not_done::{about_stage, run_failed, stage_name, unfinished};
 pub use recipes::{apart, fetch_recipe, read_recipe};
 pub use reports::{compared_status, fetch_report};

@@ -4,24 +4,24 @@ ghost use Rattle.std.specs.Prelude.{◌≡◌, ◌++◌, IfOk, OnOk};
 ghost use Rattle.command_plan.specs.declared.status.Status.TheVariants.{CheckFailed, RunFailed};
 ghost use Rattle.command_plan.specs.Plan.{answers};
 ghost use Rattle.command_plan.specs.Steps.{Says};
-ghost use Rattle.recipe_plan.specs.NotDone.{check_failed_line, run_failed_line, stage_name, undone};
+ghost use Rattle.recipe_plan.specs.NotDone.{check_failed_line, run_failed_line, stage_name, unfinished};
 
 use crate::causes::{check_cause, run_cause};
 use command_plan::{Answer, Status, Stop};
 use ddc_base::{Bytes, OutOfMemory};
 use recipe::Recipe;
 use std::alloc::Global;
-use wheeler::source_check::CheckCause;
-use wheeler::{Fault, RunCause};
+use audit_rules::source_check::CheckCause;
+use audit_rules::{StageFault, RunCause};
 
 /// The answer of a stage that is not done.
-pub fn undone(alloc: Global, recipe: &Recipe, number: u32, fault: Fault) -> Result<Answer, Stop>
-    ensures { Says (undone recipe.now number fault) result }
+pub fn unfinished(alloc: Global, recipe: &Recipe, number: u32, fault: StageFault) -> Result<Answer, Stop>
+    ensures { Says (unfinished recipe.now number fault) result }
 {
     let stage = stage_name(recipe, number);
     match fault {
-        Fault::Runs(cause, step) => run_failed(alloc, stage, cause, step),
-        Fault::Checks(cause) => check_failed(alloc, stage, cause),
+        StageFault::Runs(cause, step) => run_failed(alloc, stage, cause, step),
+        StageFault::Checks(cause) => check_failed(alloc, stage, cause),
     }
 }
 
@@ -56,17 +56,17 @@ pub fn stage_name(recipe: &Recipe, number: u32) -> &[u8]
     }
 }
 
-/// A line about a stage: what stands in front of its name, the name, and what stands behind it.
+/// A line about a stage: what stands in front of its name, the name, and what stands after it.
 pub fn about_stage(
     alloc: Global,
     front: &[u8],
     stage: &[u8],
-    behind: &str,
+    after: &str,
 ) -> Result<Bytes, OutOfMemory>
-    ensures { IfOk result (λ text. text ≡ front.now ++ (stage.now ++ behind.now)) }
+    ensures { IfOk result (λ text. text ≡ front.now ++ (stage.now ++ after.now)) }
 {
     let mut text = Bytes::from_slice(alloc, front)?;
-    put_two(&mut text, stage, behind.as_bytes())?;
+    put_two(&mut text, stage, after.as_bytes())?;
     Ok(text)
 }
 
@@ -90,8 +90,8 @@ fn run_failed_line(
     ensures { IfOk result (λ text. text ≡ run_failed_line stage.now cause step) }
 {
     let cause = run_cause(alloc, cause)?;
-    let behind = format!(in alloc; " {cause} step {step}\n")?;
-    about_stage(alloc, b"run failed ", stage, &behind)
+    let after = format!(in alloc; " {cause} step {step}\n")?;
+    about_stage(alloc, b"run failed ", stage, &after)
 }
 
 /// A stage made an artefact that is not what its source stands for.
@@ -100,6 +100,6 @@ fn check_failed_line(alloc: Global, stage: &[u8], cause: CheckCause) -> Result<B
     ensures { IfOk result (λ text. text ≡ check_failed_line stage.now cause) }
 {
     let cause = check_cause(alloc, cause)?;
-    let behind = format!(in alloc; " {cause}\n")?;
-    about_stage(alloc, b"check failed ", stage, &behind)
+    let after = format!(in alloc; " {cause}\n")?;
+    about_stage(alloc, b"check failed ", stage, &after)
 }

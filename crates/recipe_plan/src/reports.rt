@@ -14,7 +14,7 @@ use command_plan::{Answer, Status, Stop, fetch, texts};
 use ddc_base::{Bytes, Shelf};
 use report::{CompareLine, Report, ReportRefusal};
 use std::alloc::Global;
-use wheeler::all_equal;
+use audit_rules::all_equal;
 
 /// The most bytes of a report that is loaded. The text of every report has fewer.
 const REPORT_LIMIT: u64 = 1_073_741_824;

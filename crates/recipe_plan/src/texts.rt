@@ -109,7 +109,7 @@ fn put_differs(
     text.extend(format!(in alloc; "{offset} {made} {given}\n")?.as_bytes())
 }
 
-/// Adds the names of the stage and of the binary, with a blank behind each.
+/// Adds the names of the stage and of the binary, with a blank after each.
 #[tactic(auto, using(crate::proofs::Written::written))]
 fn put_names(text: &mut Bytes, names: &CompareLine) -> Result<(), OutOfMemory>
     ensures { OnOk result (text.new ≡ text.old ++ names.now.stage ++ 32 ∷ names.now.binary ++ 32 ∷ []) }

@@ -7,7 +7,7 @@ use std::alloc::Global;
 use std::process::Abort;
 use std::test::Fail;
 
-/// What is changed; the piece in front, the one that is repeated, the one behind; how often, and the answer.
+/// What is changed; the piece in front, the one that is repeated, the one after; how often, and the answer.
 type Row = (&'static str, [&'static str; 3], usize, &'static str);
 
 static LENGTHS: [Row; 17] = [

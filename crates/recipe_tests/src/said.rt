@@ -249,7 +249,7 @@ fn looks_up_all(recipe: &Recipe) -> bool {
     NAMES.iter().all(|row| looks_up(recipe, row))
 }
 
-/// Whether the second stage's content is there only behind it.
+/// Whether the second stage's content is there only after it.
 fn has_before(recipe: &Recipe, name: &Name) -> bool {
     recipe.stages().len() == 3
         && recipe.content_before(1, name).is_none()

@@ -6,8 +6,8 @@ use Rattle.std.proofs.lemmas.Bool.Decides.{Decides-ltb}
 use Rattle.std.proofs.lemmas.List.Elements.{All-append, All-cons, All-head, All-map, All-nil, All-push, All-tail}
 use Rattle.ddc_base.specs.Names.{is_name, IsName}
 use Rattle.ddc_base.specs.declared.digests.Digest.{Digest}
-use Rattle.report.specs.declared.line.Line.{Line}
-use Rattle.report.specs.declared.line.Line.TheVariants.{Header, Recipe, Input, Stage, Stream1, Stream2, Left, Made, Checked, Compare, End}
+use Rattle.report.specs.declared.line.ReportLine.{ReportLine}
+use Rattle.report.specs.declared.line.ReportLine.TheVariants.{Header, Recipe, Input, Stage, Stream1, Stream2, Left, Made, Checked, Compare, End}
 use Rattle.report.specs.declared.types.Mark.{Mark}
 use Rattle.report.specs.declared.types.InputLine.{InputLine}
 use Rattle.report.specs.declared.types.StageLine.{StageLine}
@@ -84,7 +84,7 @@ some_compared form = by_test (form == 1)
     by_test true = omega arith
     by_test false = omega arith
 
-pub step_keeps : (s : State) (l : Line) (t : State) → Good s → IsLine l → step s l ≡ Some t → Good t
+pub step_keeps : (s : State) (l : ReportLine) (t : State) → Good s → IsLine l → step s l ≡ Some t → Good t
 unfolding step
 step_keeps Start (Header form) t good is e = subst Good (same_some (Titled form) t e) is
 step_keeps (Titled form) (Recipe recipe) t good is e = subst Good (same_some (Inputs form recipe []) t e) (is, omega arith, All-nil IsInputLine, good)
@@ -168,7 +168,7 @@ abbrev pub Finished : State → Type 0
 Finished s = Finishes IsReport report_lines (so_far s)
 
 -- by one more line
-by : (s : State) (l : Line) (t : State) → IsLine l → step s l ≡ Some t → Good s → (Good t → Finished t) → Finished s
+by : (s : State) (l : ReportLine) (t : State) → IsLine l → step s l ≡ Some t → Good s → (Good t → Finished t) → Finished s
 by s l t fits stepped good later = finishes_by (so_far s) l (so_far t) (step_takes s l t stepped) (later (step_keeps s l t good fits stepped))
 
 some_name : List ℕ

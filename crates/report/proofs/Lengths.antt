@@ -11,8 +11,8 @@ use Rattle.ddc_base.proofs.NameTexts.{fits}
 use Rattle.ddc_base.specs.Languages.Words.{language_word}
 use Rattle.ddc_base.specs.declared.languages.Language.{Language}
 use Rattle.ddc_base.specs.declared.languages.Language.TheVariants.{Hex0, Hex1, Hex2, M1}
-use Rattle.report.specs.declared.line.Line.{Line}
-use Rattle.report.specs.declared.line.Line.TheVariants.{Header, Recipe, Input, Stage, Stream1, Stream2, Left, Made, Checked, Compare, End}
+use Rattle.report.specs.declared.line.ReportLine.{ReportLine}
+use Rattle.report.specs.declared.line.ReportLine.TheVariants.{Header, Recipe, Input, Stage, Stream1, Stream2, Left, Made, Checked, Compare, End}
 use Rattle.report.specs.declared.types.Mark.{Mark}
 use Rattle.report.specs.declared.types.StageLine.{StageLine}
 use Rattle.report.specs.declared.types.Compared.{Compared}
@@ -58,7 +58,7 @@ compared_short (Differs o a b) is =
       number_short b is.small_theirs,
     )
 
-line_short : (l : Line) → IsLine l → length (line_text (line_words l)) ≤ 602
+line_short : (l : ReportLine) → IsLine l → length (line_text (line_words l)) ≤ 602
 line_short (Header form) (inl one) = rw one (omega arith)
 line_short (Header form) (inr two) = rw two (omega arith)
 line_short (Recipe d) is = omega (arith, length-append (encode_lower d.0) (10 ∷ []), hex_long d.0, is.count)
@@ -78,7 +78,7 @@ line_short (Compare c) is = on c.result is.result
     on (Differs o a b) k = omega (arith, length-append c.stage (32 ∷ (c.binary ++ 32 ∷ line_text (compared_words (Differs o a b)))), length-append c.binary (32 ∷ line_text (compared_words (Differs o a b))), fits c.stage is.stage, fits c.binary is.binary, compared_short (Differs o a b) k)
 line_short End is = omega arith
 
-lines_short : (ls : List Line) → All IsLine ls → length (lines_text ls) ≤ 602 * length ls
+lines_short : (ls : List ReportLine) → All IsLine ls → length (lines_text ls) ≤ 602 * length ls
 lines_short [] each = omega arith
 lines_short (l ∷ ls) each =
     omega (arith, length-append (line_text (line_words l)) (lines_text ls), line_short l (All-head IsLine l ls each), lines_short ls (All-tail IsLine l ls each))

@@ -4,8 +4,8 @@ use Rattle.std.specs.Str.{bytes_eq}
 use Rattle.ddc_base.specs.Lines.{line as line_text}
 use Rattle.ddc_base.specs.Names.{IsName}
 use Rattle.ddc_base.specs.Languages.Words.{language_named, language_word}
-use Rattle.report.specs.declared.line.Line.{Line}
-use Rattle.report.specs.declared.line.Line.TheVariants.{Header, Recipe, Input, Stage, Stream1, Stream2, Left, Made, Checked, Compare, End}
+use Rattle.report.specs.declared.line.ReportLine.{ReportLine}
+use Rattle.report.specs.declared.line.ReportLine.TheVariants.{Header, Recipe, Input, Stage, Stream1, Stream2, Left, Made, Checked, Compare, End}
 use Rattle.report.specs.declared.types.Compared.{Compared}
 use Rattle.report.specs.declared.types.Compared.TheVariants.{Equal, Differs}
 use Rattle.report.specs.Inside.Cuts.{cut_at}
@@ -21,7 +21,7 @@ use Rattle.report.proofs.Spelled.{two_again, two_takes}
 use Rattle.report.proofs.FieldTexts.{by_word, number, name, name_word, language, digest, digest_text, mark, mark_text, file_line, file_text, stream_line_takes, binary, binary_text, compared_text}
 
 -- a line that is spelled one way
-abbrev pub IsLine : Line → Type 0
+abbrev pub IsLine : ReportLine → Type 0
 IsLine (Header form) = IsForm form
 IsLine (Recipe digest) = IsDigest digest
 IsLine (Input input) = IsInputLine input
@@ -35,7 +35,7 @@ IsLine (Compare compare) = IsCompare compare
 IsLine End = Unit {0}
 
 -- the fields after a line's first word
-abbrev fields_text : Line → List ℕ
+abbrev fields_text : ReportLine → List ℕ
 fields_text (Header form) = form_word form
 fields_text (Recipe digest) = digest_text digest
 fields_text (Input input) = input.name ++ 32 ∷ mark_text input.mark
@@ -50,7 +50,7 @@ fields_text (Compare compare) = compare.stage ++ 32 ∷ binary_text (compare.bin
 fields_text End = []
 
 -- a line's text without its LF
-abbrev text_of : Line → List ℕ
+abbrev text_of : ReportLine → List ℕ
 text_of (Header form) = codes "ddc-report" ++ 32 ∷ fields_text (Header form)
 text_of (Recipe digest) = codes "recipe" ++ 32 ∷ fields_text (Recipe digest)
 text_of (Input input) = codes "input" ++ 32 ∷ fields_text (Input input)
@@ -67,11 +67,11 @@ text_of End = codes "end"
 -- ---- a line's text is read again
 
 -- by its first word
-kind_again : (kind fields : List ℕ) (l : Line) → Without 32 kind → line_of_kind kind fields ≡ Some l → longer_line_of (kind ++ 32 ∷ fields) ≡ Some l
+kind_again : (kind fields : List ℕ) (l : ReportLine) → Without 32 kind → line_of_kind kind fields ≡ Some l → longer_line_of (kind ++ 32 ∷ fields) ≡ Some l
 unfolding longer_line_of
 kind_again kind fields l plain is = rw (cut_at-joined 32 kind fields plain, is) refl
 
-line_again : (l : Line) → IsLine l → line_of (text_of l) ≡ Some l
+line_again : (l : ReportLine) → IsLine l → line_of (text_of l) ≡ Some l
 unfolding line_of line_of_kind header_of recipe_of input_of stage_of stream_of left_of made_of checked_of compare_of
 line_again (Header form) (inl one) = rw one (kind_again (codes "ddc-report") (codes "1") (Header 1) (no_blank (codes "ddc-report") refl) refl)
 line_again (Header form) (inr two) = rw two (kind_again (codes "ddc-report") (codes "2") (Header 2) (no_blank (codes "ddc-report") refl) refl)
@@ -97,7 +97,7 @@ line_again End is = refl
 two_no_feed : (a b : List ℕ) → Without 10 a → Without 10 b → Without 10 (a ++ 32 ∷ b)
 two_no_feed a b h k = Without-append 10 a (32 ∷ b) h (refl, k)
 
-line_no_feed : (l : Line) → IsLine l → Without 10 (text_of l)
+line_no_feed : (l : ReportLine) → IsLine l → Without 10 (text_of l)
 line_no_feed (Header form) (inl one) = rw one (two_no_feed (codes "ddc-report") (codes "1") (no_feed (codes "ddc-report") refl) (no_feed (codes "1") refl))
 line_no_feed (Header form) (inr two) = rw two (two_no_feed (codes "ddc-report") (codes "2") (no_feed (codes "ddc-report") refl) (no_feed (codes "2") refl))
 line_no_feed (Recipe d) is = two_no_feed (codes "recipe") (digest_text d) (no_feed (codes "recipe") refl) (digest.no_feed d is)
@@ -117,10 +117,10 @@ line_no_feed End is = no_feed (codes "end") refl
 -- ---- what is read is a line's text
 
 -- the line that a text is
-abbrev Is : List ℕ → Line → Type 0
+abbrev Is : List ℕ → ReportLine → Type 0
 Is text l = IsLine l × (text ≡ text_of l)
 
-header_takes : (fields : List ℕ) (l : Line) → header_of fields ≡ Some l → Is (codes "ddc-report" ++ 32 ∷ fields) l
+header_takes : (fields : List ℕ) (l : ReportLine) → header_of fields ≡ Some l → Is (codes "ddc-report" ++ 32 ∷ fields) l
 unfolding header_of
 header_takes fields l e =
     by_word fields (codes "1") (Some (Header 1)) (cond (bytes_eq fields (codes "2")) (Some (Header 2)) None) l
@@ -129,60 +129,60 @@ header_takes fields l e =
     (λ is here. subst (Is (codes "ddc-report" ++ 32 ∷ fields)) (same_some (Header 2) l here) (inr refl, ap (λ (t : List ℕ). codes "ddc-report" ++ 32 ∷ t) is))
     (λ none. absurd cc) later) e
 
-recipe_takes : (fields : List ℕ) (l : Line) → recipe_of fields ≡ Some l → Is (codes "recipe" ++ 32 ∷ fields) l
+recipe_takes : (fields : List ℕ) (l : ReportLine) → recipe_of fields ≡ Some l → Is (codes "recipe" ++ 32 ∷ fields) l
 unfolding recipe_of
 recipe_takes fields l e =
     let x = bind_some (digest_of fields) (λ d. Some (Recipe d)) l e in
     let d = digest.takes fields x.0 x.1 in
     subst (Is (codes "recipe" ++ 32 ∷ fields)) (same_some (Recipe x.0) l x.2) (d.0, ap (λ (t : List ℕ). codes "recipe" ++ 32 ∷ t) d.1)
 
-input_takes : (fields : List ℕ) (l : Line) → input_of fields ≡ Some l → Is (codes "input" ++ 32 ∷ fields) l
+input_takes : (fields : List ℕ) (l : ReportLine) → input_of fields ≡ Some l → Is (codes "input" ++ 32 ∷ fields) l
 unfolding input_of
 input_takes fields l e =
     let two = two_takes name mark (λ n m. Input (record { name = n; mark = m })) fields l e in
     subst (Is (codes "input" ++ 32 ∷ fields)) two.is (record { name = two.is_first; mark = two.is_second }, ap (λ (t : List ℕ). codes "input" ++ 32 ∷ t) two.spelled)
 
-stage_takes : (fields : List ℕ) (l : Line) → stage_of fields ≡ Some l → Is (codes "stage" ++ 32 ∷ fields) l
+stage_takes : (fields : List ℕ) (l : ReportLine) → stage_of fields ≡ Some l → Is (codes "stage" ++ 32 ∷ fields) l
 unfolding stage_of
 stage_takes fields l e =
     let two = two_takes name number (λ n steps. Stage n steps) fields l e in
     subst (Is (codes "stage" ++ 32 ∷ fields)) two.is ((two.is_first, two.is_second), ap (λ (t : List ℕ). codes "stage" ++ 32 ∷ t) two.spelled)
 
-stream_takes : (fields : List ℕ) (l : Line) → stream_of fields ≡ Some l → Is (codes "stream" ++ 32 ∷ fields) l
+stream_takes : (fields : List ℕ) (l : ReportLine) → stream_of fields ≡ Some l → Is (codes "stream" ++ 32 ∷ fields) l
 unfolding stream_of
 stream_takes fields l e =
     let starts = λ (text : List ℕ) (is : fields ≡ text). ap (λ (t : List ℕ). codes "stream" ++ 32 ∷ t) is in
     stream_line_takes (Is (codes "stream" ++ 32 ∷ fields)) Stream1 Stream2 fields l (λ m is text. (is, starts (codes "1" ++ 32 ∷ mark_text m) text)) (λ m is text. (is, starts (codes "2" ++ 32 ∷ mark_text m) text)) e
 
-left_takes : (fields : List ℕ) (l : Line) → left_of fields ≡ Some l → Is (codes "left" ++ 32 ∷ fields) l
+left_takes : (fields : List ℕ) (l : ReportLine) → left_of fields ≡ Some l → Is (codes "left" ++ 32 ∷ fields) l
 unfolding left_of
 left_takes fields l e =
     let x = bind_some (file_line_of fields) (λ f. Some (Left f)) l e in
     let f = file_line.takes fields x.0 x.1 in
     subst (Is (codes "left" ++ 32 ∷ fields)) (same_some (Left x.0) l x.2) (f.0, ap (λ (t : List ℕ). codes "left" ++ 32 ∷ t) f.1)
 
-made_takes : (fields : List ℕ) (l : Line) → made_of fields ≡ Some l → Is (codes "made" ++ 32 ∷ fields) l
+made_takes : (fields : List ℕ) (l : ReportLine) → made_of fields ≡ Some l → Is (codes "made" ++ 32 ∷ fields) l
 unfolding made_of
 made_takes fields l e =
     let x = bind_some (mark_of fields) (λ m. Some (Made m)) l e in
     let m = mark.takes fields x.0 x.1 in
     subst (Is (codes "made" ++ 32 ∷ fields)) (same_some (Made x.0) l x.2) (m.0, ap (λ (t : List ℕ). codes "made" ++ 32 ∷ t) m.1)
 
-checked_takes : (fields : List ℕ) (l : Line) → checked_of fields ≡ Some l → Is (codes "checked" ++ 32 ∷ fields) l
+checked_takes : (fields : List ℕ) (l : ReportLine) → checked_of fields ≡ Some l → Is (codes "checked" ++ 32 ∷ fields) l
 unfolding checked_of
 checked_takes fields l e =
     let x = bind_some (language_named fields) (λ m. Some (Checked (Some m))) l e in
     let m = language.takes fields x.0 x.1 in
     subst (Is (codes "checked" ++ 32 ∷ fields)) (same_some (Checked (Some x.0)) l x.2) (tt, ap (λ (t : List ℕ). codes "checked" ++ 32 ∷ t) m.1)
 
-compare_takes : (fields : List ℕ) (l : Line) → compare_of fields ≡ Some l → Is (codes "compare" ++ 32 ∷ fields) l
+compare_takes : (fields : List ℕ) (l : ReportLine) → compare_of fields ≡ Some l → Is (codes "compare" ++ 32 ∷ fields) l
 unfolding compare_of
 compare_takes fields l e =
     let two = two_takes name binary (λ s f. Compare (record { stage = s; binary = f.0; result = f.1 })) fields l e in
     subst (Is (codes "compare" ++ 32 ∷ fields)) two.is
     (record { stage = two.is_first; binary = two.is_second.0; result = two.is_second.1 }, ap (λ (t : List ℕ). codes "compare" ++ 32 ∷ t) two.spelled)
 
-kind_takes : (kind fields : List ℕ) (l : Line) → line_of_kind kind fields ≡ Some l → Is (kind ++ 32 ∷ fields) l
+kind_takes : (kind fields : List ℕ) (l : ReportLine) → line_of_kind kind fields ≡ Some l → Is (kind ++ 32 ∷ fields) l
 unfolding line_of_kind
 kind_takes kind fields l e =
     let of = λ (word : List ℕ) (is : kind ≡ word) (found : Is (word ++ 32 ∷ fields) l). subst (λ (k : List ℕ). Is (k ++ 32 ∷ fields) l) (sym is) found in
@@ -197,7 +197,7 @@ kind_takes kind fields l e =
     by_word kind (codes "compare") (compare_of fields) _ l (λ is here. of (codes "compare") is (compare_takes fields l here)) (
     (λ none. absurd cc)))))))))) e
 
-line_takes : (text : List ℕ) (l : Line) → line_of text ≡ Some l → Is text l
+line_takes : (text : List ℕ) (l : ReportLine) → line_of text ≡ Some l → Is text l
 unfolding line_of longer_line_of
 line_takes text l e =
     by_word text (codes "end") (Some End) _ l (λ is here. subst (Is text) (same_some End l here) (tt, is)) (
@@ -208,7 +208,7 @@ line_takes text l e =
 
 -- ---- lines with their LF
 
-spelled : (l : Line) → line_text (line_words l) ≡ text_of l ++ 10 ∷ []
+spelled : (l : ReportLine) → line_text (line_words l) ≡ text_of l ++ 10 ∷ []
 spelled (Header form) = simp append_assoc
 spelled (Recipe d) = refl
 spelled (Input i) = simp append_assoc
@@ -226,8 +226,8 @@ spelled (Compare c) = on c.result
     on (Differs o a b) = simp append_assoc
 spelled End = refl
 
-pub next_again : (l : Line) (rest : List ℕ) → IsLine l → next_line line_of (line_text (line_words l) ++ rest) ≡ Some (l, rest)
+pub next_again : (l : ReportLine) (rest : List ℕ) → IsLine l → next_line line_of (line_text (line_words l) ++ rest) ≡ Some (l, rest)
 next_again l rest is = line_is_next line_of (line_words l) (text_of l) rest l (spelled l) (line_no_feed l is) (line_again l is)
 
-pub next_takes : (bytes : List ℕ) (l : Line) (rest : List ℕ) → next_line line_of bytes ≡ Some (l, rest) → IsLine l × (bytes ≡ line_text (line_words l) ++ rest)
+pub next_takes : (bytes : List ℕ) (l : ReportLine) (rest : List ℕ) → next_line line_of bytes ≡ Some (l, rest) → IsLine l × (bytes ≡ line_text (line_words l) ++ rest)
 next_takes = next_is_line line_of line_words IsLine (λ text l e. (let found = line_takes text l e in (found.0, spelled l ∙ ap (λ (t : List ℕ). t ++ 10 ∷ []) (sym found.1))))

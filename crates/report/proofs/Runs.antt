@@ -5,8 +5,8 @@ use Rattle.std.specs.List.{flat_map}
 use Rattle.std.proofs.lemmas.List.{append-nil}
 use Rattle.std.proofs.lemmas.List.Elements.{All-head, All-tail}
 use Rattle.ddc_base.specs.declared.digests.Digest.{Digest}
-use Rattle.report.specs.declared.line.Line.{Line}
-use Rattle.report.specs.declared.line.Line.TheVariants.{Input, Stream1, Stream2, Left, Made, Checked, Compare, End}
+use Rattle.report.specs.declared.line.ReportLine.{ReportLine}
+use Rattle.report.specs.declared.line.ReportLine.TheVariants.{Input, Stream1, Stream2, Left, Made, Checked, Compare, End}
 use Rattle.report.specs.declared.types.InputLine.{InputLine}
 use Rattle.report.specs.declared.types.LeftLine.{LeftLine}
 use Rattle.report.specs.declared.types.StageLine.{StageLine}
@@ -23,11 +23,11 @@ use Rattle.report.proofs.LineByLine.Rules.{runs, runs_then}
 use Rattle.report.specs.Reports.{stage_block, report_lines, ascend, most_comparisons, IsCount, IsStageLine, IsReport}
 
 -- the state after the lines
-abbrev run : State → List Line → Option State
+abbrev run : State → List ReportLine → Option State
 run state lines = runs step state lines
 
 -- two runs, one after the other
-then : (s t : State) (front more : List Line) → run s front ≡ Some t → run s (front ++ more) ≡ run t more
+then : (s t : State) (front more : List ReportLine) → run s front ≡ Some t → run s (front ++ more) ≡ run t more
 then s t front more first = runs_then step s t front more first
 
 run_inputs : (form : ℕ) (recipe : Digest) (front more : List InputLine) → length front + length more ≤ 256 → run (Inputs form recipe front) (map Input more) ≡ Some (Inputs form recipe (front ++ more))

@@ -3,8 +3,8 @@ use Rattle.std.proofs.Common.{◌≡◌, cond, ltb, List, [], ◌∷◌, ◌++�
 use Rattle.std.specs.List.{flat_map}
 use Rattle.std.proofs.lemmas.Grind.{flat_map-append}
 use Rattle.std.proofs.lemmas.List.{append-nil, map_push}
-use Rattle.report.specs.declared.line.Line.{Line}
-use Rattle.report.specs.declared.line.Line.TheVariants.{Header, Recipe, Input, Stage, Stream1, Stream2, Left, Made, Checked, Compare, End}
+use Rattle.report.specs.declared.line.ReportLine.{ReportLine}
+use Rattle.report.specs.declared.line.ReportLine.TheVariants.{Header, Recipe, Input, Stage, Stream1, Stream2, Left, Made, Checked, Compare, End}
 use Rattle.report.specs.declared.types.InputLine.{InputLine}
 use Rattle.report.specs.declared.types.StageLine.{StageLine}
 use Rattle.report.specs.declared.state.Front.{Front}
@@ -15,14 +15,14 @@ use Rattle.report.specs.Inside.States.{step, follows, closed, with_stage}
 use Rattle.report.specs.Reports.{stage_block, front_lines, report_lines, most_comparisons}
 use Rattle.report.proofs.Cuts.{if_some, same_some}
 
-abbrev pub front_of : Front → List Line
+abbrev pub front_of : Front → List ReportLine
 front_of front = front_lines front.form front.recipe front.inputs front.stages
 
-abbrev pub opened_lines : Opened → List Line
+abbrev pub opened_lines : Opened → List ReportLine
 opened_lines stage = Stage stage.name stage.steps ∷ Stream1 stage.stream1 ∷ Stream2 stage.stream2 ∷ map Left stage.left
 
 -- the lines that a state has taken
-abbrev pub so_far : State → List Line
+abbrev pub so_far : State → List ReportLine
 so_far Start = []
 so_far (Titled form) = Header form ∷ []
 so_far (Inputs form recipe inputs) = Header form ∷ Recipe recipe ∷ map Input inputs
@@ -35,29 +35,29 @@ so_far (Compared report) = front_lines report.form report.recipe report.inputs r
 so_far (Ended report) = report_lines report
 
 -- a state known by its lines
-grows : (s t : State) (line : Line) → Some t ≡ Some s → (ls : List Line) → so_far t ≡ ls ++ line ∷ [] → so_far s ≡ ls ++ line ∷ []
+grows : (s t : State) (line : ReportLine) → Some t ≡ Some s → (ls : List ReportLine) → so_far t ≡ ls ++ line ∷ [] → so_far s ≡ ls ++ line ∷ []
 grows s t line e ls is = ap so_far (sym (same_some t s e)) ∙ is
 
 front_push : (front : Front) (stage : StageLine) → front_of (with_stage front stage) ≡ front_of front ++ stage_block stage
 front_push front stage =
     let ls = Header front.form ∷ Recipe front.recipe ∷ map Input front.inputs in
-    ap (λ (more : List Line). ls ++ more) (flat_map-append stage_block front.stages (stage ∷ []) ∙ ap (λ (more : List Line). flat_map stage_block front.stages ++ more) (append-nil (stage_block stage)))
+    ap (λ (more : List ReportLine). ls ++ more) (flat_map-append stage_block front.stages (stage ∷ []) ∙ ap (λ (more : List ReportLine). flat_map stage_block front.stages ++ more) (append-nil (stage_block stage)))
     ∙ sym (append_assoc ls (flat_map stage_block front.stages) (stage_block stage))
 
 no_stages : (form : _) (recipe : _) (inputs : List InputLine) → front_lines form recipe inputs [] ≡ Header form ∷ Recipe recipe ∷ map Input inputs
 no_stages form recipe inputs = append-nil (Header form ∷ Recipe recipe ∷ map Input inputs)
 
-pub step_takes : (s : State) (line : Line) (t : State) → step s line ≡ Some t → so_far t ≡ so_far s ++ line ∷ []
+pub step_takes : (s : State) (line : ReportLine) (t : State) → step s line ≡ Some t → so_far t ≡ so_far s ++ line ∷ []
 unfolding step
 step_takes Start (Header form) t e = grows t (Titled form) (Header form) e [] refl
 step_takes (Titled form) (Recipe recipe) t e = grows t (Inputs form recipe []) (Recipe recipe) e (Header form ∷ []) refl
 step_takes (Inputs form recipe inputs) (Input input) t e =
     let p = if_some (ltb (length inputs) 256) (Some (Inputs form recipe (inputs ++ input ∷ []))) t e in
-    grows t (Inputs form recipe (inputs ++ input ∷ [])) (Input input) p.1 (Header form ∷ Recipe recipe ∷ map Input inputs) (ap (λ (ls : List Line). Header form ∷ Recipe recipe ∷ ls) (map_push Input inputs input))
+    grows t (Inputs form recipe (inputs ++ input ∷ [])) (Input input) p.1 (Header form ∷ Recipe recipe ∷ map Input inputs) (ap (λ (ls : List ReportLine). Header form ∷ Recipe recipe ∷ ls) (map_push Input inputs input))
 step_takes (Inputs form recipe inputs) (Stage name steps) t e =
     let front : Front = record { form = form; recipe = recipe; inputs = inputs; stages = [] } in
     let p = if_some (ltb 0 (length inputs)) (Some (Named front name steps)) t e in
-    grows t (Named front name steps) (Stage name steps) p.1 (Header form ∷ Recipe recipe ∷ map Input inputs) (ap (λ (ls : List Line). ls ++ Stage name steps ∷ []) (no_stages form recipe inputs))
+    grows t (Named front name steps) (Stage name steps) p.1 (Header form ∷ Recipe recipe ∷ map Input inputs) (ap (λ (ls : List ReportLine). ls ++ Stage name steps ∷ []) (no_stages form recipe inputs))
 step_takes (Named front name steps) (Stream1 mark) t e =
     grows t (Heard front name steps mark) (Stream1 mark) e (front_of front ++ Stage name steps ∷ []) (sym (append_assoc (front_of front) (Stage name steps ∷ []) (Stream1 mark ∷ [])))
 step_takes (Heard front name steps stream1) (Stream2 mark) t e =
@@ -68,13 +68,13 @@ step_takes (Leaving front stage) (Left file) t e =
     let p = if_some (ltb (length stage.left) 4096) (cond (follows stage.left file.name) (Some next) None) t e in
     let q = if_some (follows stage.left file.name) (Some next) t p.1 in
     grows t next (Left file) q.1 (front_of front ++ opened_lines stage)
-    (ap (λ (ls : List Line). front_of front ++ Stage stage.name stage.steps ∷ Stream1 stage.stream1 ∷ Stream2 stage.stream2 ∷ ls) (map_push Left stage.left file) ∙ sym (append_assoc (front_of front) (opened_lines stage) (Left file ∷ [])))
+    (ap (λ (ls : List ReportLine). front_of front ++ Stage stage.name stage.steps ∷ Stream1 stage.stream1 ∷ Stream2 stage.stream2 ∷ ls) (map_push Left stage.left file) ∙ sym (append_assoc (front_of front) (opened_lines stage) (Left file ∷ [])))
 step_takes (Leaving front stage) (Made mark) t e =
     grows t (Closing front stage mark) (Made mark) e (front_of front ++ opened_lines stage) (sym (append_assoc (front_of front) (opened_lines stage) (Made mark ∷ [])))
 step_takes (Closing front stage made) (Checked checked) t e =
     let block = closed stage made checked in
     grows t (Stages (with_stage front block)) (Checked checked) e (front_of front ++ (opened_lines stage ++ Made made ∷ []))
-    (front_push front block ∙ ap (λ (ls : List Line). front_of front ++ ls) (sym (append_assoc (opened_lines stage) (Made made ∷ []) (Checked checked ∷ [])))
+    (front_push front block ∙ ap (λ (ls : List ReportLine). front_of front ++ ls) (sym (append_assoc (opened_lines stage) (Made made ∷ []) (Checked checked ∷ [])))
     ∙ sym (append_assoc (front_of front) (opened_lines stage ++ Made made ∷ []) (Checked checked ∷ [])))
 step_takes (Stages front) (Stage name steps) t e =
     let p = if_some (ltb (length front.stages) 256) (Some (Named front name steps)) t e in
@@ -86,6 +86,6 @@ step_takes (Compared report) (Compare compare) t e =
     let front = front_lines report.form report.recipe report.inputs report.stages in
     let p = if_some (ltb (length report.compare) (most_comparisons report.form)) (Some next) t e in
     grows t next (Compare compare) p.1 (front ++ map Compare report.compare)
-    (ap (λ (ls : List Line). front ++ ls) (map_push Compare report.compare compare) ∙ sym (append_assoc front (map Compare report.compare) (Compare compare ∷ [])))
+    (ap (λ (ls : List ReportLine). front ++ ls) (map_push Compare report.compare compare) ∙ sym (append_assoc front (map Compare report.compare) (Compare compare ∷ [])))
 step_takes (Compared report) End t e = grows t (Ended report) End e (front_lines report.form report.recipe report.inputs report.stages ++ map Compare report.compare) refl
 step_takes _ _ t e = absurd cc

@@ -5,8 +5,8 @@ use Rattle.hex.specs.Hex.{encode_lower}
 use Rattle.ddc_base.specs.Lines.{line}
 use Rattle.ddc_base.specs.Languages.Words.{language_word}
 use Rattle.ddc_base.specs.declared.languages.Language.{Language}
-use Rattle.report.specs.declared.line.Line.{Line}
-use Rattle.report.specs.declared.line.Line.TheVariants.{Header, Recipe, Input, Stage, Stream1, Stream2, Left, Made, Checked, Compare, End}
+use Rattle.report.specs.declared.line.ReportLine.{ReportLine}
+use Rattle.report.specs.declared.line.ReportLine.TheVariants.{Header, Recipe, Input, Stage, Stream1, Stream2, Left, Made, Checked, Compare, End}
 use Rattle.report.specs.declared.types.Mark.{Mark}
 use Rattle.report.specs.declared.types.Compared.{Compared}
 use Rattle.report.specs.declared.types.Compared.TheVariants.{Equal, Differs}
@@ -28,7 +28,7 @@ abbrev pub form_word : ℕ → List ℕ
 form_word form = if form == 1 then codes "1" else codes "2"
 
 -- the words of a line
-abbrev pub line_words : Line → List (List ℕ)
+abbrev pub line_words : ReportLine → List (List ℕ)
 line_words (Header form) = codes "ddc-report" ∷ form_word form ∷ []
 line_words (Recipe digest) = codes "recipe" ∷ encode_lower digest.0 ∷ []
 line_words (Input input) = codes "input" ∷ input.name ∷ mark_words input.mark
@@ -42,5 +42,5 @@ line_words (Compare compare) = codes "compare" ∷ compare.stage ∷ compare.bin
 line_words End = codes "end" ∷ []
 
 -- the text of lines: in each a blank between neighbouring words, and an LF at its end
-abbrev pub lines_text : List Line → List ℕ
+abbrev pub lines_text : List ReportLine → List ℕ
 lines_text lines = flat_map (λ l. line (line_words l)) lines

@@ -7,8 +7,8 @@ use Rattle.std.specs.Cmp.Lexicographic.{slice_cmp}
 pub use Rattle.ddc_base.specs.ByteLists.{AreBytes}
 use Rattle.ddc_base.specs.Names.{IsName}
 use Rattle.ddc_base.specs.declared.digests.Digest.{Digest}
-use Rattle.report.specs.declared.line.Line.{Line}
-use Rattle.report.specs.declared.line.Line.TheVariants.{Header, Recipe, Input, Stage, Stream1, Stream2, Left, Made, Checked, Compare, End}
+use Rattle.report.specs.declared.line.ReportLine.{ReportLine}
+use Rattle.report.specs.declared.line.ReportLine.TheVariants.{Header, Recipe, Input, Stage, Stream1, Stream2, Left, Made, Checked, Compare, End}
 use Rattle.report.specs.declared.types.Mark.{Mark}
 use Rattle.report.specs.declared.types.InputLine.{InputLine}
 use Rattle.report.specs.declared.types.LeftLine.{LeftLine}
@@ -24,16 +24,16 @@ use Rattle.report.specs.Lines.{lines_text}
 -- ---- the text
 
 -- the block of a stage
-abbrev pub stage_block : StageLine → List Line
+abbrev pub stage_block : StageLine → List ReportLine
 stage_block stage =
     (Stage stage.name stage.steps ∷ Stream1 stage.stream1 ∷ Stream2 stage.stream2 ∷ map Left stage.left)
     ++ Made stage.made ∷ Checked stage.checked ∷ []
 
 -- the lines above the comparisons
-abbrev pub front_lines : ℕ → Digest → List InputLine → List StageLine → List Line
+abbrev pub front_lines : ℕ → Digest → List InputLine → List StageLine → List ReportLine
 front_lines form recipe inputs stages = (Header form ∷ Recipe recipe ∷ map Input inputs) ++ flat_map stage_block stages
 
-abbrev pub report_lines : Report → List Line
+abbrev pub report_lines : Report → List ReportLine
 report_lines report = front_lines report.form report.recipe report.inputs report.stages ++ map Compare report.compare ++ End ∷ []
 
 -- the one text of a report

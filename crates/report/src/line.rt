@@ -12,7 +12,7 @@ use std::alloc::Global;
 
 /// A line of a report.
 #[derive(Drop)]
-pub enum Line {
+pub enum ReportLine {
     /// The report's form.
     Header(u32),
     Recipe(Digest),
@@ -29,20 +29,20 @@ pub enum Line {
 
 /// The line that a text is, without its LF.
 #[tactic(auto, unfolding(crate::specs::Inside::LinesRead::line_of))]
-pub(crate) fn line_of(alloc: Global, text: &[u8]) -> Result<Option<Line>, OutOfMemory>
+pub(crate) fn line_of(alloc: Global, text: &[u8]) -> Result<Option<ReportLine>, OutOfMemory>
     ensures { IfOk result (λ line. line ≡ line_of text.now) }
 {
     if text == "end".as_bytes() {
-        Ok(Some(Line::End))
+        Ok(Some(ReportLine::End))
     } else if text == "unchecked".as_bytes() {
-        Ok(Some(Line::Checked(None)))
+        Ok(Some(ReportLine::Checked(None)))
     } else {
         longer_line_of(alloc, text)
     }
 }
 
 #[tactic(auto, unfolding(crate::specs::Inside::LinesRead::longer_line_of))]
-fn longer_line_of(alloc: Global, text: &[u8]) -> Result<Option<Line>, OutOfMemory>
+fn longer_line_of(alloc: Global, text: &[u8]) -> Result<Option<ReportLine>, OutOfMemory>
     ensures { IfOk result (λ line. line ≡ longer_line_of text.now) }
 {
     match cut_at(b' ', text) {
@@ -53,7 +53,7 @@ fn longer_line_of(alloc: Global, text: &[u8]) -> Result<Option<Line>, OutOfMemor
 
 /// A line with more than one word, by its first word.
 #[tactic(auto, unfolding(crate::specs::Inside::LinesRead::line_of_kind))]
-fn line_of_kind(alloc: Global, kind: &[u8], fields: &[u8]) -> Result<Option<Line>, OutOfMemory>
+fn line_of_kind(alloc: Global, kind: &[u8], fields: &[u8]) -> Result<Option<ReportLine>, OutOfMemory>
     ensures { IfOk result (λ line. line ≡ line_of_kind kind.now fields.now) }
 {
     if kind == "ddc-report".as_bytes() {
@@ -80,96 +80,96 @@ fn line_of_kind(alloc: Global, kind: &[u8], fields: &[u8]) -> Result<Option<Line
 }
 
 #[tactic(auto, unfolding(crate::specs::Inside::LinesRead::header_of))]
-fn header_of(fields: &[u8]) -> Option<Line>
+fn header_of(fields: &[u8]) -> Option<ReportLine>
     ensures { result ≡ header_of fields.now }
 {
     match fields {
-        b"1" => Some(Line::Header(1)),
-        b"2" => Some(Line::Header(2)),
+        b"1" => Some(ReportLine::Header(1)),
+        b"2" => Some(ReportLine::Header(2)),
         _ => None,
     }
 }
 
 #[tactic(auto, unfolding(crate::specs::Inside::LinesRead::recipe_of))]
-fn recipe_of(fields: &[u8]) -> Option<Line>
+fn recipe_of(fields: &[u8]) -> Option<ReportLine>
     ensures { result ≡ recipe_of fields.now }
 {
     let digest = digest_of(fields)?;
-    Some(Line::Recipe(digest))
+    Some(ReportLine::Recipe(digest))
 }
 
 #[tactic(auto, unfolding(crate::specs::Inside::LinesRead::input_of))]
-fn input_of(fields: &[u8]) -> Option<Line>
+fn input_of(fields: &[u8]) -> Option<ReportLine>
     ensures { result ≡ input_of fields.now }
 {
     let (name, mark) = cut_at(b' ', fields)?;
     let name = Name::read(name)?;
     let mark = mark_of(mark)?;
-    Some(Line::Input(InputLine { name, mark }))
+    Some(ReportLine::Input(InputLine { name, mark }))
 }
 
 #[tactic(auto, unfolding(crate::specs::Inside::LinesRead::stage_of))]
-fn stage_of(fields: &[u8]) -> Option<Line>
+fn stage_of(fields: &[u8]) -> Option<ReportLine>
     ensures { result ≡ stage_of fields.now }
 {
     let (name, steps) = cut_at(b' ', fields)?;
     let name = Name::read(name)?;
     let steps = read_decimal(steps)?;
-    Some(Line::Stage(name, steps))
+    Some(ReportLine::Stage(name, steps))
 }
 
 #[tactic(auto, unfolding(crate::specs::Inside::LinesRead::stream_of))]
-fn stream_of(fields: &[u8]) -> Option<Line>
+fn stream_of(fields: &[u8]) -> Option<ReportLine>
     ensures { result ≡ stream_of fields.now }
 {
     let (number, mark) = cut_at(b' ', fields)?;
     match number {
         b"1" => {
             let mark = mark_of(mark)?;
-            Some(Line::Stream1(mark))
+            Some(ReportLine::Stream1(mark))
         }
         b"2" => {
             let mark = mark_of(mark)?;
-            Some(Line::Stream2(mark))
+            Some(ReportLine::Stream2(mark))
         }
         _ => None,
     }
 }
 
 #[tactic(auto, unfolding(crate::specs::Inside::LinesRead::left_of))]
-fn left_of(alloc: Global, fields: &[u8]) -> Result<Option<Line>, OutOfMemory>
+fn left_of(alloc: Global, fields: &[u8]) -> Result<Option<ReportLine>, OutOfMemory>
     ensures { IfOk result (λ line. line ≡ left_of fields.now) }
 {
     match file_line_of(alloc, fields)? {
-        Some(file) => Ok(Some(Line::Left(file))),
+        Some(file) => Ok(Some(ReportLine::Left(file))),
         None => Ok(None),
     }
 }
 
 #[tactic(auto, unfolding(crate::specs::Inside::LinesRead::made_of))]
-fn made_of(fields: &[u8]) -> Option<Line>
+fn made_of(fields: &[u8]) -> Option<ReportLine>
     ensures { result ≡ made_of fields.now }
 {
     let mark = mark_of(fields)?;
-    Some(Line::Made(mark))
+    Some(ReportLine::Made(mark))
 }
 
 #[tactic(auto, unfolding(crate::specs::Inside::LinesRead::checked_of))]
-fn checked_of(fields: &[u8]) -> Option<Line>
+fn checked_of(fields: &[u8]) -> Option<ReportLine>
     ensures { result ≡ checked_of fields.now }
 {
     let language = Language::named(fields)?;
-    Some(Line::Checked(Some(language)))
+    Some(ReportLine::Checked(Some(language)))
 }
 
 #[tactic(auto, unfolding(crate::specs::Inside::LinesRead::compare_of))]
-fn compare_of(fields: &[u8]) -> Option<Line>
+fn compare_of(fields: &[u8]) -> Option<ReportLine>
     ensures { result ≡ compare_of fields.now }
 {
     let (stage, found) = cut_at(b' ', fields)?;
     let stage = Name::read(stage)?;
     let (binary, result) = binary_of(found)?;
-    Some(Line::Compare(CompareLine {
+    Some(ReportLine::Compare(CompareLine {
         stage,
         binary,
         result,

@@ -9,7 +9,7 @@ ghost use Rattle.report.specs.Reports.{IsReport, report_text, IsRead, IsFault};
 ghost use Rattle.report.specs.declared.types.Report.{Report as ReportValue};
 
 use crate::fields::cut_at;
-use crate::line::{Line, line_of};
+use crate::line::{ReportLine, line_of};
 use crate::refusal::ReportRefusal;
 use crate::state::State;
 use crate::types::Report;
@@ -59,7 +59,7 @@ fn read_lines(alloc: Global, bytes: &[u8]) -> Result<(State, u64), ReportRefusal
 
 /// The line at the front of some bytes, which is that of a number, and what follows its LF.
 #[tactic(auto, unfolding(crate::specs::Inside::LineByLine::next_line))]
-fn next_line(alloc: Global, bytes: &[u8], number: u64) -> Result<(Line, &[u8]), ReportRefusal>
+fn next_line(alloc: Global, bytes: &[u8], number: u64) -> Result<(ReportLine, &[u8]), ReportRefusal>
     ensures value { IfOk result (λ next. Some (next.0, next.1.now) ≡ next_line line_of bytes.now) }
     ensures shorter { IfOk result (λ next. length next.1.now < length bytes.now) }
     ensures refused { IfErr result (HasNoLine bytes.now number) }

@@ -7,7 +7,7 @@ ghost use Rattle.report.specs.Inside.States.{step, follows};
 ghost use Rattle.report.specs.Reports.{most_comparisons};
 ghost use Rattle.report.specs.declared.state.State.TheVariants as state;
 
-use crate::line::Line;
+use crate::line::ReportLine;
 use crate::types::{
     CompareLine, CompareLines, InputLine, InputLines, LeftLine, LeftLines, Mark, Report, StageLine,
     StageLines,
@@ -73,7 +73,7 @@ pub enum State {
 impl State {
     /// The state after one more line, if a report goes on with it.
     #[tactic(auto, unfolding(crate::specs::Inside::States::step))]
-    pub(crate) fn after(self, alloc: Global, line: Line) -> Result<Option<State>, OutOfMemory>
+    pub(crate) fn after(self, alloc: Global, line: ReportLine) -> Result<Option<State>, OutOfMemory>
         ensures { IfOk result (λ next. next ≡ step self line) }
     {
         match self {
@@ -96,21 +96,21 @@ impl State {
 }
 
 #[tactic(auto, unfolding(crate::specs::Inside::States::step))]
-fn after_nothing(line: Line) -> Option<State>
+fn after_nothing(line: ReportLine) -> Option<State>
     ensures { result ≡ step state.Start line }
 {
     match line {
-        Line::Header(form) => Some(State::Titled(form)),
+        ReportLine::Header(form) => Some(State::Titled(form)),
         _ => None,
     }
 }
 
 #[tactic(auto, unfolding(crate::specs::Inside::States::step))]
-fn after_header(alloc: Global, form: u32, line: Line) -> Option<State>
+fn after_header(alloc: Global, form: u32, line: ReportLine) -> Option<State>
     ensures { result ≡ step (state.Titled form) line }
 {
     match line {
-        Line::Recipe(recipe) => Some(State::Inputs(form, recipe, ListOf::new(alloc))),
+        ReportLine::Recipe(recipe) => Some(State::Inputs(form, recipe, ListOf::new(alloc))),
         _ => None,
     }
 }
@@ -121,12 +121,12 @@ fn after_inputs(
     form: u32,
     recipe: Digest,
     mut inputs: InputLines,
-    line: Line,
+    line: ReportLine,
 ) -> Result<Option<State>, OutOfMemory>
     ensures { IfOk result (λ next. next ≡ step (state.Inputs form recipe inputs) line) }
 {
     match line {
-        Line::Input(input) => {
+        ReportLine::Input(input) => {
             if inputs.len() < MANY {
                 inputs.push(input)?;
                 Ok(Some(State::Inputs(form, recipe, inputs)))
@@ -134,7 +134,7 @@ fn after_inputs(
                 Ok(None)
             }
         }
-        Line::Stage(name, steps) => {
+        ReportLine::Stage(name, steps) => {
             if inputs.is_empty() {
                 return Ok(None);
             }
@@ -151,11 +151,11 @@ fn after_inputs(
 }
 
 #[tactic(auto, unfolding(crate::specs::Inside::States::step))]
-fn after_name(front: Front, name: Name, steps: u64, line: Line) -> Option<State>
+fn after_name(front: Front, name: Name, steps: u64, line: ReportLine) -> Option<State>
     ensures { result ≡ step (state.Named front name steps) line }
 {
     match line {
-        Line::Stream1(mark) => Some(State::Heard(front, name, steps, mark)),
+        ReportLine::Stream1(mark) => Some(State::Heard(front, name, steps, mark)),
         _ => None,
     }
 }
@@ -167,12 +167,12 @@ fn after_stream1(
     name: Name,
     steps: u64,
     stream1: Mark,
-    line: Line,
+    line: ReportLine,
 ) -> Option<State>
     ensures { result ≡ step (state.Heard front name steps stream1) line }
 {
     match line {
-        Line::Stream2(stream2) => {
+        ReportLine::Stream2(stream2) => {
             let opened = Opened {
                 name,
                 steps,
@@ -187,11 +187,11 @@ fn after_stream1(
 }
 
 #[tactic(auto, unfolding(crate::specs::Inside::States::step))]
-fn after_stream2(front: Front, mut stage: Opened, line: Line) -> Result<Option<State>, OutOfMemory>
+fn after_stream2(front: Front, mut stage: Opened, line: ReportLine) -> Result<Option<State>, OutOfMemory>
     ensures { IfOk result (λ next. next ≡ step (state.Leaving front stage) line) }
 {
     match line {
-        Line::Left(file) => {
+        ReportLine::Left(file) => {
             if stage.left.len() < MANY_LEFT
                 && follows(stage.left.as_slice(), file.name.as_slice())
             {
@@ -201,7 +201,7 @@ fn after_stream2(front: Front, mut stage: Opened, line: Line) -> Result<Option<S
                 Ok(None)
             }
         }
-        Line::Made(made) => Ok(Some(State::Closing(front, stage, made))),
+        ReportLine::Made(made) => Ok(Some(State::Closing(front, stage, made))),
         _ => Ok(None),
     }
 }
@@ -211,12 +211,12 @@ fn after_made(
     mut front: Front,
     stage: Opened,
     made: Mark,
-    line: Line,
+    line: ReportLine,
 ) -> Result<Option<State>, OutOfMemory>
     ensures { IfOk result (λ next. next ≡ step (state.Closing front stage made) line) }
 {
     match line {
-        Line::Checked(checked) => {
+        ReportLine::Checked(checked) => {
             front.stages.push(StageLine {
                 name: stage.name,
                 steps: stage.steps,
@@ -233,18 +233,18 @@ fn after_made(
 }
 
 #[tactic(auto, unfolding(crate::specs::Inside::States::step))]
-fn after_stages(alloc: Global, front: Front, line: Line) -> Result<Option<State>, OutOfMemory>
+fn after_stages(alloc: Global, front: Front, line: ReportLine) -> Result<Option<State>, OutOfMemory>
     ensures { IfOk result (λ next. next ≡ step (state.Stages front) line) }
 {
     match line {
-        Line::Stage(name, steps) => {
+        ReportLine::Stage(name, steps) => {
             if front.stages.len() < MANY {
                 Ok(Some(State::Named(front, name, steps)))
             } else {
                 Ok(None)
             }
         }
-        Line::Compare(compare) => {
+        ReportLine::Compare(compare) => {
             let mut compares: CompareLines = ListOf::new(alloc);
             compares.push(compare)?;
             Ok(Some(State::Compared(Report {
@@ -260,11 +260,11 @@ fn after_stages(alloc: Global, front: Front, line: Line) -> Result<Option<State>
 }
 
 #[tactic(auto, unfolding(crate::specs::Inside::States::step))]
-fn after_compared(mut report: Report, line: Line) -> Result<Option<State>, OutOfMemory>
+fn after_compared(mut report: Report, line: ReportLine) -> Result<Option<State>, OutOfMemory>
     ensures { IfOk result (λ next. next ≡ step (state.Compared report) line) }
 {
     match line {
-        Line::Compare(compare) => {
+        ReportLine::Compare(compare) => {
             if report.compare.len() < most_comparisons(report.form) {
                 report.compare.push(compare)?;
                 Ok(Some(State::Compared(report)))
@@ -272,7 +272,7 @@ fn after_compared(mut report: Report, line: Line) -> Result<Option<State>, OutOf
                 Ok(None)
             }
         }
-        Line::End => Ok(Some(State::Ended(report))),
+        ReportLine::End => Ok(Some(State::Ended(report))),
         _ => Ok(None),
     }
 }

@@ -5,7 +5,7 @@ ghost use Rattle.std.specs.List.{flat_map};
 ghost use Rattle.ddc_base.specs.Lines.{line as line_text};
 ghost use Rattle.report.specs.Lines.{line_words, mark_words, compared_words, checked_words, form_word, lines_text};
 ghost use Rattle.report.specs.Reports.{IsReport, stage_block, report_text};
-ghost use Rattle.report.specs.declared.line.Line.TheVariants as line;
+ghost use Rattle.report.specs.declared.line.ReportLine.TheVariants as line;
 ghost use Rattle.report.specs.declared.types.Compared.TheVariants as compared;
 
 use crate::types::{CompareLine, Compared, InputLine, LeftLine, Mark, Report, StageLine};

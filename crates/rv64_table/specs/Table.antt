@@ -226,7 +226,7 @@ op_number Amomaxd = 84
 op_number Amominud = 85
 op_number Amomaxud = 86
 
--- whether an operation is one of the extension A: their rows stand behind the 65 of RV64I and M
+-- whether an operation is one of the extension A: their rows stand after the 65 of RV64I and M
 abbrev pub is_atomic : Op → Bool
 is_atomic op = nat_le 65 (op_number op)
 

@@ -1,8 +1,8 @@
 -- What the run of one piece answers.
 use Rattle.std.proofs.Common.{◌≡◌, ℕ, ◌+◌, ◌-◌, ◌<◌, ◌≤◌, ◌^◌, Result, Ok, Some, List, inl, refl, sym, ap, ◌∙◌, subst, arith}
 use Rattle.ddc_base.specs.Difference.{first_difference}
-use Rattle.save_text.specs.StateText.StateText.{StateText, parsed_state}
-use Rattle.save_text.proofs.StateTextLemmas.Texts.{formed_again}
+use Rattle.save_format.specs.StateText.StateText.{StateText, parsed_state}
+use Rattle.save_format.proofs.StateTextLemmas.Texts.{formed_again}
 use Rattle.checkpoints.specs.Checkpoint.{guest_of, state_of}
 use Rattle.checkpoints.proofs.States.{is_text, same_guest}
 use Rattle.guest_run.specs.Run.{after, first_end, End}
@@ -11,7 +11,7 @@ use Rattle.guest_run.specs.Valid.{IsValid}
 use Rattle.guest_run.proofs.Endings.{end-counted}
 use Rattle.guest_run.proofs.RunLaws.{first_end-at}
 use Rattle.segments.specs.Segments.{AreTwoStates, DiffersAt, EndsBetween, IsLater, IsSegment, IsStateOf, second_text}
-use Rattle.segments.specs.Inside.Told.{Tells}
+use Rattle.segments.specs.Inside.Recorded.{Records}
 
 -- two valid states with one text are one
 pub one_text : (a b : GuestState) → IsValid a → IsValid b → a.steps < 2 ^ 64 → b.steps < 2 ^ 64 → second_text a ≡ second_text b → a ≡ b
@@ -25,12 +25,12 @@ one_text a b fit fits few less same =
 -- two texts, the latter later by so many steps
 pub record Apart (from to own : List ℕ) (first : GuestState) (steps count : ℕ) : Type 0 where
   pub here : IsStateOf from first
-  pub there : Tells to steps own
+  pub there : Records to steps own
   pub later : first.steps < steps
   pub near : count ≤ 2 ^ 48
   pub count_is : count ≡ steps - first.steps
 
-abbrev pub states_of : (from to own : List ℕ) (first : GuestState) (steps : ℕ) → IsStateOf from first → Tells to steps own → AreTwoStates from to
+abbrev pub states_of : (from to own : List ℕ) (first : GuestState) (steps : ℕ) → IsStateOf from first → Records to steps own → AreTwoStates from to
 states_of from to own first steps here there = record { first = first; last = there.guest; from_is = here; to_is = there.is }
 
 later_of : (from to own : List ℕ) (first : GuestState) (steps count : ℕ) → Apart from to own first steps count → IsLater from to
@@ -78,7 +78,7 @@ is_segment from to own first guest steps count apart reached text valid small =
     }
 
 -- where the run of a piece begins: the former guest has taken so many steps, and the latter more, but not too many
-pub apart_by : (from to own : List ℕ) (first : GuestState) (steps counted : ℕ) → IsStateOf from first → Tells to steps own → counted ≡ first.steps → counted < steps
+pub apart_by : (from to own : List ℕ) (first : GuestState) (steps counted : ℕ) → IsStateOf from first → Records to steps own → counted ≡ first.steps → counted < steps
     → steps - counted ≤ 2 ^ 48 → Apart from to own first steps (steps - counted)
 apart_by from to own first steps counted here there is later near = record {
   here = here;

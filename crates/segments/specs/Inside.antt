@@ -1,2 +1,2 @@
 -- No promise rests on this file being read.
-pub mod Told
+pub mod Recorded

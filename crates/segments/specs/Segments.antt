@@ -2,7 +2,7 @@
 -- docs/reference/segments.md says the same for people.
 use Rattle.std.specs.Prelude.{◌≡◌, ℕ, ◌+◌, ◌-◌, ◌<◌, ◌≤◌, ◌^◌, ◌⊎◌, IsOk, Ok, Err, Some, None, List, [], ◌∷◌}
 use Rattle.ddc_base.specs.Difference.{first_difference}
-use Rattle.save_text.specs.StateText.Spelled.{text_of_state}
+use Rattle.save_format.specs.StateText.Spelled.{text_of_state}
 use Rattle.checkpoints.specs.Checkpoint.{MayWantMemory, ReadsState, state_of}
 use Rattle.guest_run.specs.declared.run.RunEnd.{RunEnd}
 use Rattle.guest_run.specs.declared.run.RunEnd.TheVariants as run

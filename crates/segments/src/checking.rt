@@ -4,7 +4,7 @@ ghost use Rattle.std.specs.Prelude.{◌≡◌, ℕ, ◌<◌, ◌^◌, IfOk, None
 ghost use Rattle.ddc_base.specs.Difference.{first_difference};
 ghost use Rattle.guest_run.specs.Start.{start_of};
 ghost use Rattle.guest_run.specs.Valid.{IsValid};
-ghost use Rattle.segments.specs.Inside.Told.{Tells};
+ghost use Rattle.segments.specs.Inside.Recorded.{Records};
 ghost use Rattle.segments.specs.Segments.{ChecksPiece, IsStateOf, StartChecks, second_text};
 
 use crate::answers::{SegmentAnswer, SegmentFault, StartAnswer, StartFault};
@@ -49,7 +49,7 @@ fn check_to(
     own: &[u8],
 ) -> SegmentAnswer
     requires from { IsStateOf from.now guest.old }
-    requires to { Tells to.now steps own.now }
+    requires to { Records to.now steps own.now }
     ensures { ChecksPiece from.now to.now result }
 {
     let first = guest.steps();
@@ -125,7 +125,7 @@ fn compare(
     own: &[u8],
 ) -> StartAnswer
     requires starts { start_of program.now setting.now ≡ Ok guest.now }
-    requires told { (steps : ℕ) × Tells first.now steps own.now }
+    requires told { (steps : ℕ) × Records first.now steps own.now }
     ensures { StartChecks program.now setting.now first.now result }
 {
     match difference(alloc, guest, own) {

@@ -1,7 +1,7 @@
 //! Texts of states.
 
 ghost use Rattle.std.specs.Prelude.{Ok};
-ghost use Rattle.segments.specs.Inside.Told.{ReadBy, ToldBy};
+ghost use Rattle.segments.specs.Inside.Recorded.{ReadBy, RecordedBy};
 
 use crate::answers::StateFault;
 use checkpoints::{StateRefusal, read_state, write_state};
@@ -31,7 +31,7 @@ pub(crate) fn guest_of(alloc: Global, text: &[u8]) -> Result<Guest<RunRam>, Unre
 
 /// The steps of the state that a text says, and that state's text of the second form. Its guest is not kept.
 pub(crate) fn told_by(alloc: Global, text: &[u8]) -> Result<(u64, Bytes), Unread>
-    ensures { ToldBy text.now result }
+    ensures { RecordedBy text.now result }
 {
     match guest_of(alloc, text) {
         Ok(guest) => tell(alloc, &guest, text),
@@ -41,7 +41,7 @@ pub(crate) fn told_by(alloc: Global, text: &[u8]) -> Result<(u64, Bytes), Unread
 
 fn tell(alloc: Global, guest: &Guest<RunRam>, text: &[u8]) -> Result<(u64, Bytes), Unread>
     requires { ReadBy text.now (Ok guest.now) }
-    ensures { ToldBy text.now result }
+    ensures { RecordedBy text.now result }
 {
     let steps = guest.steps();
     match write_state(alloc, guest) {

@@ -9,12 +9,12 @@ use Rattle.ddc_base.specs.declared.outside.Loaded.TheVariants.{Bytes}
 use Rattle.ddc_base.specs.Outside.{NamedFiles, loaded}
 use Rattle.recipe.specs.Lookups.{stage_at}
 use Rattle.recipe.specs.Reading.{recipe_of}
-use Rattle.recipe.specs.declared.contents.Said.{Said}
+use Rattle.recipe.specs.declared.contents.RecipeContents.{RecipeContents}
 use Rattle.recipe.specs.declared.parts.Stage.{Stage}
-use Rattle.wheeler.specs.Stages.{stage_result}
-use Rattle.wheeler.specs.declared.answer.Fault.{Fault}
-use Rattle.wheeler.specs.declared.answer.Finished.{Finished}
-use Rattle.audit_run.specs.Earlier.{done_in_order, unless_undone}
+use Rattle.audit_rules.specs.Stages.{stage_result}
+use Rattle.audit_rules.specs.declared.answer.StageFault.{StageFault}
+use Rattle.audit_rules.specs.declared.answer.Finished.{Finished}
+use Rattle.audit_run.specs.Earlier.{done_in_order, unless_unfinished}
 use Rattle.recipe_plan.specs.Recipes.{paths}
 use Rattle.stage_commands.specs.Begun.{IsBegun}
 
@@ -23,17 +23,17 @@ stands_within test [] at is = absurd cc
 stands_within test (stage ∷ stages) at is = (position-Some test (stage ∷ stages) at stage is).0
 
 -- so many are done
-done_count : (recipe : Said) (inputs : List (List ℕ)) (stages : List Stage) (done out : List Finished) → done_in_order recipe inputs done stages ≡ Ok out
+done_count : (recipe : RecipeContents) (inputs : List (List ℕ)) (stages : List Stage) (done out : List Finished) → done_in_order recipe inputs done stages ≡ Ok out
     → length out ≡ length done + length stages
 done_count recipe inputs [] done out made = let same : done ≡ out = cc in omega (arith, ap length same)
 done_count recipe inputs (stage ∷ stages) done out made =
     by (λ d. done_count recipe inputs stages d out) (stage_result recipe inputs done stage) made where
-      by : ((d : List Finished) → done_in_order recipe inputs d stages ≡ Ok out → length out ≡ length d + length stages) → (r : Result Finished Fault)
-          → unless_undone (suc (length done)) r (λ f. done_in_order recipe inputs (done ++ f ∷ []) stages) ≡ Ok out → length out ≡ length done + suc (length stages)
+      by : ((d : List Finished) → done_in_order recipe inputs d stages ≡ Ok out → length out ≡ length d + length stages) → (r : Result Finished StageFault)
+          → unless_unfinished (suc (length done)) r (λ f. done_in_order recipe inputs (done ++ f ∷ []) stages) ≡ Ok out → length out ≡ length done + suc (length stages)
       by later (Err fault) made = absurd cc
       by later (Ok f) made = let rest = later (done ++ f ∷ []) made in let one = length-append done (f ∷ []) in omega (arith, rest, one)
 
-pub begun_of : (recipe stage : List ℕ) (files : NamedFiles) (text : List ℕ) (said : Said) (count : ℕ) (inputs : List (List ℕ)) (done : List Finished)
+pub begun_of : (recipe stage : List ℕ) (files : NamedFiles) (text : List ℕ) (said : RecipeContents) (count : ℕ) (inputs : List (List ℕ)) (done : List Finished)
     → loaded files recipe 1_048_576 ≡ Bytes text → recipe_of text ≡ Ok said → stage_at said.stages stage ≡ Some count
     → map (λ path. finite.get files path) (paths said) ≡ map Some inputs → done_in_order said inputs [] (take count said.stages) ≡ Ok done
     → IsBegun recipe stage files (record { recipe = said; inputs = inputs; done = done })

@@ -17,30 +17,30 @@ use Rattle.guest_run.specs.State.{GuestState}
 use Rattle.guest_run.proofs.Running.{after-none}
 use Rattle.guest_run.proofs.RunLaws.{after-sum, first_end-sum}
 use Rattle.recipe.specs.declared.parts.Stage.{Stage}
-use Rattle.wheeler.specs.Stages.{contents, finished, output_of, stage_result, start_stage}
-use Rattle.wheeler.specs.declared.answer.Finished.{Finished}
-use Rattle.wheeler.specs.declared.cause.RunCause.TheVariants as cause
+use Rattle.audit_rules.specs.Stages.{contents, finished, output_of, stage_result, start_stage}
+use Rattle.audit_rules.specs.declared.answer.Finished.{Finished}
+use Rattle.audit_rules.specs.declared.cause.RunCause.TheVariants as cause
 use Rattle.segments.specs.Segments.{ChecksPiece, EndsWith, IsStateOf, second_text}
 use Rattle.segments.specs.declared.answers.SegmentFault.{SegmentFault}
 use Rattle.segments.specs.declared.answers.StateFault.{StateFault}
 use Rattle.command_plan.specs.declared.status.Status.TheVariants.{Yes}
 use Rattle.command_plan.specs.Plan.{Outcome, Plan, answers, needs, outcome, unless_refused}
 use Rattle.command_plan.specs.Words.{are_two_files, or_usage, usage}
-use Rattle.stage_commands.specs.Checked.{AreChecked, EndShows, HoldPiece, IsRunTold, piece_told_yes}
+use Rattle.stage_commands.specs.Checked.{AreChecked, EndShows, HoldPiece, IsRunReported, piece_reported_yes}
 use Rattle.stage_commands.specs.Cutting.{ends_over, segment_over}
 use Rattle.stage_commands.specs.Ends.{ends_files, ends_judged, needs_first, needs_last, unless_other_start}
 use Rattle.stage_commands.specs.Exits.{run_failed, unless_absent}
 use Rattle.stage_commands.specs.Names.{are_stage_words, as_states, piece_name, within_states}
 use Rattle.stage_commands.specs.Ready.{needs_ready}
-use Rattle.stage_commands.specs.Segment.{piece_told, segment_files}
-use Rattle.stage_commands.specs.States.{ReadsAs, end_behind, piece_answer, piece_of, state_said}
+use Rattle.stage_commands.specs.Segment.{piece_reported, segment_files}
+use Rattle.stage_commands.specs.States.{ReadsAs, end_after, piece_answer, piece_of, state_said}
 use Rattle.stage_commands.specs.Texts.{run_record}
 use Rattle.stage_commands.specs.declared.ready.Ready.{Ready}
-use Rattle.stage_commands.proofs.Cutting.{count_again, is_benched, segment_told}
+use Rattle.stage_commands.proofs.Cutting.{count_again, is_benched, segment_reported}
 use Rattle.stage_commands.proofs.EarlierStages.{StartsValid, starts_valid}
 use Rattle.stage_commands.proofs.PiecesShown.{end_shown, piece_shown}
 use Rattle.stage_commands.proofs.ReadyAgain.{Finds, IsYes, follows_load, found_again, load_found, within_limit, yes_as}
-use Rattle.stage_commands.proofs.Reading.{is_read, is_told, reads}
+use Rattle.stage_commands.proofs.Reading.{is_read, is_reported, reads}
 use Rattle.stage_commands.proofs.StatesRead.{is_read_valid, no_difference, one_text}
 
 -- a text is that of one state, and a name holds one text
@@ -52,9 +52,9 @@ one_said text a b first second =
 one_held : (files : NamedFiles) (name : List ℕ) (limit : ℕ) (a b : List ℕ) → loaded files name limit ≡ Bytes a → loaded files name limit ≡ Bytes b → a ≡ b
 one_held files name limit a b first second = let both : Bytes a ≡ Bytes b = sym first ∙ second in cc
 
-pub piece_is_told : (from to : List ℕ) (files : NamedFiles) (steps : ℕ) → IsTrue (are_two_files from to) → HoldPiece from to files steps → segment_over from to files ≡ piece_told_yes steps files
-piece_is_told from to files steps two h =
-    segment_told files from to h.former h.latter steps two h.former_is h.latter_is (is_told h.former h.latter (Ok steps) h.piece)
+pub piece_is_reported : (from to : List ℕ) (files : NamedFiles) (steps : ℕ) → IsTrue (are_two_files from to) → HoldPiece from to files steps → segment_over from to files ≡ piece_reported_yes steps files
+piece_is_reported from to files steps two h =
+    segment_reported files from to h.former h.latter steps two h.former_is h.latter_is (is_reported h.former h.latter (Ok steps) h.piece)
 
 module _ (files : NamedFiles) (bytes : (name content : List ℕ) → finite.get files name ≡ Some content → All (λ byte. byte < 256) content) where
   held_bytes : (name : List ℕ) (limit : ℕ) (content : List ℕ) → loaded files name limit ≡ Bytes content → AreBytes content
@@ -64,10 +64,10 @@ module _ (files : NamedFiles) (bytes : (name content : List ℕ) → finite.get 
 
   module _ (from to : List ℕ) where
     abbrev Shown : Outcome → Type 0
-    Shown o = (steps : ℕ) × HoldPiece from to files steps × (o ≡ piece_told_yes steps files)
+    Shown o = (steps : ℕ) × HoldPiece from to files steps × (o ≡ piece_reported_yes steps files)
 
     by_piece : (former latter : List ℕ) → loaded files from 4_294_967_296 ≡ Bytes former → loaded files to 4_294_967_296 ≡ Bytes latter → (r : Result ℕ SegmentFault) → piece_of former latter ≡ r
-        → IsYes (piece_told r) files → Shown (outcome (piece_told r) files)
+        → IsYes (piece_reported r) files → Shown (outcome (piece_reported r) files)
     by_piece former latter first second (Ok steps) is zeroed =
         let shown = piece_shown former latter (held_bytes from 4_294_967_296 former first) (held_bytes to 4_294_967_296 latter second) in (
           steps,
@@ -85,10 +85,10 @@ module _ (files : NamedFiles) (bytes : (name content : List ℕ) → finite.get 
     by_files : IsYes (segment_files from to) files → Shown (outcome (segment_files from to) files)
     unfolding segment_files
     by_files zeroed =
-        let with_former : List ℕ → Plan = λ former. needs to 4_294_967_296 (λ latter. piece_told (piece_of former latter)) in
+        let with_former : List ℕ → Plan = λ former. needs to 4_294_967_296 (λ latter. piece_reported (piece_of former latter)) in
         let a = load_found from 4_294_967_296 with_former files zeroed in
         let one = follows_load from 4_294_967_296 with_former files a.0 a.1 in
-        let with_latter : List ℕ → Plan = λ latter. piece_told (piece_of a.0 latter) in
+        let with_latter : List ℕ → Plan = λ latter. piece_reported (piece_of a.0 latter) in
         let b = load_found to 4_294_967_296 with_latter files (yes_as (segment_files from to) (with_former a.0) files one zeroed) in
         let comes = one ∙ follows_load to 4_294_967_296 with_latter files b.0 b.1 in
         subst Shown (sym comes) (by_piece a.0 b.0 a.1 b.1 (piece_of a.0 b.0) refl (yes_as (segment_files from to) (with_latter b.0) files comes zeroed))
@@ -103,8 +103,8 @@ module _ (files : NamedFiles) (bytes : (name content : List ℕ) → finite.get 
 
   module _ (recipe stage prefix : List ℕ) (count : ℕ) (some : 1 ≤ count)
       (pieces : (number : ℕ) → number + 1 < count → (segment_over (piece_name prefix number) (piece_name prefix (number + 1)) files).status ≡ Yes) where
-    abbrev Told : Outcome → Type 0
-    Told o = IsRunTold recipe stage prefix files o
+    abbrev Reported : Outcome → Type 0
+    Reported o = IsRunReported recipe stage prefix files o
 
     module _ (fa : Finds prefix files bytes recipe stage (needs_ready recipe stage prefix)) (first last : List ℕ) (first_is : loaded files (piece_name prefix 0) 4_294_967_296 ≡ Bytes first)
         (last_is : loaded files (piece_name prefix (count - 1)) 4_294_967_296 ≡ Bytes last) (of : Stage) (there : slice_get fa.ready.recipe.stages (length fa.ready.done) ≡ Some of) where
@@ -158,7 +158,7 @@ module _ (files : NamedFiles) (bytes : (name content : List ℕ) → finite.get 
             reached = ap (after begun) (ap (λ (g : GuestState). g.steps) (sym is_start) ∙ v.fresh) ∙ after-none begun ∙ ap Some is_start;
           }
 
-          module _ (guest : GuestState) (ends : end_behind last of.steps ≡ Ok (Some (Exited 0, guest))) (made : List ℕ) (left : out guest.world (output_of of.output) ≡ Some made) where
+          module _ (guest : GuestState) (ends : end_after last of.steps ≡ Ok (Some (Exited 0, guest))) (made : List ℕ) (left : out guest.world (output_of of.output) ≡ Some made) where
             e : EndsWith last of.steps guest (ending.Exited 0)
             e = subst (EndShows last of.steps) ends (end_shown last of.steps)
 
@@ -170,12 +170,12 @@ module _ (files : NamedFiles) (bytes : (name content : List ℕ) → finite.get 
                 one_said last e.from at.state e.is
                 (subst (λ t. IsStateOf t at.state) (one_held files (piece_name prefix (count - 1)) 4_294_967_296 at.text last at.held last_is) at.is)
 
-            behind : (from : GuestState) → e.from ≡ from → (from.steps < of.steps) × (first_end from (of.steps - from.steps) ≡ Some (Exited 0, guest))
-            behind from same = subst (λ (g : GuestState). (g.steps < of.steps) × (first_end g (of.steps - g.steps) ≡ Some (Exited 0, guest))) same (e.below, e.ends)
+            following : (from : GuestState) → e.from ≡ from → (from.steps < of.steps) × (first_end from (of.steps - from.steps) ≡ Some (Exited 0, guest))
+            following from same = subst (λ (g : GuestState). (g.steps < of.steps) × (first_end g (of.steps - g.steps) ≡ Some (Exited 0, guest))) same (e.below, e.ends)
 
             whole : first_end begun of.steps ≡ Some (Exited 0, guest)
             whole =
-                let b = behind at.state same_last in
+                let b = following at.state same_last in
                 let below = b.0 in
                 let all : of.steps ≡ at.state.steps + (of.steps - at.state.steps) = omega (arith, below) in
                 ap (first_end begun) all ∙ first_end-sum begun at.state at.state.steps (of.steps - at.state.steps) at.reached ∙ b.1
@@ -186,7 +186,7 @@ module _ (files : NamedFiles) (bytes : (name content : List ℕ) → finite.get 
             as_benched : (f : Finished) → stage_result fa.ready.recipe fa.ready.inputs fa.ready.done of ≡ Ok f → text ≡ run_record of.name f
             as_benched f result = ap (run_record of.name) (sym (is_benched fa.ready of begun guest starts whole made left f result))
 
-            is_run : Told (record { status = Yes; text = text; files = files })
+            is_run : Reported (record { status = Yes; text = text; files = files })
             is_run = record {
               run = record {
                 start = record {
@@ -204,24 +204,24 @@ module _ (files : NamedFiles) (bytes : (name content : List ℕ) → finite.get 
                 left = left;
                 benched = is_benched fa.ready of begun guest starts whole made left;
               };
-              told = refl;
+              reported = refl;
               as_benched = as_benched;
             }
 
           -- an exit, by whether its status is 0 and by what is at the output
-          abbrev exit_told : ℕ → GuestState → Bool → Option (List ℕ) → Plan
-          exit_told status guest none left =
+          abbrev exit_reported : ℕ → GuestState → Bool → Option (List ℕ) → Plan
+          exit_reported status guest none left =
               unless_refused (cond none (unless_absent left) (Err (cause.Status status))) (λ why. run_failed of why (guest.steps + 1))
               (λ made. answers Yes (run_record of.name (finished (guest.steps + 1) guest.world made)))
 
           by_exit : (status : ℕ) (guest : GuestState) (none : Bool) (left : Option (List ℕ)) → (status == 0) ≡ none → out guest.world (output_of of.output) ≡ left
-              → end_behind last of.steps ≡ Ok (Some (Exited status, guest)) → IsYes (exit_told status guest none left) files → Told (outcome (exit_told status guest none left) files)
+              → end_after last of.steps ≡ Ok (Some (Exited status, guest)) → IsYes (exit_reported status guest none left) files → Reported (outcome (exit_reported status guest none left) files)
           by_exit status guest true (Some made) is left ends zeroed =
               is_run guest (ends ∙ ap (λ n. Ok (Some (Exited n, guest))) ((Decides-eqb status 0).0 is)) made left
           by_exit status guest true None is left ends zeroed = absurd cc
           by_exit status guest false left is there ends zeroed = absurd cc
 
-          by_last : (r : Result (Option (End × GuestState)) StateFault) → end_behind last of.steps ≡ r → IsYes (needs_last of r) files → Told (outcome (needs_last of r) files)
+          by_last : (r : Result (Option (End × GuestState)) StateFault) → end_after last of.steps ≡ r → IsYes (needs_last of r) files → Reported (outcome (needs_last of r) files)
           by_last (Err why) is zeroed = absurd cc
           by_last (Ok None) is zeroed = absurd cc
           by_last (Ok (Some (Exited status, guest))) is zeroed = by_exit status guest (status == 0) (out guest.world (output_of of.output)) refl refl is zeroed
@@ -229,35 +229,35 @@ module _ (files : NamedFiles) (bytes : (name content : List ℕ) → finite.get 
           by_last (Ok (Some (UnknownCall number, guest))) is zeroed = absurd cc
 
         abbrev rest : Plan
-        rest = needs_last of (end_behind last of.steps)
+        rest = needs_last of (end_after last of.steps)
 
         by_difference : (said : GuestState) → IsStateOf first said → (d : Option ℕ) → first_difference (second_text begun) (second_text said) ≡ d
-            → IsYes (unless_other_start d rest) files → Told (outcome (unless_other_start d rest) files)
-        by_difference said is None none zeroed = by_last said is none (end_behind last of.steps) refl zeroed
+            → IsYes (unless_other_start d rest) files → Reported (outcome (unless_other_start d rest) files)
+        by_difference said is None none zeroed = by_last said is none (end_after last of.steps) refl zeroed
         by_difference said is (Some offset) differs zeroed = absurd cc
 
-        by_first : (r : Result GuestState StateFault) → ReadsAs first r → IsYes (needs_first of (Ok begun) r rest) files → Told (outcome (needs_first of (Ok begun) r rest) files)
+        by_first : (r : Result GuestState StateFault) → ReadsAs first r → IsYes (needs_first of (Ok begun) r rest) files → Reported (outcome (needs_first of (Ok begun) r rest) files)
         by_first (Err why) is zeroed = absurd cc
         by_first (Ok said) is zeroed = by_difference said is (first_difference (second_text begun) (second_text said)) refl zeroed
 
       by_start_of : (s : Result GuestState Refusal) → start_stage fa.ready.recipe (contents fa.ready.inputs fa.ready.done) of ≡ s
-          → IsYes (needs_first of s (state_said first) (needs_last of (end_behind last of.steps))) files → Told (outcome (needs_first of s (state_said first) (needs_last of (end_behind last of.steps))) files)
+          → IsYes (needs_first of s (state_said first) (needs_last of (end_after last of.steps))) files → Reported (outcome (needs_first of s (state_said first) (needs_last of (end_after last of.steps))) files)
       by_start_of (Err why) starts zeroed = absurd cc
       by_start_of (Ok begun) starts zeroed = by_first begun starts (state_said first) (reads first) zeroed
 
     module _ (fa : Finds prefix files bytes recipe stage (needs_ready recipe stage prefix)) where
       abbrev judge : List ℕ → List ℕ → Stage → Plan
-      judge first last of = needs_first of (start_stage fa.ready.recipe (contents fa.ready.inputs fa.ready.done) of) (state_said first) (needs_last of (end_behind last of.steps))
+      judge first last of = needs_first of (start_stage fa.ready.recipe (contents fa.ready.inputs fa.ready.done) of) (state_said first) (needs_last of (end_after last of.steps))
 
       by_texts : (first last : List ℕ) → loaded files (piece_name prefix 0) 4_294_967_296 ≡ Bytes first → loaded files (piece_name prefix (count - 1)) 4_294_967_296 ≡ Bytes last
-          → IsYes (ends_judged fa.ready first last) files → Told (outcome (ends_judged fa.ready first last) files)
+          → IsYes (ends_judged fa.ready first last) files → Reported (outcome (ends_judged fa.ready first last) files)
       unfolding ends_judged
       by_texts first last first_is last_is zeroed = by (slice_get fa.ready.recipe.stages (length fa.ready.done)) refl zeroed where
-        by : (place : Option Stage) → slice_get fa.ready.recipe.stages (length fa.ready.done) ≡ place → IsYes (or_usage place (judge first last)) files → Told (outcome (or_usage place (judge first last)) files)
+        by : (place : Option Stage) → slice_get fa.ready.recipe.stages (length fa.ready.done) ≡ place → IsYes (or_usage place (judge first last)) files → Reported (outcome (or_usage place (judge first last)) files)
         by (Some of) there zeroed = by_start_of fa first last first_is last_is of there (start_stage fa.ready.recipe (contents fa.ready.inputs fa.ready.done) of) refl zeroed
         by None there zeroed = absurd cc
 
-    by_ends : IsYes (ends_files recipe stage prefix count) files → Told (outcome (ends_files recipe stage prefix count) files)
+    by_ends : IsYes (ends_files recipe stage prefix count) files → Reported (outcome (ends_files recipe stage prefix count) files)
     unfolding ends_files
     by_ends zeroed =
         let with_last : Ready → List ℕ → Plan = λ ready first. needs (piece_name prefix (count - 1)) 4_294_967_296 (λ last. ends_judged ready first last) in
@@ -269,9 +269,9 @@ module _ (files : NamedFiles) (bytes : (name content : List ℕ) → finite.get 
         let b = load_found (piece_name prefix (count - 1)) 4_294_967_296 (λ last. ends_judged fa.ready a.0 last) files
         (yes_as (ends_files recipe stage prefix count) (with_last fa.ready a.0) files two zeroed) in
         let comes = two ∙ follows_load (piece_name prefix (count - 1)) 4_294_967_296 (λ last. ends_judged fa.ready a.0 last) files b.0 b.1 in
-        subst Told (sym comes) (by_texts fa a.0 b.0 a.1 b.1 (yes_as (ends_files recipe stage prefix count) (ends_judged fa.ready a.0 b.0) files comes zeroed))
+        subst Reported (sym comes) (by_texts fa a.0 b.0 a.1 b.1 (yes_as (ends_files recipe stage prefix count) (ends_judged fa.ready a.0 b.0) files comes zeroed))
 
-    by_words : (are : Bool) → IsYes (cond are (ends_files recipe stage prefix count) usage) files → Told (outcome (cond are (ends_files recipe stage prefix count) usage) files)
+    by_words : (are : Bool) → IsYes (cond are (ends_files recipe stage prefix count) usage) files → Reported (outcome (cond are (ends_files recipe stage prefix count) usage) files)
     by_words true zeroed = by_ends zeroed
     by_words false zeroed = absurd cc
 
@@ -283,15 +283,15 @@ module _ (files : NamedFiles) (bytes : (name content : List ℕ) → finite.get 
   unfolding as_states
   no_states = ap within_states (as_decimal-is (decimal 0) 0 (record { small = omega arith; spelled = refl }))
 
-  pub run_is_told : (recipe stage prefix : List ℕ) (count : ℕ) → AreChecked recipe stage prefix count files → IsRunTold recipe stage prefix files (ends_over recipe stage prefix count files)
-  run_is_told recipe stage prefix count checked = elim (dec_lt 0 count) [
+  pub run_is_reported : (recipe stage prefix : List ℕ) (count : ℕ) → AreChecked recipe stage prefix count files → IsRunReported recipe stage prefix files (ends_over recipe stage prefix count files)
+  run_is_reported recipe stage prefix count checked = elim (dec_lt 0 count) [
     | yes some ↦ by_count some
     | no not ↦ absurd (none_given (omega (arith, not)))
   ] where
-    by_count : 0 < count → IsRunTold recipe stage prefix files (ends_over recipe stage prefix count files)
+    by_count : 0 < count → IsRunReported recipe stage prefix files (ends_over recipe stage prefix count files)
     by_count some =
         let comes : ends_over recipe stage prefix count files ≡ outcome (with_states recipe stage prefix (Some count)) files = ap (λ n. outcome (with_states recipe stage prefix n) files) (count_again count (omega (arith, some)) checked.few) in
-        subst (IsRunTold recipe stage prefix files) (sym comes)
+        subst (IsRunReported recipe stage prefix files) (sym comes)
         (by_words recipe stage prefix count (omega (arith, some)) checked.pieces (are_stage_words recipe stage prefix) (ap (λ (o : Outcome). o.status) (sym comes) ∙ checked.both_ends))
 
     none_given : count ≡ 0 → ⊥

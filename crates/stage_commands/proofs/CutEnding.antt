@@ -16,10 +16,10 @@ use Rattle.guest_run.proofs.Starting.{starts_are}
 use Rattle.recipe.specs.Kept.{IsRecipe}
 use Rattle.recipe.specs.declared.parts.Stage.{Stage}
 use Rattle.recipe.proofs.Keeps.{reads_keep}
-use Rattle.wheeler.specs.Contents.{box_of, program_of}
-use Rattle.wheeler.specs.Stages.{contents, start_stage}
-use Rattle.wheeler.specs.declared.cause.RunCause.{RunCause}
-use Rattle.wheeler.specs.declared.cause.RunCause.TheVariants as run
+use Rattle.audit_rules.specs.Contents.{box_of, program_of}
+use Rattle.audit_rules.specs.Stages.{contents, start_stage}
+use Rattle.audit_rules.specs.declared.cause.RunCause.{RunCause}
+use Rattle.audit_rules.specs.declared.cause.RunCause.TheVariants as run
 use Rattle.segments.specs.Segments.{second_text}
 use Rattle.command_plan.specs.declared.status.Status.TheVariants.{TooManySegments, Yes}
 use Rattle.command_plan.specs.Plan.{Outcome, Plan, answers, outcome, unless_refused}
@@ -221,8 +221,8 @@ module _ (stage : Stage) (every : ℕ) (files : NamedFiles) where
       | no not ↦ absurd (let status = ap (λ p. (outcome p files).status) (sym (is_spent stage every some (omega (arith, not)))) ∙ is in cc)
     ]
 
-  many_told : (some : 1 ≤ every) (begun : GuestState) → GoesOn begun → (outcome (cut_end_from stage every begun) files).status ≡ TooManySegments
-  many_told some begun (none, less) =
+  many_reported : (some : 1 ≤ every) (begun : GuestState) → GoesOn begun → (outcome (cut_end_from stage every begun) files).status ≡ TooManySegments
+  many_reported some begun (none, less) =
       let most : min (1_000 * every) stage.steps ≡ 1_000 * every = omega (arith, less) in
       ap (λ n. (outcome (cut_end stage every (first_end begun n)) files).status) most
       ∙ ap (λ e. (outcome (cut_end stage every e) files).status) none
@@ -235,5 +235,5 @@ cut_goes_on recipe stage every prefix files start steps are words =
     let said = cut_ends recipe stage every prefix files start steps are words in
     let some = (few_steps every steps are).0 in (
       λ is. many_shown start.named steps files some start.begun (sym said.status ∙ is),
-      λ goes. said.status ∙ many_told start.named steps files some start.begun goes,
+      λ goes. said.status ∙ many_reported start.named steps files some start.begun goes,
     )

@@ -1,4 +1,4 @@
--- What a cut that comes to 0 leaves: the texts of the states along the run, and the end of the run behind the last one.
+-- What a cut that comes to 0 leaves: the texts of the states along the run, and the end of the run after the last one.
 use Rattle.std.proofs.Common.{◌≡◌, ◌≢◌, ℕ, zero, suc, ◌+◌, ◌*◌, ◌<◌, ◌≤◌, ◌^◌, Bool, true, false, cond, Option, Some, None, List, ◌∷◌, decimal, unwrap_or, refl, sym, ap, ◌∙◌, subst, arith}
 use Rattle.std.specs.Prelude.{nat_lt, ◌==◌, Err}
 use Rattle.std.specs.Cmp.Lexicographic.{nat_list_cmp_total}
@@ -18,8 +18,8 @@ use Rattle.guest_run.specs.State.{GuestState}
 use Rattle.guest_run.proofs.Running.{after-counted}
 use Rattle.guest_run.proofs.RunLaws.{after-sum, no_end-goes_on}
 use Rattle.recipe.specs.declared.parts.Stage.{Stage}
-use Rattle.wheeler.specs.Stages.{output_of}
-use Rattle.wheeler.specs.declared.cause.RunCause.TheVariants as run
+use Rattle.audit_rules.specs.Stages.{output_of}
+use Rattle.audit_rules.specs.declared.cause.RunCause.TheVariants as run
 use Rattle.segments.specs.Segments.{second_text}
 use Rattle.command_plan.specs.declared.status.Status.TheVariants.{Yes}
 use Rattle.command_plan.specs.Plan.{Outcome, Plan, answers, outcome, unless_refused}
@@ -32,7 +32,7 @@ use Rattle.stage_commands.specs.Texts.{cut_line}
 -- names of two states are two
 pub two_names : (prefix : List ℕ) (a b : ℕ) → a < 2 ^ 64 → b < 2 ^ 64 → a ≢ b → piece_name prefix a ≢ piece_name prefix b
 two_names prefix a b small few differ = λ same.
-    let behind : 46 ∷ decimal a ≡ 46 ∷ decimal b = append_cancel_left prefix (46 ∷ decimal a) (46 ∷ decimal b) same in
+    let following : 46 ∷ decimal a ≡ 46 ∷ decimal b = append_cancel_left prefix (46 ∷ decimal a) (46 ∷ decimal b) same in
     let digits : decimal a ≡ decimal b = cc in
     differ (decimal_injective a b small few digits)
 
@@ -52,7 +52,7 @@ module _ (stage : Stage) (every : ℕ) (prefix : List ℕ) (begun : GuestState) 
     pub below : state.steps < stage.steps
     pub held : finite.get files (piece_name prefix number) ≡ Some (second_text state)
 
-  -- what is saved from the state of a number on, and how the run ends behind it
+  -- what is saved from the state of a number on, and how the run ends after it
   pub record IsCutFrom (number left : ℕ) (before : NamedFiles) (came : Outcome) : Type 0 where
     pub more : ℕ
     pub few : more < left
@@ -67,18 +67,18 @@ module _ (stage : Stage) (every : ℕ) (prefix : List ℕ) (begun : GuestState) 
     pub printed : came.text ≡ cut_line (number + more + 1) (end.steps + 1)
     pub others : (name : List ℕ) → ((k : ℕ) → number ≤ k → k ≤ number + more → name ≢ piece_name prefix k) → finite.get came.files name ≡ finite.get before name
 
-  told : ℕ → End → GuestState → Plan
-  told saved end guest = run_ended stage end guest (λ _. answers Yes (cut_line saved (guest.steps + 1)))
+  reported : ℕ → End → GuestState → Plan
+  reported saved end guest = run_ended stage end guest (λ _. answers Yes (cut_line saved (guest.steps + 1)))
 
-  abbrev cut_told : ℕ → GuestState → NamedFiles → Outcome
-  cut_told saved guest files = record { status = Yes; text = cut_line saved (guest.steps + 1); files = files }
+  abbrev cut_reported : ℕ → GuestState → NamedFiles → Outcome
+  cut_reported saved guest files = record { status = Yes; text = cut_line saved (guest.steps + 1); files = files }
 
   -- an end that is answered with 0 is an exit that left the stage's output
   record Exits (saved : ℕ) (end : End) (guest : GuestState) (files : NamedFiles) : Type 0 where
     is : end ≡ Exited 0
     made : List ℕ
     there : out guest.world (output_of stage.output) ≡ Some made
-    same : outcome (told saved end guest) files ≡ cut_told saved guest files
+    same : outcome (reported saved end guest) files ≡ cut_reported saved guest files
 
   -- what an exit comes to, by whether its status is 0 and by what is at the output
   abbrev exit_plan : ℕ → ℕ → GuestState → Bool → Option (List ℕ) → Plan
@@ -87,7 +87,7 @@ module _ (stage : Stage) (every : ℕ) (prefix : List ℕ) (begun : GuestState) 
 
   by_exit : (saved status : ℕ) (guest : GuestState) (files : NamedFiles) (none : Bool) (left : Option (List ℕ)) → (status == 0) ≡ none → out guest.world (output_of stage.output) ≡ left
       → (outcome (exit_plan saved status guest none left) files).status ≡ Yes → Exits saved (Exited status) guest files
-  unfolding told
+  unfolding reported
   by_exit saved status guest files true (Some made) is there done = record {
     is = ap Exited ((Decides-eqb status 0).0 is);
     made = made;
@@ -97,8 +97,8 @@ module _ (stage : Stage) (every : ℕ) (prefix : List ℕ) (begun : GuestState) 
   by_exit saved status guest files true None is there done = absurd cc
   by_exit saved status guest files false left is there done = absurd cc
 
-  exits : (saved : ℕ) (end : End) (guest : GuestState) (files : NamedFiles) → (outcome (told saved end guest) files).status ≡ Yes → Exits saved end guest files
-  unfolding told
+  exits : (saved : ℕ) (end : End) (guest : GuestState) (files : NamedFiles) → (outcome (reported saved end guest) files).status ≡ Yes → Exits saved end guest files
+  unfolding reported
   exits saved (Exited status) guest files done = by_exit saved status guest files (status == 0) (out guest.world (output_of stage.output)) refl refl done
   exits saved (Trapped cause) guest files done = absurd cc
   exits saved (UnknownCall number) guest files done = absurd cc
@@ -115,9 +115,9 @@ module _ (stage : Stage) (every : ℕ) (prefix : List ℕ) (begun : GuestState) 
     here : (later : NamedFiles) (k : ℕ) → number ≡ k → finite.get later name ≡ Some (second_text guest) → IsSaved later k
     here later k same held = subst (IsSaved later) same (record { state = guest; reached = reached; below = below; held = held })
 
-    -- the run ended behind this state
-    ends_here : (end : End) (to : GuestState) → first_end guest (next_steps stage every guest) ≡ Some (end, to) → (outcome (told (number + 1) end to) saved).status ≡ Yes
-        → IsCutFrom number (suc left) files (outcome (told (number + 1) end to) saved)
+    -- the run ended after this state
+    ends_here : (end : End) (to : GuestState) → first_end guest (next_steps stage every guest) ≡ Some (end, to) → (outcome (reported (number + 1) end to) saved).status ≡ Yes
+        → IsCutFrom number (suc left) files (outcome (reported (number + 1) end to) saved)
     ends_here end to is done =
         let e = exits (number + 1) end to saved done in
         let none : number ≡ number + 0 = omega arith in
@@ -183,7 +183,7 @@ module _ (stage : Stage) (every : ℕ) (prefix : List ℕ) (begun : GuestState) 
       by_end : (e : Option (End × GuestState)) → first_end guest (next_steps stage every guest) ≡ e
           → (outcome (came_on stage (number + 1) e (state_after guest (next_steps stage every guest)) rest) saved).status ≡ Yes
           → IsCutFrom number (suc left) files (outcome (came_on stage (number + 1) e (state_after guest (next_steps stage every guest)) rest) saved)
-      unfolding told
+      unfolding reported
       by_end (Some (end, to)) is done = ends_here end to is done
       by_end None none done =
           let on = no_end-goes_on guest (next_steps stage every guest) none in

@@ -21,9 +21,9 @@ use Rattle.guest_run.proofs.Running.{after-counted, after-none}
 use Rattle.guest_run.proofs.RunLaws.{after-sum, first_end-sum, stays}
 use Rattle.guest_run.proofs.Validity.{after-valid}
 use Rattle.recipe.specs.declared.parts.Stage.{Stage}
-use Rattle.wheeler.specs.Stages.{by_end, by_start, contents, ending, finished, output_of, stage_result, start_stage}
-use Rattle.wheeler.specs.declared.answer.Finished.{Finished}
-use Rattle.wheeler.proofs.Endings.{ended}
+use Rattle.audit_rules.specs.Stages.{by_end, by_start, contents, ending, finished, output_of, stage_result, start_stage}
+use Rattle.audit_rules.specs.declared.answer.Finished.{Finished}
+use Rattle.audit_rules.proofs.Endings.{ended}
 use Rattle.segments.specs.Segments.{second_text}
 use Rattle.command_plan.specs.declared.status.Status.TheVariants.{Yes}
 use Rattle.command_plan.specs.Plan.{Outcome, Plan, answers, needs, outcome, unless_refused}
@@ -34,8 +34,8 @@ use Rattle.stage_commands.specs.Ends.{ends_files, ends_judged, needs_first, need
 use Rattle.stage_commands.specs.Exits.{run_failed, unless_absent}
 use Rattle.stage_commands.specs.Names.{are_stage_words, as_states, is_prefix, piece_name, within_states}
 use Rattle.stage_commands.specs.Ready.{needs_ready}
-use Rattle.stage_commands.specs.Segment.{piece_told, segment_files}
-use Rattle.stage_commands.specs.States.{end_behind, piece_of}
+use Rattle.stage_commands.specs.Segment.{piece_reported, segment_files}
+use Rattle.stage_commands.specs.States.{end_after, piece_of}
 use Rattle.stage_commands.specs.Texts.{cut_line, run_record, segment_line}
 use Rattle.stage_commands.specs.declared.ready.Ready.{Ready}
 use Rattle.stage_commands.proofs.CutWalk.{IsCutFrom, IsSaved, times_more, walk}
@@ -82,14 +82,14 @@ state_loaded files name g valid held =
 
 -- ---- what both commands come to
 
-pub segment_told : (files : NamedFiles) (a b from to : List ℕ) (steps : ℕ) → are_two_files a b ≡ true → loaded files a 4_294_967_296 ≡ Bytes from → loaded files b 4_294_967_296 ≡ Bytes to
+pub segment_reported : (files : NamedFiles) (a b from to : List ℕ) (steps : ℕ) → are_two_files a b ≡ true → loaded files a 4_294_967_296 ≡ Bytes from → loaded files b 4_294_967_296 ≡ Bytes to
     → piece_of from to ≡ Ok steps → segment_over a b files ≡ record { status = Yes; text = segment_line steps; files = files }
 unfolding segment_files
-segment_told files a b from to steps two first second piece =
+segment_reported files a b from to steps two first second piece =
     ap (λ t. outcome (cond t (segment_files a b) usage) files) two
-    ∙ follows_load a 4_294_967_296 (λ former. needs b 4_294_967_296 (λ latter. piece_told (piece_of former latter))) files from first
-    ∙ follows_load b 4_294_967_296 (λ latter. piece_told (piece_of from latter)) files to second
-    ∙ ap (λ r. outcome (piece_told r) files) piece
+    ∙ follows_load a 4_294_967_296 (λ former. needs b 4_294_967_296 (λ latter. piece_reported (piece_of former latter))) files from first
+    ∙ follows_load b 4_294_967_296 (λ latter. piece_reported (piece_of from latter)) files to second
+    ∙ ap (λ r. outcome (piece_reported r) files) piece
 
 -- a run that exits with 0 and leaves the output is the bench's own, where that has the stage done
 pub is_benched : (ready : Ready) (of : Stage) (begun end : GuestState) → start_stage ready.recipe (contents ready.inputs ready.done) of ≡ Ok begun
@@ -101,7 +101,7 @@ is_benched ready of begun end starts exits made left f result =
     let e = ended ready.recipe ready.inputs ready.done of (Exited 0) end f (sym comes ∙ result) in
     e.is ∙ ap (finished (end.steps + 1) end.world) (same_Some e.made made (sym e.there ∙ left))
 
--- the stage's start and the state behind which the run exits
+-- the stage's start and the state after which the run exits
 module _ (ready : Ready) (of : Stage) (there : slice_get ready.recipe.stages (length ready.done) ≡ Some of) (begun from end : GuestState)
     (starts : start_stage ready.recipe (contents ready.inputs ready.done) of ≡ Ok begun) (good : IsValid begun) (fresh : begun.steps ≡ 0)
     (valid : IsValid from) (small : from.steps < 2 ^ 64) (ends : first_end from (of.steps - from.steps) ≡ Some (Exited 0, end))
@@ -109,19 +109,19 @@ module _ (ready : Ready) (of : Stage) (there : slice_get ready.recipe.stages (le
   abbrev record_text : List ℕ
   record_text = run_record of.name (finished (end.steps + 1) end.world made)
 
-  behind : needs_last of (end_behind (second_text from) of.steps) ≡ answers Yes record_text
-  behind =
+  following : needs_last of (end_after (second_text from) of.steps) ≡ answers Yes record_text
+  following =
       ap (needs_last of) (an_end (second_text from) of.steps from end (Exited 0) (of_text from valid small) ends)
       ∙ ap (λ o. unless_refused (unless_absent o) (λ cause. run_failed of cause (end.steps + 1))
       (λ made. answers Yes (run_record of.name (finished (end.steps + 1) end.world made)))) left
 
   both_judged : ends_judged ready (second_text begun) (second_text from) ≡ answers Yes record_text
   both_judged =
-      let next : Plan = needs_last of (end_behind (second_text from) of.steps) in
+      let next : Plan = needs_last of (end_after (second_text from) of.steps) in
       judged_one ready (second_text begun) (second_text from) of there
       ∙ (λ i. needs_first of (starts i) (text_said begun good (omega (arith, fresh)) i) next)
       ∙ ap (λ difference. unless_other_start difference next) (first_difference-same (second_text begun))
-      ∙ behind
+      ∙ following
 
 module _ (recipe stage every prefix : List ℕ) (files : NamedFiles) (bytes : (name content : List ℕ) → finite.get files name ≡ Some content → All (λ byte. byte < 256) content)
     (steps : ℕ) (steps_are : as_steps every ≡ Some steps) (words : are_stage_words recipe stage prefix ≡ true) where
@@ -139,8 +139,8 @@ module _ (recipe stage every prefix : List ℕ) (files : NamedFiles) (bytes : (n
     w : IsCutFrom of steps prefix begun 0 1_000 files came
     w = walk of steps prefix begun 1_000 0 begun files (omega arith) at_start v.below zeroed
 
-    behind_start : 0 + w.more ≡ w.more
-    behind_start = omega arith
+    after_start : 0 + w.more ≡ w.more
+    after_start = omega arith
 
     state : (k : ℕ) → k ≤ w.more → IsSaved of steps prefix begun came.files k
     state k le = w.states k (omega arith) (omega (arith, le))
@@ -202,7 +202,7 @@ module _ (recipe stage every prefix : List ℕ) (files : NamedFiles) (bytes : (n
         let second = state (number + 1) high in
         let on : after first.state steps ≡ Some second.state =
         sym (after-sum begun first.state (number * steps) steps first.reached) ∙ ap (after begun) (sym (times_more number steps)) ∙ second.reached in
-        segment_told came.files (piece_name prefix number) (piece_name prefix (number + 1)) (second_text first.state) (second_text second.state) steps
+        segment_reported came.files (piece_name prefix number) (piece_name prefix (number + 1)) (second_text first.state) (second_text second.state) steps
         (two_pieces prefix number is_word (omega (arith, less, w.few)))
         (state_loaded came.files (piece_name prefix number) first.state (state_valid number low) first.held)
         (state_loaded came.files (piece_name prefix (number + 1)) second.state (state_valid (number + 1) high) second.held)
@@ -221,7 +221,7 @@ module _ (recipe stage every prefix : List ℕ) (files : NamedFiles) (bytes : (n
     last_state = state w.more (omega arith)
 
     last_is : last_state.state ≡ w.from
-    last_is = same_Some last_state.state w.from (sym last_state.reached ∙ ap (λ n. after begun (n * steps)) (sym behind_start) ∙ w.reached)
+    last_is = same_Some last_state.state w.from (sym last_state.reached ∙ ap (λ n. after begun (n * steps)) (sym after_start) ∙ w.reached)
 
     first_loaded : loaded came.files (piece_name prefix 0) 4_294_967_296 ≡ Bytes (second_text begun)
     first_loaded = state_loaded came.files (piece_name prefix 0) begun v.valid (first_state.held ∙ ap (λ g. Some (second_text g)) first_is)
@@ -264,7 +264,7 @@ module _ (recipe stage every prefix : List ℕ) (files : NamedFiles) (bytes : (n
       count = w.more + 1;
       some = omega arith;
       few = omega (arith, w.few);
-      printed = w.printed ∙ ap (λ n. cut_line (n + 1) (w.end.steps + 1)) behind_start;
+      printed = w.printed ∙ ap (λ n. cut_line (n + 1) (w.end.steps + 1)) after_start;
       states = λ number less. let s = state number (omega (arith, less)) in record { state = s.state; reached = s.reached; held = s.held };
       others = λ name apart. w.others name (λ k low high. apart k (omega (arith, high)));
       pieces = piece;

@@ -10,30 +10,30 @@ use Rattle.guest_run.specs.Valid.{IsValid}
 use Rattle.guest_run.proofs.StartLaw.{starts-valid}
 use Rattle.guest_run.proofs.Starting.{starts_are}
 use Rattle.recipe.specs.Kept.{IsRecipe}
-use Rattle.recipe.specs.declared.contents.Said.{Said}
+use Rattle.recipe.specs.declared.contents.RecipeContents.{RecipeContents}
 use Rattle.recipe.specs.declared.parts.Stage.{Stage}
-use Rattle.wheeler.specs.Contents.{box_of, program_of}
-use Rattle.wheeler.specs.Positions.{On, Position, at, enter, entered, forward, todo}
-use Rattle.wheeler.specs.Stages.{by_end, by_start, contents, stage_result, start_stage}
-use Rattle.wheeler.specs.Valid.{AreDone, IsAt, IsInputs, IsPosition, IsStanding}
-use Rattle.wheeler.specs.declared.answer.Fault.{Fault}
-use Rattle.wheeler.specs.declared.answer.Finished.{Finished}
-use Rattle.wheeler.proofs.Continues.{todo-next}
-use Rattle.wheeler.proofs.GivenBoxes.{box-is, content-is}
-use Rattle.wheeler.proofs.Places.{contents-are, done-more, enter-standing, forward-standing}
-use Rattle.wheeler.proofs.Rules.{IsStage, rules}
-use Rattle.wheeler.proofs.Slices.{end-place, slice-on}
-use Rattle.audit_run.specs.Earlier.{done_in_order, unless_undone}
+use Rattle.audit_rules.specs.Contents.{box_of, program_of}
+use Rattle.audit_rules.specs.Positions.{On, Position, at, enter, entered, forward, todo}
+use Rattle.audit_rules.specs.Stages.{by_end, by_start, contents, stage_result, start_stage}
+use Rattle.audit_rules.specs.Valid.{AreDone, IsAt, IsInputs, IsPosition, IsStanding}
+use Rattle.audit_rules.specs.declared.answer.StageFault.{StageFault}
+use Rattle.audit_rules.specs.declared.answer.Finished.{Finished}
+use Rattle.audit_rules.proofs.Continues.{todo-next}
+use Rattle.audit_rules.proofs.GivenBoxes.{box-is, content-is}
+use Rattle.audit_rules.proofs.Places.{contents-are, done-more, enter-standing, forward-standing}
+use Rattle.audit_rules.proofs.Rules.{IsStage, rules}
+use Rattle.audit_rules.proofs.Slices.{end-place, slice-on}
+use Rattle.audit_run.specs.Earlier.{done_in_order, unless_unfinished}
 
 -- a position is at the stage that is next
-at_stage : (recipe : Said) (p : Position) (stage : Stage) (stages : List Stage) → IsPosition recipe p → todo recipe p.done ≡ stage ∷ stages → IsAt recipe p stage stages
+at_stage : (recipe : RecipeContents) (p : Position) (stage : Stage) (stages : List Stage) → IsPosition recipe p → todo recipe p.done ≡ stage ∷ stages → IsAt recipe p stage stages
 at_stage recipe p stage stages (other, rest, ok) left =
     subst (IsNext recipe p) (sym ok.left ∙ left) ok where
-      IsNext : Said → Position → List Stage → Type 0
+      IsNext : RecipeContents → Position → List Stage → Type 0
       IsNext recipe p [] = Unit {0}
       IsNext recipe p (s ∷ ss) = IsAt recipe p s ss
 
-module _ (recipe : Said) (inputs : List (List ℕ)) (is : IsRecipe recipe) (given : IsInputs recipe inputs) where
+module _ (recipe : RecipeContents) (inputs : List (List ℕ)) (is : IsRecipe recipe) (given : IsInputs recipe inputs) where
   starts_fresh : (done : List Finished) (stage : Stage) (guest : GuestState) → start_stage recipe (contents inputs done) stage ≡ Ok guest → guest.steps ≡ 0
   starts_fresh done stage guest = starts_are (program_of recipe (contents inputs done) stage) (box_of recipe (contents inputs done) stage) guest
 
@@ -64,8 +64,8 @@ module _ (recipe : Said) (inputs : List (List ℕ)) (is : IsRecipe recipe) (give
   all_done (stage ∷ stages) rest done out are left made =
       by (λ d. all_done stages rest d out) (stage_result recipe inputs done stage) refl made where
         by : ((d : List Finished) → AreDone recipe d → todo recipe d ≡ stages ++ rest → done_in_order recipe inputs d stages ≡ Ok out → AreDone recipe out)
-            → (r : Result Finished Fault) → stage_result recipe inputs done stage ≡ r
-            → unless_undone (suc (length done)) r (λ f. done_in_order recipe inputs (done ++ f ∷ []) stages) ≡ Ok out → AreDone recipe out
+            → (r : Result Finished StageFault) → stage_result recipe inputs done stage ≡ r
+            → unless_unfinished (suc (length done)) r (λ f. done_in_order recipe inputs (done ++ f ∷ []) stages) ≡ Ok out → AreDone recipe out
         by later (Err fault) was made = absurd cc
         by later (Ok f) was made =
             later (done ++ f ∷ []) (one_done done stage (stages ++ rest) are left f was) (todo-next recipe done f stage (stages ++ rest) left) made
@@ -74,7 +74,7 @@ module _ (recipe : Said) (inputs : List (List ℕ)) (is : IsRecipe recipe) (give
   earlier_done count out made =
       all_done (take count recipe.stages) (drop count recipe.stages) [] out (record { each = tt; small = omega arith }) (sym (take-append-drop count recipe.stages)) made
 
-  -- the stage behind them
+  -- the stage after them
   pub record StartsValid (stage : Stage) (guest : GuestState) : Type 0 where
     pub valid : IsValid guest
     pub fresh : guest.steps ≡ 0

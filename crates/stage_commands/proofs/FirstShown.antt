@@ -19,8 +19,8 @@ use Rattle.stage_commands.proofs.Reading.{is_read, reads}
 use Rattle.stage_commands.proofs.StatesRead.{is_read_valid, no_difference, one_text}
 
 module _ (stage : Stage) (program : List ℕ) (setting : Setting) (text : List ℕ) where
-  pub first_told : (next : Plan) → BeginsWith program setting text → needs_first stage (start_of program setting) (state_said text) next ≡ next
-  first_told next b =
+  pub first_reported : (next : Plan) → BeginsWith program setting text → needs_first stage (start_of program setting) (state_said text) next ≡ next
+  first_reported next b =
       (λ i. needs_first stage (b.starts i) (is_read text (Ok b.guest) b.is i) next)
       ∙ ap (λ difference. unless_other_start difference next) (first_difference-same (second_text b.guest))
 

@@ -6,10 +6,10 @@ use Rattle.guest_run.specs.Setting.{Setting}
 use Rattle.guest_run.specs.Start.{Refusal, start_of}
 use Rattle.guest_run.specs.State.{GuestState}
 use Rattle.recipe.specs.declared.parts.Stage.{Stage}
-use Rattle.wheeler.specs.Stages.{contents, start_cause, start_stage}
-use Rattle.wheeler.specs.declared.cause.RunCause.TheVariants as run
-use Rattle.wheeler.specs.declared.cause.StartCause.{StartCause}
-use Rattle.wheeler.specs.declared.cause.StartCause.TheVariants as start
+use Rattle.audit_rules.specs.Stages.{contents, start_cause, start_stage}
+use Rattle.audit_rules.specs.declared.cause.RunCause.TheVariants as run
+use Rattle.audit_rules.specs.declared.cause.StartCause.{StartCause}
+use Rattle.audit_rules.specs.declared.cause.StartCause.TheVariants as start
 use Rattle.audit_run.specs.Stage.Begins.{Begins}
 use Rattle.segments.specs.Faults.{start_refusal_of, state_fault_number}
 use Rattle.segments.specs.Segments.{BeginsOtherwise, BeginsWith, IsNoState, second_text}
@@ -26,7 +26,7 @@ use Rattle.command_plan.specs.Words.{or_usage, usage}
 use Rattle.stage_commands.specs.Cut.{cut_from, cut_ready}
 use Rattle.stage_commands.specs.Ends.{ends_judged, needs_first, needs_last, unless_other_start}
 use Rattle.stage_commands.specs.Exits.{run_failed}
-use Rattle.stage_commands.specs.States.{end_behind, state_said}
+use Rattle.stage_commands.specs.States.{end_after, state_said}
 use Rattle.stage_commands.specs.Texts.{other_first_line, refuted_first_line}
 use Rattle.stage_commands.specs.declared.ready.Ready.{Ready}
 use Rattle.stage_commands.proofs.Reading.{is_read}
@@ -38,7 +38,7 @@ says_same {result = result} is said = subst (λ p. Says p result) (sym is) said
 pub performs_same : {plan other : Plan} {old new : ShelfState} {result : Result Answer Stop} → plan ≡ other → Performs other old new result → Performs plan old new result
 performs_same {old = old} {new} {result} is performed = subst (λ p. Performs p old new result) (sym is) performed
 
--- ---- the stage behind those that are done
+-- ---- the stage after those that are done
 
 module _ (every : ℕ) (prefix : List ℕ) (ready : Ready) where
   pub cut_none : slice_get ready.recipe.stages (length ready.done) ≡ None → cut_ready every prefix ready ≡ usage
@@ -61,13 +61,13 @@ module _ (ready : Ready) (first last : List ℕ) where
   pub judged_none : slice_get ready.recipe.stages (length ready.done) ≡ None → ends_judged ready first last ≡ usage
   unfolding ends_judged
   judged_none none =
-      ap (λ f. or_usage f (λ stage. needs_first stage (start_stage ready.recipe (contents ready.inputs ready.done) stage) (state_said first) (needs_last stage (end_behind last stage.steps)))) none
+      ap (λ f. or_usage f (λ stage. needs_first stage (start_stage ready.recipe (contents ready.inputs ready.done) stage) (state_said first) (needs_last stage (end_after last stage.steps)))) none
 
   pub judged_one : (stage : Stage) → slice_get ready.recipe.stages (length ready.done) ≡ Some stage
-      → ends_judged ready first last ≡ needs_first stage (start_stage ready.recipe (contents ready.inputs ready.done) stage) (state_said first) (needs_last stage (end_behind last stage.steps))
+      → ends_judged ready first last ≡ needs_first stage (start_stage ready.recipe (contents ready.inputs ready.done) stage) (state_said first) (needs_last stage (end_after last stage.steps))
   unfolding ends_judged
   judged_one stage there =
-      ap (λ f. or_usage f (λ stage. needs_first stage (start_stage ready.recipe (contents ready.inputs ready.done) stage) (state_said first) (needs_last stage (end_behind last stage.steps)))) there
+      ap (λ f. or_usage f (λ stage. needs_first stage (start_stage ready.recipe (contents ready.inputs ready.done) stage) (state_said first) (needs_last stage (end_after last stage.steps)))) there
 
 -- ---- the first text
 

@@ -15,23 +15,23 @@ use Rattle.guest_run.specs.State.{GuestState}
 use Rattle.recipe.specs.Kept.{IsOutput, IsRecipe}
 use Rattle.recipe.specs.Lookups.{stage_at}
 use Rattle.recipe.specs.Reading.{recipe_of}
-use Rattle.recipe.specs.declared.contents.Said.{Said}
+use Rattle.recipe.specs.declared.contents.RecipeContents.{RecipeContents}
 use Rattle.recipe.specs.declared.parts.Output.{Output}
 use Rattle.recipe.specs.declared.parts.Output.TheVariants.{Stream, File}
 use Rattle.recipe.specs.declared.parts.Stage.{Stage}
 use Rattle.recipe.specs.declared.text.refusal.RecipeRefusal.{RecipeRefusal}
 use Rattle.recipe.proofs.Keeps.{reads_keep}
-use Rattle.wheeler.specs.Stages.{by_end, by_start, contents, ending, finished, output_of, stage_result, start_stage}
-use Rattle.wheeler.specs.declared.answer.Fault.TheVariants.{Runs, Checks}
-use Rattle.wheeler.specs.declared.answer.Fault.{Fault}
-use Rattle.wheeler.specs.declared.answer.Finished.{Finished}
-use Rattle.wheeler.proofs.Endings.{ended}
+use Rattle.audit_rules.specs.Stages.{by_end, by_start, contents, ending, finished, output_of, stage_result, start_stage}
+use Rattle.audit_rules.specs.declared.answer.StageFault.TheVariants.{Runs, Checks}
+use Rattle.audit_rules.specs.declared.answer.StageFault.{StageFault}
+use Rattle.audit_rules.specs.declared.answer.Finished.{Finished}
+use Rattle.audit_rules.proofs.Endings.{ended}
 use Rattle.audit_run.specs.Earlier.{done_in_order}
-use Rattle.audit_run.specs.declared.earlier.Undone.{Undone}
+use Rattle.audit_run.specs.declared.earlier.Unfinished.{Unfinished}
 use Rattle.command_plan.specs.declared.status.Status.TheVariants.{RecipeRefused, Yes}
 use Rattle.command_plan.specs.Plan.{Plan, answers, needs, needs_all, outcome, unless_refused}
 use Rattle.command_plan.specs.Words.{or_usage, usage}
-use Rattle.recipe_plan.specs.NotDone.{undone}
+use Rattle.recipe_plan.specs.NotDone.{unfinished}
 use Rattle.recipe_plan.specs.Recipes.{is_input, needs_apart, needs_inputs, paths, reads_recipe}
 use Rattle.recipe_plan.specs.Texts.{recipe_line}
 use Rattle.stage_commands.specs.Begun.{IsBegun}
@@ -62,7 +62,7 @@ asked w (File path) is =
 
 -- ---- the run
 
-module _ (recipe : Said) (inputs : List (List ℕ)) (done : List Finished) (stage : Stage) (fits : IsOutput stage.output) (out_file : List ℕ) (files : NamedFiles) (f : Finished) where
+module _ (recipe : RecipeContents) (inputs : List (List ℕ)) (done : List Finished) (stage : Stage) (fits : IsOutput stage.output) (out_file : List ℕ) (files : NamedFiles) (f : Finished) where
   abbrev word : List ℕ
   word = output_word stage.output
 
@@ -112,9 +112,9 @@ module _ (recipe stage out_file : List ℕ) (files : NamedFiles) where
     found : (next : Ready → Plan) → outcome (front next) files ≡ outcome (next ready) files
 
   -- a part more before it
-  behind : (front rest : (Ready → Plan) → Plan) (next : Ready → Plan) → ((n : Ready → Plan) → outcome (front n) files ≡ outcome (rest n) files)
+  following : (front rest : (Ready → Plan) → Plan) (next : Ready → Plan) → ((n : Ready → Plan) → outcome (front n) files ≡ outcome (rest n) files)
       → (IsYes (rest next) files → Front rest) → IsYes (front next) files → Front front
-  behind front rest next same finds zeroed =
+  following front rest next same finds zeroed =
       let r = finds (yes_as (front next) (rest next) files (same next) zeroed) in
       record { ready = r.ready; begins = r.begins; found = λ n. same n ∙ r.found n }
 
@@ -139,45 +139,45 @@ module _ (recipe stage out_file : List ℕ) (files : NamedFiles) where
       }
 
   -- what follows each part
-  abbrev with_inputs : Said → ℕ → List (List ℕ) → (Ready → Plan) → Plan
+  abbrev with_inputs : RecipeContents → ℕ → List (List ℕ) → (Ready → Plan) → Plan
   with_inputs said count inputs n = needs_earlier said inputs count (λ done. n (record { recipe = said; inputs = inputs; done = done }))
 
-  abbrev with_out : Said → ℕ → (Ready → Plan) → Plan
+  abbrev with_out : RecipeContents → ℕ → (Ready → Plan) → Plan
   with_out said count n = needs_inputs said (λ inputs. with_inputs said count inputs n)
 
-  abbrev with_count : Said → ℕ → (Ready → Plan) → Plan
+  abbrev with_count : RecipeContents → ℕ → (Ready → Plan) → Plan
   with_count said count n = needs_apart said out_file (λ _. with_out said count n)
 
-  abbrev with_said : Said → (Ready → Plan) → Plan
+  abbrev with_said : RecipeContents → (Ready → Plan) → Plan
   with_said said n = needs_stage said stage (λ count. with_count said count n)
 
   abbrev with_text : List ℕ → (Ready → Plan) → Plan
   with_text text n = reads_recipe text (λ said. with_said said n)
 
-  never_undone : (said : Said) (number : ℕ) (fault : Fault) → IsYes (undone said number fault) files → ⊥
-  never_undone said number (Runs cause step) zeroed = cc
-  never_undone said number (Checks cause) zeroed = cc
+  never_unfinished : (said : RecipeContents) (number : ℕ) (fault : StageFault) → IsYes (unfinished said number fault) files → ⊥
+  never_unfinished said number (Runs cause step) zeroed = cc
+  never_unfinished said number (Checks cause) zeroed = cc
 
   module _ (next : Ready → Plan) (text : List ℕ) (held : loaded files recipe 1_048_576 ≡ Bytes text) where
-    module _ (said : Said) (reads : recipe_of text ≡ Ok said) where
+    module _ (said : RecipeContents) (reads : recipe_of text ≡ Ok said) where
       module _ (count : ℕ) (place : stage_at said.stages stage ≡ Some count) where
         from_inputs : (inputs : List (List ℕ)) → map (λ path. finite.get files path) (paths said) ≡ map Some inputs → IsYes (with_inputs said count inputs next) files
             → Front (with_inputs said count inputs)
         from_inputs inputs given zeroed = by (done_in_order said inputs [] (take count said.stages)) refl zeroed where
-          by : (ran : Result (List Finished) Undone) → done_in_order said inputs [] (take count said.stages) ≡ ran
-              → IsYes (unless_refused ran (λ not_done. undone said not_done.stage not_done.fault) (λ done. next (record { recipe = said; inputs = inputs; done = done }))) files
-              → Front (λ n. unless_refused ran (λ not_done. undone said not_done.stage not_done.fault) (λ done. n (record { recipe = said; inputs = inputs; done = done })))
+          by : (ran : Result (List Finished) Unfinished) → done_in_order said inputs [] (take count said.stages) ≡ ran
+              → IsYes (unless_refused ran (λ not_done. unfinished said not_done.stage not_done.fault) (λ done. next (record { recipe = said; inputs = inputs; done = done }))) files
+              → Front (λ n. unless_refused ran (λ not_done. unfinished said not_done.stage not_done.fault) (λ done. n (record { recipe = said; inputs = inputs; done = done })))
           by (Ok done) made zeroed = record {
             ready = record { recipe = said; inputs = inputs; done = done };
             begins = begun_of recipe stage files text said count inputs done held reads place given made;
             found = λ n. refl;
           }
-          by (Err not_done) made zeroed = absurd (never_undone said not_done.stage not_done.fault zeroed)
+          by (Err not_done) made zeroed = absurd (never_unfinished said not_done.stage not_done.fault zeroed)
 
         from_out : IsYes (with_out said count next) files → Front (with_out said count)
         from_out zeroed =
             let inputs = all_given (paths said) 1_073_741_824 (λ inputs. with_inputs said count inputs next) zeroed in
-            behind (with_out said count) (with_inputs said count inputs.contents) next (λ n. inputs.found (λ inputs. with_inputs said count inputs n))
+            following (with_out said count) (with_inputs said count inputs.contents) next (λ n. inputs.found (λ inputs. with_inputs said count inputs n))
             (from_inputs inputs.contents inputs.held) zeroed
 
         from_count : IsYes (with_count said count next) files → Front (with_count said count)
@@ -196,7 +196,7 @@ module _ (recipe stage out_file : List ℕ) (files : NamedFiles) where
 
     from_text : IsYes (with_text text next) files → Front (with_text text)
     from_text zeroed = by (recipe_of text) refl zeroed where
-      by : (reading : Result Said RecipeRefusal) → recipe_of text ≡ reading
+      by : (reading : Result RecipeContents RecipeRefusal) → recipe_of text ≡ reading
           → IsYes (unless_refused reading (λ refusal. answers RecipeRefused (recipe_line refusal)) (λ said. with_said said next)) files
           → Front (λ n. unless_refused reading (λ refusal. answers RecipeRefused (recipe_line refusal)) (λ said. with_said said n))
       by (Ok said) reads zeroed = from_said said reads zeroed
@@ -205,10 +205,10 @@ module _ (recipe stage out_file : List ℕ) (files : NamedFiles) where
   from_recipe : (next : Ready → Plan) → IsYes (needs_left recipe stage out_file next) files → Front (needs_left recipe stage out_file)
   from_recipe next zeroed =
       let text = load_found recipe 1_048_576 (λ t. with_text t next) files zeroed in
-      behind (needs_left recipe stage out_file) (with_text text.0) next (λ n. follows_load recipe 1_048_576 (λ t. with_text t n) files text.0 text.1)
+      following (needs_left recipe stage out_file) (with_text text.0) next (λ n. follows_load recipe 1_048_576 (λ t. with_text t n) files text.0 text.1)
       (from_text next text.0 text.1) zeroed
 
-  -- the stage behind those that are done
+  -- the stage after those that are done
   run_there : (file : List ℕ) (r : Front (needs_left recipe stage out_file)) → IsYes (left_of_stage r.ready.recipe r.ready.inputs r.ready.done file out_file) files
       → LeftRun recipe stage out_file files
   unfolding left_of_stage

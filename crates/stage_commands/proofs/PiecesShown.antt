@@ -15,7 +15,7 @@ use Rattle.segments.specs.Segments.{AreTwoStates, ChecksPiece, EndsWith, IsRunsE
 use Rattle.segments.specs.declared.answers.StateFault.{StateFault}
 use Rattle.segments.specs.declared.answers.SegmentFault.{SegmentFault}
 use Rattle.stage_commands.specs.Checked.{EndShows, run_end}
-use Rattle.stage_commands.specs.States.{ReadsAs, between_states, end_behind, end_from, piece_answer, piece_of, reached_by, state_after, state_said, unless_other}
+use Rattle.stage_commands.specs.States.{ReadsAs, between_states, end_after, end_from, piece_answer, piece_of, reached_by, state_after, state_said, unless_other}
 use Rattle.stage_commands.proofs.Reading.{an_end, no_end, no_state, reads}
 use Rattle.stage_commands.proofs.StatesRead.{IsRead, is_read_valid, no_difference, one_text}
 
@@ -81,8 +81,8 @@ module _ (text : List ℕ) (limit : ℕ) where
   unfolding first_end
   nothing_left from over = let none : limit - from.steps ≡ 0 = omega (arith, over) in ap (first_end from) none
 
-  pub end_shown : EndShows text limit (end_behind text limit)
-  unfolding end_behind
+  pub end_shown : EndShows text limit (end_after text limit)
+  unfolding end_after
   end_shown = by (state_said text) (reads text) where
     ended : (from : GuestState) → IsStateOf text from → (e : Option (End × GuestState)) → first_end from (limit - from.steps) ≡ e → EndShows text limit (Ok e)
     ended from is None none = record { from = from; is = is; over = inr none }
@@ -99,9 +99,9 @@ module _ (text : List ℕ) (limit : ℕ) where
     by (Err why) is = is
     by (Ok from) is = ended from is (first_end from (limit - from.steps)) refl
 
-  pub end_told : (result : Result (Option (End × GuestState)) StateFault) → EndShows text limit result → end_behind text limit ≡ result
-  end_told (Err why) is = no_state text limit why is
-  end_told (Ok None) goes = no_end text limit goes
-  end_told (Ok (Some (Exited status, guest))) e = an_end text limit e.from guest (Exited status) e.is e.ends
-  end_told (Ok (Some (Trapped cause, guest))) e = an_end text limit e.from guest (Trapped cause) e.is e.ends
-  end_told (Ok (Some (UnknownCall number, guest))) e = an_end text limit e.from guest (UnknownCall number) e.is e.ends
+  pub end_reported : (result : Result (Option (End × GuestState)) StateFault) → EndShows text limit result → end_after text limit ≡ result
+  end_reported (Err why) is = no_state text limit why is
+  end_reported (Ok None) goes = no_end text limit goes
+  end_reported (Ok (Some (Exited status, guest))) e = an_end text limit e.from guest (Exited status) e.is e.ends
+  end_reported (Ok (Some (Trapped cause, guest))) e = an_end text limit e.from guest (Trapped cause) e.is e.ends
+  end_reported (Ok (Some (UnknownCall number, guest))) e = an_end text limit e.from guest (UnknownCall number) e.is e.ends

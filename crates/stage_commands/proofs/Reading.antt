@@ -4,7 +4,7 @@ use Rattle.std.specs.Prelude.{nat_lt}
 use Rattle.std.proofs.lemmas.Bool.Decides.{Decides-ltb}
 use Rattle.ddc_base.specs.Difference.{first_difference}
 use Rattle.ddc_base.proofs.Differences.{first_difference-same}
-use Rattle.save_text.specs.StateText.StateText.{StateText, parsed_state}
+use Rattle.save_format.specs.StateText.StateText.{StateText, parsed_state}
 use Rattle.checkpoints.specs.Inside.Tests as test
 use Rattle.checkpoints.proofs.Decided.{is_in_range, is_joined}
 use Rattle.checkpoints.proofs.Decisions.{by_case, chosen, is_at_most, passed}
@@ -16,7 +16,7 @@ use Rattle.segments.specs.declared.answers.StateFault.{StateFault}
 use Rattle.segments.specs.declared.answers.StateFault.TheVariants.{Form, Range, FileRef}
 use Rattle.segments.specs.declared.answers.SegmentFault.{SegmentFault}
 use Rattle.segments.specs.declared.answers.SegmentFault.TheVariants.{From, To, NotLater, TooFar, EndsAt, Differs}
-use Rattle.stage_commands.specs.States.{ReadsAs, along, piece_answer, between_states, end_behind, end_from, piece_of, reached_by, said_by, state_said, unless_other}
+use Rattle.stage_commands.specs.States.{ReadsAs, along, piece_answer, between_states, end_after, end_from, piece_of, reached_by, said_by, state_said, unless_other}
 
 -- ---- one text
 
@@ -73,39 +73,39 @@ last_none : (from to : List ℕ) (guest : GuestState) (why : StateFault) → IsS
 unfolding piece_of
 last_none from to guest why there is = λ i. between_states (is_read from (Ok guest) there i) (is_read to (Err why) is i)
 
-pub is_told : (from to : List ℕ) (result : Result ℕ SegmentFault) → ChecksPiece from to (piece_answer result) → piece_of from to ≡ result
-is_told from to (Ok steps) s =
+pub is_reported : (from to : List ℕ) (result : Result ℕ SegmentFault) → ChecksPiece from to (piece_answer result) → piece_of from to ≡ result
+is_reported from to (Ok steps) s =
     let piece = s.piece in
     let count : s.states.last.steps - s.states.first.steps ≡ steps = omega (arith, piece.counted) in
     reached from to s.states s.states.last (omega (arith, piece.counted, piece.some)) (omega (arith, piece.counted, s.near)) (ap (after s.states.first) count ∙ piece.reached)
     ∙ ap (unless_other (s.states.last.steps - s.states.first.steps)) (first_difference-same (second_text s.states.last))
     ∙ ap Ok count
-is_told from to (Err (From why)) is = first_none from to why is
-is_told from to (Err (To why)) (first, is) = last_none from to first.0 why first.1 is
-is_told from to (Err NotLater) (states, le) =
+is_reported from to (Err (From why)) is = first_none from to why is
+is_reported from to (Err (To why)) (first, is) = last_none from to first.0 why first.1 is
+is_reported from to (Err NotLater) (states, le) =
     both_read from to states ∙ chosen (nat_le states.last.steps states.first.steps) (is_at_most states.last.steps states.first.steps) _ _ le
-is_told from to (Err TooFar) (states, far) =
+is_reported from to (Err TooFar) (states, far) =
     let less : states.first.steps < states.last.steps = omega (arith, far) in
     later from to states less
     ∙ chosen (nat_lt (2 ^ 48) (states.last.steps - states.first.steps)) (Decides-ltb (2 ^ 48) (states.last.steps - states.first.steps)) _ _ (omega (arith, far))
-is_told from to (Err (EndsAt step)) e =
+is_reported from to (Err (EndsAt step)) e =
     near from to e.at.states e.at.later e.at.near
     ∙ ap (reached_by (e.at.states.last.steps - e.at.states.first.steps) e.at.states.first e.at.states.last) e.ends
     ∙ ap (λ n. Err (EndsAt n)) (sym e.step_is)
-is_told from to (Err (Differs offset)) d =
+is_reported from to (Err (Differs offset)) d =
     reached from to d.at.states d.guest d.at.later d.at.near d.reached
     ∙ ap (unless_other (d.at.states.last.steps - d.at.states.first.steps)) d.differs
 
--- ---- the end behind a text
+-- ---- the end after a text
 
 module _ (text : List ℕ) (limit : ℕ) where
-  pub no_state : (why : StateFault) → IsNoState text why → end_behind text limit ≡ Err why
-  unfolding end_behind
+  pub no_state : (why : StateFault) → IsNoState text why → end_after text limit ≡ Err why
+  unfolding end_after
   no_state why is = ap (λ r. end_from r limit) (is_read text (Err why) is)
 
   pub an_end : (from guest : GuestState) (end : End) → IsStateOf text from → first_end from (limit - from.steps) ≡ Some (end, guest)
-      → end_behind text limit ≡ Ok (Some (end, guest))
-  unfolding end_behind
+      → end_after text limit ≡ Ok (Some (end, guest))
+  unfolding end_after
   an_end from guest end is ends = ap (λ r. end_from r limit) (is_read text (Ok from) is) ∙ ap Ok ends
 
   none_at : (from : GuestState) → (limit ≤ from.steps) ⊎ (first_end from (limit - from.steps) ≡ None) → first_end from (limit - from.steps) ≡ None
@@ -113,6 +113,6 @@ module _ (text : List ℕ) (limit : ℕ) where
   none_at from (inl over) = let none : limit - from.steps ≡ 0 = omega (arith, over) in ap (first_end from) none
   none_at from (inr none) = none
 
-  pub no_end : GoesOnFrom text limit → end_behind text limit ≡ Ok None
-  unfolding end_behind
+  pub no_end : GoesOnFrom text limit → end_after text limit ≡ Ok None
+  unfolding end_after
   no_end g = ap (λ r. end_from r limit) (is_read text (Ok g.from) g.is) ∙ ap Ok (none_at g.from g.over)

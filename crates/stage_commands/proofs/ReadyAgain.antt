@@ -16,17 +16,17 @@ use Rattle.mem_files.specs.Outputs.{IsContent}
 use Rattle.recipe.specs.Kept.{IsRecipe}
 use Rattle.recipe.specs.Lookups.{stage_at}
 use Rattle.recipe.specs.Reading.{recipe_of}
-use Rattle.recipe.specs.declared.contents.Said.{Said}
+use Rattle.recipe.specs.declared.contents.RecipeContents.{RecipeContents}
 use Rattle.recipe.specs.declared.parts.Input.{Input}
 use Rattle.recipe.specs.declared.text.refusal.RecipeRefusal.{RecipeRefusal}
 use Rattle.recipe.proofs.Keeps.{reads_keep}
-use Rattle.wheeler.specs.Valid.{AreDone, IsInputs}
-use Rattle.wheeler.specs.declared.answer.Fault.{Fault}
-use Rattle.wheeler.specs.declared.answer.Fault.TheVariants.{Runs, Checks}
-use Rattle.wheeler.specs.declared.answer.Finished.{Finished}
+use Rattle.audit_rules.specs.Valid.{AreDone, IsInputs}
+use Rattle.audit_rules.specs.declared.answer.StageFault.{StageFault}
+use Rattle.audit_rules.specs.declared.answer.StageFault.TheVariants.{Runs, Checks}
+use Rattle.audit_rules.specs.declared.answer.Finished.{Finished}
 use Rattle.audit_run.specs.Earlier.{done_in_order}
-use Rattle.audit_run.specs.declared.earlier.Undone.{Undone}
-use Rattle.recipe_plan.specs.NotDone.{undone}
+use Rattle.audit_run.specs.declared.earlier.Unfinished.{Unfinished}
+use Rattle.recipe_plan.specs.NotDone.{unfinished}
 use Rattle.stage_commands.specs.Begun.{IsBegun}
 use Rattle.stage_commands.specs.Earlier.{needs_earlier, needs_stage}
 use Rattle.command_plan.specs.declared.status.Status.TheVariants.{FileRefused, RecipeRefused, Yes}
@@ -108,7 +108,7 @@ other_is : (recipe name : List ℕ) (next : Unit {0} → Plan) → needs_other r
 unfolding needs_other
 other_is recipe name next = refl
 
-apart_is : (said : Said) (name : List ℕ) (next : Unit {0} → Plan) → needs_apart said name next ≡ cond (is_input said name) usage (next tt)
+apart_is : (said : RecipeContents) (name : List ℕ) (next : Unit {0} → Plan) → needs_apart said name next ≡ cond (is_input said name) usage (next tt)
 unfolding needs_apart
 apart_is said name next = refl
 
@@ -139,17 +139,17 @@ module _ (prefix : List ℕ) (files : NamedFiles) (bytes : (name content : List 
   all_given path [] room next apart zeroed = record { contents = []; held = refl; found = λ later alike n. refl; many = refl; each = All-nil IsContent }
   all_given path (value ∷ values) room next apart zeroed =
       let limit : ℕ = min 268_435_456 room in
-      let behind : List ℕ → (List (List ℕ) → Plan) → Plan = λ c n. needs_all 268_435_456 (room - length c) (map path values) (λ contents. n (c ∷ contents)) in
-      let l = load_found (path value) limit (λ c. behind c next) files zeroed in
+      let following : List ℕ → (List (List ℕ) → Plan) → Plan = λ c n. needs_all 268_435_456 (room - length c) (map path values) (λ contents. n (c ∷ contents)) in
+      let l = load_found (path value) limit (λ c. following c next) files zeroed in
       let parts = λ (k : ℕ) (few : k < 1_000). first_apart (is_one_file (path value) (piece_name prefix k)) (list_any (λ v. is_one_file (path v) (piece_name prefix k)) values) (apart k few) in
       let rest = all_given path values (room - length l.0) (λ contents. next (l.0 ∷ contents)) (λ k few. (parts k few).1)
-      (yes_as (needs (path value) limit (λ c. behind c next)) (behind l.0 next) files (follows_load (path value) limit (λ c. behind c next) files l.0 l.1) zeroed) in
+      (yes_as (needs (path value) limit (λ c. following c next)) (following l.0 next) files (follows_load (path value) limit (λ c. following c next) files l.0 l.1) zeroed) in
       let held = within_limit limit (finite.get files (path value)) l.0 l.1 in
       record {
         contents = l.0 ∷ rest.contents;
         held = λ i. held.0 i ∷ rest.held i;
         found = λ later alike n.
-            follows_load (path value) limit (λ c. behind c n) later l.0 (loaded_again later alike (path value) limit (λ k few. (parts k few).0) ∙ l.1)
+            follows_load (path value) limit (λ c. following c n) later l.0 (loaded_again later alike (path value) limit (λ k few. (parts k few).0) ∙ l.1)
             ∙ rest.found later alike (λ contents. n (l.0 ∷ contents));
         many = omega (arith, rest.many);
         each = All-cons IsContent l.0 rest.contents (record { bytes = bytes (path value) l.0 held.0; small = le_trans held.1 (min-le_left 268_435_456 room) }) rest.each;
@@ -173,19 +173,19 @@ module _ (prefix : List ℕ) (files : NamedFiles) (bytes : (name content : List 
         record { ready = r.ready; begins = r.begins; is = r.is; given = r.given; done = r.done; found = λ later alike n. same later alike n ∙ r.found later alike n }
 
     -- what follows each part
-    abbrev with_done : Said → List (List ℕ) → (Ready → Plan) → List Finished → Plan
+    abbrev with_done : RecipeContents → List (List ℕ) → (Ready → Plan) → List Finished → Plan
     with_done said inputs n done = n (record { recipe = said; inputs = inputs; done = done })
 
-    abbrev with_inputs : Said → ℕ → List (List ℕ) → (Ready → Plan) → Plan
+    abbrev with_inputs : RecipeContents → ℕ → List (List ℕ) → (Ready → Plan) → Plan
     with_inputs said count inputs n = needs_earlier said inputs count (with_done said inputs n)
 
-    abbrev with_names : Said → ℕ → (Ready → Plan) → Plan
+    abbrev with_names : RecipeContents → ℕ → (Ready → Plan) → Plan
     with_names said count n = needs_inputs said (λ inputs. with_inputs said count inputs n)
 
-    abbrev with_count : Said → ℕ → (Ready → Plan) → Plan
+    abbrev with_count : RecipeContents → ℕ → (Ready → Plan) → Plan
     with_count said count n = each_name (needs_apart said) prefix 1_000 (λ _. with_names said count n)
 
-    abbrev with_said : Said → (Ready → Plan) → Plan
+    abbrev with_said : RecipeContents → (Ready → Plan) → Plan
     with_said said n = needs_stage said stage (λ count. with_count said count n)
 
     abbrev with_text : List ℕ → (Ready → Plan) → Plan
@@ -194,16 +194,16 @@ module _ (prefix : List ℕ) (files : NamedFiles) (bytes : (name content : List 
     abbrev with_recipe : (Ready → Plan) → Plan
     with_recipe n = needs_recipe recipe (λ said. with_said said n)
 
-    abbrev refuses_stage : Said → Undone → Plan
-    refuses_stage said not_done = undone said not_done.stage not_done.fault
+    abbrev refuses_stage : RecipeContents → Unfinished → Plan
+    refuses_stage said not_done = unfinished said not_done.stage not_done.fault
 
-    never_undone : (said : Said) (number : ℕ) (fault : Fault) → IsYes (undone said number fault) files → ⊥
-    never_undone said number (Runs cause step) zeroed = cc
-    never_undone said number (Checks cause) zeroed = cc
+    never_unfinished : (said : RecipeContents) (number : ℕ) (fault : StageFault) → IsYes (unfinished said number fault) files → ⊥
+    never_unfinished said number (Runs cause step) zeroed = cc
+    never_unfinished said number (Checks cause) zeroed = cc
 
     -- from the last part to the first
     module _ (text : List ℕ) (held : loaded files recipe 1_048_576 ≡ Bytes text) where
-      module _ (said : Said) (reads : recipe_of text ≡ Ok said) where
+      module _ (said : RecipeContents) (reads : recipe_of text ≡ Ok said) where
         is : IsRecipe said
         is = reads_keep text said reads
 
@@ -211,7 +211,7 @@ module _ (prefix : List ℕ) (files : NamedFiles) (bytes : (name content : List 
           from_inputs : (inputs : List (List ℕ)) → map (λ path. finite.get files path) (paths said) ≡ map Some inputs → IsInputs said inputs
               → IsYes (with_inputs said count inputs next) files → Finds recipe stage (with_inputs said count inputs)
           from_inputs inputs hold given zeroed = by (done_in_order said inputs [] (take count said.stages)) refl zeroed where
-            by : (run : Result (List Finished) Undone) → done_in_order said inputs [] (take count said.stages) ≡ run
+            by : (run : Result (List Finished) Unfinished) → done_in_order said inputs [] (take count said.stages) ≡ run
                 → IsYes (unless_refused run (refuses_stage said) (with_done said inputs next)) files
                 → Finds recipe stage (λ n. unless_refused run (refuses_stage said) (with_done said inputs n))
             by (Ok done) ran zeroed = record {
@@ -222,7 +222,7 @@ module _ (prefix : List ℕ) (files : NamedFiles) (bytes : (name content : List 
               done = earlier_done said inputs is given count done ran;
               found = λ later alike n. refl;
             }
-            by (Err not_done) ran zeroed = absurd (never_undone said not_done.stage not_done.fault zeroed)
+            by (Err not_done) ran zeroed = absurd (never_unfinished said not_done.stage not_done.fault zeroed)
 
           from_names : ((k : ℕ) → k < 1_000 → is_input said (piece_name prefix k) ≡ false) → IsYes (with_names said count next) files
               → Finds recipe stage (with_names said count)
@@ -246,7 +246,7 @@ module _ (prefix : List ℕ) (files : NamedFiles) (bytes : (name content : List 
 
       from_text : IsYes (with_text text next) files → Finds recipe stage (with_text text)
       from_text zeroed = by (recipe_of text) refl zeroed where
-        by : (reading : Result Said RecipeRefusal) → recipe_of text ≡ reading
+        by : (reading : Result RecipeContents RecipeRefusal) → recipe_of text ≡ reading
             → IsYes (unless_refused reading (λ refusal. answers RecipeRefused (recipe_line refusal)) (λ said. with_said said next)) files
             → Finds recipe stage (λ n. unless_refused reading (λ refusal. answers RecipeRefused (recipe_line refusal)) (λ said. with_said said n))
         by (Ok said) reads zeroed = from_said said reads zeroed

@@ -6,10 +6,10 @@ use Rattle.ddc_base.specs.Lines.{line}
 use Rattle.mem_files.specs.World.{World}
 use Rattle.mem_files.specs.Outputs.{left}
 use Rattle.report.specs.Lines.{line_words, lines_text}
-use Rattle.report.specs.declared.line.Line.{Line}
-use Rattle.report.specs.declared.line.Line.TheVariants.{Stage, Stream1, Stream2, Left, Made}
+use Rattle.report.specs.declared.line.ReportLine.{ReportLine}
+use Rattle.report.specs.declared.line.ReportLine.TheVariants.{Stage, Stream1, Stream2, Left, Made}
 use Rattle.report.specs.Marks.{mark_of}
-use Rattle.wheeler.specs.Stages.{finished, marked_left}
+use Rattle.audit_rules.specs.Stages.{finished, marked_left}
 use Rattle.tool_commands.specs.RunProgram.{left_line, stream_line, world_text}
 use Rattle.stage_commands.specs.Texts.{run_record}
 
@@ -17,7 +17,7 @@ left_same : (file : List ℕ × List ℕ) → left_line file ≡ line (line_word
 unfolding left_line
 left_same file = refl
 
-lines_left : (files : List (List ℕ × List ℕ)) (rest : List Line) → flat_map left_line files ++ lines_text rest ≡ lines_text (map Left (map marked_left files) ++ rest)
+lines_left : (files : List (List ℕ × List ℕ)) (rest : List ReportLine) → flat_map left_line files ++ lines_text rest ≡ lines_text (map Left (map marked_left files) ++ rest)
 lines_left [] rest = refl
 lines_left (file ∷ files) rest =
     append_assoc (left_line file) (flat_map left_line files) (lines_text rest)

@@ -14,13 +14,13 @@ use Rattle.ddc_base.specs.Difference.{first_difference}
 use Rattle.paged_mem.specs.Memory.{IsWhole, Memory}
 use Rattle.paged_mem.proofs.Wholes.{whole-mapped}
 use Rattle.mem_files.proofs.ListRules.{lists-sound}
-use Rattle.save_text.specs.ByteFields.Spelling.{Alike, list_text, number_text}
-use Rattle.save_text.specs.declared.byte_fields.form.TextForm.{TextForm}
-use Rattle.save_text.specs.declared.byte_fields.form.TextForm.TheVariants.{First, Second}
-use Rattle.save_text.specs.StateText.StateText.{PageText, StateText, after_page, parsed_state, state_magic}
-use Rattle.save_text.specs.StateText.Spelled.{IsStateText, IsTextOfState, body_text, heap_text, page_text, reservation_text, run_text, u64s}
-use Rattle.save_text.proofs.ByteFieldsLemmas.Spells as spells
-use Rattle.save_text.proofs.StateTextLemmas.Texts.{formed_again, spelled}
+use Rattle.save_format.specs.ByteFields.Spelling.{Alike, list_text, number_text}
+use Rattle.save_format.specs.declared.byte_fields.form.TextForm.{TextForm}
+use Rattle.save_format.specs.declared.byte_fields.form.TextForm.TheVariants.{First, Second}
+use Rattle.save_format.specs.StateText.StateText.{PageText, StateText, after_page, parsed_state, state_magic}
+use Rattle.save_format.specs.StateText.Spelled.{IsStateText, IsTextOfState, body_text, heap_text, page_text, reservation_text, run_text, u64s}
+use Rattle.save_format.proofs.ByteFieldsLemmas.Spells as spells
+use Rattle.save_format.proofs.StateTextLemmas.Texts.{formed_again, spelled}
 use Rattle.checkpoints.specs.Checkpoint.{IsInRange, IsJoined, guest_of, lists_in, mapped_of, state_of}
 use Rattle.checkpoints.specs.MemoryParts.Canonical.{AreShown, with_pages}
 use Rattle.checkpoints.proofs.Memories.{placed, shown}
@@ -32,9 +32,9 @@ use Rattle.segments.specs.Segments.{IsStateOf, second_text}
 
 -- ---- the bytes of a text's parts
 
-behind : (xs ys : List ℕ) → AreBytes (xs ++ ys) → AreBytes ys
-behind [] ys are = are
-behind (x ∷ xs) ys are = behind xs ys (All-tail (λ byte. byte < 256) x (xs ++ ys) are)
+following : (xs ys : List ℕ) → AreBytes (xs ++ ys) → AreBytes ys
+following [] ys are = are
+following (x ∷ xs) ys are = following xs ys (All-tail (λ byte. byte < 256) x (xs ++ ys) are)
 
 ahead : (xs ys : List ℕ) → AreBytes (xs ++ ys) → AreBytes xs
 ahead [] ys are = All-nil (λ byte. byte < 256)
@@ -48,24 +48,24 @@ each_page : (pages : List PageText) → AreBytes (flat_map page_text pages) → 
 each_page [] are = All-nil HasBytes
 each_page (page ∷ pages) are =
     let rest : List ℕ = flat_map page_text pages in
-    All-cons HasBytes page pages (behind (number_text w32 page.number) page.bytes (ahead (page_text page) rest are)) (each_page pages (behind (page_text page) rest are))
+    All-cons HasBytes page pages (following (number_text w32 page.number) page.bytes (ahead (page_text page) rest are)) (each_page pages (following (page_text page) rest are))
 
 in_body : (form : TextForm) (s : StateText) → AreBytes (body_text form s) → All HasBytes s.pages
 unfolding body_text
 in_body form s are =
     each_page s.pages
-    (behind (number_text w32 (length s.pages)) _
+    (following (number_text w32 (length s.pages)) _
     (ahead (list_text page_text s.pages) _
-    (behind (list_text run_text s.runs) _
-    (behind (heap_text s.heap) _
-    (behind (reservation_text form s.reservation) _
-    (behind (u64s s.registers) _
-    (behind (number_text w64 s.pc) _
-    (behind (number_text w64 s.steps) _ are))))))))
+    (following (list_text run_text s.runs) _
+    (following (heap_text s.heap) _
+    (following (reservation_text form s.reservation) _
+    (following (u64s s.registers) _
+    (following (number_text w64 s.pc) _
+    (following (number_text w64 s.steps) _ are))))))))
 
 in_text : (s : StateText) (text : List ℕ) → AreBytes text → IsTextOfState s text → All HasBytes s.pages
-in_text s text are (inl is) = in_body Second s (behind (state_magic Second) (body_text Second s) (subst AreBytes is are))
-in_text s text are (inr old) = in_body First s (behind (state_magic First) (body_text First s) (subst AreBytes old.1 are))
+in_text s text are (inl is) = in_body Second s (following (state_magic Second) (body_text Second s) (subst AreBytes is are))
+in_text s text are (inr old) = in_body First s (following (state_magic First) (body_text First s) (subst AreBytes old.1 are))
 
 -- ---- the state that a text says is valid
 

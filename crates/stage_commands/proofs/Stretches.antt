@@ -11,7 +11,7 @@ use Rattle.guest_run.proofs.Endings.{end-counted}
 use Rattle.guest_run.proofs.RunLaws.{first_end-at}
 use Rattle.checkpoints.proofs.Decisions.{chosen, passed}
 use Rattle.recipe.specs.declared.parts.Stage.{Stage}
-use Rattle.wheeler.specs.declared.cause.RunCause.TheVariants as run
+use Rattle.audit_rules.specs.declared.cause.RunCause.TheVariants as run
 use Rattle.segments.specs.Segments.{EndsWith, IsRunsEnd, second_text}
 use Rattle.command_plan.specs.declared.answer.Answer.{Answer}
 use Rattle.command_plan.specs.declared.stop.Stop.{Stop}
@@ -28,24 +28,24 @@ use Rattle.stage_commands.specs.Names.{piece_name}
 use Rattle.stage_commands.specs.States.{state_after}
 use Rattle.stage_commands.specs.Texts.{cut_line, too_many_line}
 
--- ---- the steps behind a saved state
+-- ---- the steps after a saved state
 
 module _ (stage : Stage) (saved every : ℕ) (old new : GuestState) where
-  abbrev pub behind : (GuestState → Plan) → Plan
-  behind next = came_on stage saved (first_end old (next_steps stage every old)) (state_after old (next_steps stage every old)) next
+  abbrev pub following : (GuestState → Plan) → Plan
+  following next = came_on stage saved (first_end old (next_steps stage every old)) (state_after old (next_steps stage every old)) next
 
   pub ended_so : (end : End) → first_end old (next_steps stage every old) ≡ Some (end, new) → (next : GuestState → Plan)
-      → behind next ≡ run_ended stage end new (λ _. answers Yes (cut_line saved (new.steps + 1)))
+      → following next ≡ run_ended stage end new (λ _. answers Yes (cut_line saved (new.steps + 1)))
   ended_so end is next = ap (λ e. came_on stage saved e (state_after old (next_steps stage every old)) next) is
 
   module _ (none : first_end old (next_steps stage every old) ≡ None) (there : after old (next_steps stage every old) ≡ Some new) where
-    came_to : (next : GuestState → Plan) → behind next ≡ came_on stage saved None new next
+    came_to : (next : GuestState → Plan) → following next ≡ came_on stage saved None new next
     came_to next = λ i. came_on stage saved (none i) (unwrap_or (there i) old) next
 
-    pub goes_on_so : new.steps < stage.steps → (next : GuestState → Plan) → behind next ≡ next new
+    pub goes_on_so : new.steps < stage.steps → (next : GuestState → Plan) → following next ≡ next new
     goes_on_so below next = came_to next ∙ chosen (nat_lt new.steps stage.steps) (Decides-ltb new.steps stage.steps) _ _ below
 
-    pub spends : ¬ (new.steps < stage.steps) → (next : GuestState → Plan) → behind next ≡ run_failed stage run.Spent stage.steps
+    pub spends : ¬ (new.steps < stage.steps) → (next : GuestState → Plan) → following next ≡ run_failed stage run.Spent stage.steps
     spends over next = came_to next ∙ passed (nat_lt new.steps stage.steps) (Decides-ltb new.steps stage.steps) _ _ over
 
 -- ---- saved states in a row
@@ -56,7 +56,7 @@ module _ (stage : Stage) (every : ℕ) (prefix : List ℕ) where
   rest_at number guest = saved_from stage every prefix (1_000 - number) number guest
 
   saves_one : (number : ℕ) (guest : GuestState) → number < 1_000
-      → rest_at number guest ≡ sets (piece_name prefix number) (second_text guest) (behind stage (number + 1) every guest guest (rest_at (number + 1)))
+      → rest_at number guest ≡ sets (piece_name prefix number) (second_text guest) (following stage (number + 1) every guest guest (rest_at (number + 1)))
   unfolding saved_from
   saves_one number guest less =
       let more : 1_000 - number ≡ suc (1_000 - (number + 1)) = omega (arith, less) in
@@ -70,31 +70,31 @@ module _ (stage : Stage) (every : ℕ) (prefix : List ℕ) where
       ap (λ left. saved_from stage every prefix left number guest) none ∙ ap (answers TooManySegments) (sym is)
 
   module _ (plan : Plan) (old now : ShelfState) (number : ℕ) (guest : GuestState) (leads : GoesOnAs plan (rest_at number guest) old now) (less : number < 1_000) where
-    here : GoesOnAs plan (sets (piece_name prefix number) (second_text guest) (behind stage (number + 1) every guest guest (rest_at (number + 1)))) old now
+    here : GoesOnAs plan (sets (piece_name prefix number) (second_text guest) (following stage (number + 1) every guest guest (rest_at (number + 1)))) old now
     here = subst (λ p. GoesOnAs plan p old now) (saves_one number guest less) leads
 
     -- a save that ends the command
     pub ends_there : (new : ShelfState) (why : Stop) → Saves (piece_name prefix number) (second_text guest) now new (Err why) → Performs plan old new (Err why)
-    ends_there new why s = ends_at_one plan (piece_name prefix number) (second_text guest) (behind stage (number + 1) every guest guest (rest_at (number + 1))) old now here new why s
+    ends_there new why s = ends_at_one plan (piece_name prefix number) (second_text guest) (following stage (number + 1) every guest guest (rest_at (number + 1))) old now here new why s
 
     module _ (mid : ShelfState) (done : Unit {0}) (s : Saves (piece_name prefix number) (second_text guest) now mid (Ok done)) where
-      saved_one : GoesOnAs plan (behind stage (number + 1) every guest guest (rest_at (number + 1))) old mid
-      saved_one = goes_on_saved plan (piece_name prefix number) (second_text guest) (behind stage (number + 1) every guest guest (rest_at (number + 1))) old now here mid done s
+      saved_one : GoesOnAs plan (following stage (number + 1) every guest guest (rest_at (number + 1))) old mid
+      saved_one = goes_on_saved plan (piece_name prefix number) (second_text guest) (following stage (number + 1) every guest guest (rest_at (number + 1))) old now here mid done s
 
-      -- an answer behind it, want of memory, or the next state
-      pub answers_behind : (answer : Answer) → ((next : GuestState → Plan) → behind stage (number + 1) every guest guest next ≡ answers answer.status answer.text)
+      -- an answer after it, want of memory, or the next state
+      pub answers_after : (answer : Answer) → ((next : GuestState → Plan) → following stage (number + 1) every guest guest next ≡ answers answer.status answer.text)
           → Performs plan old mid (Ok answer)
-      answers_behind answer is =
-          ends_as plan (behind stage (number + 1) every guest guest (rest_at (number + 1))) old mid saved_one mid (Ok answer)
-          (says (behind stage (number + 1) every guest guest (rest_at (number + 1))) mid (Ok answer) (record { by_result = is (rest_at (number + 1)) }))
+      answers_after answer is =
+          ends_as plan (following stage (number + 1) every guest guest (rest_at (number + 1))) old mid saved_one mid (Ok answer)
+          (says (following stage (number + 1) every guest guest (rest_at (number + 1))) mid (Ok answer) (record { by_result = is (rest_at (number + 1)) }))
 
-      pub wants_behind : (why : Stop) → why ≡ stop.OutOfMemory → Performs plan old mid (Err why)
-      wants_behind why is =
+      pub wants_after : (why : Stop) → why ≡ stop.OutOfMemory → Performs plan old mid (Err why)
+      wants_after why is =
           subst (λ w. Performs plan old mid (Err w)) (sym is)
-          (ends_as plan (behind stage (number + 1) every guest guest (rest_at (number + 1))) old mid saved_one mid (Err stop.OutOfMemory)
-          (wants_memory (behind stage (number + 1) every guest guest (rest_at (number + 1))) mid))
+          (ends_as plan (following stage (number + 1) every guest guest (rest_at (number + 1))) old mid saved_one mid (Err stop.OutOfMemory)
+          (wants_memory (following stage (number + 1) every guest guest (rest_at (number + 1))) mid))
 
-      pub next_one : (to : GuestState) → ((next : GuestState → Plan) → behind stage (number + 1) every guest guest next ≡ next to)
+      pub next_one : (to : GuestState) → ((next : GuestState → Plan) → following stage (number + 1) every guest guest next ≡ next to)
           → GoesOnAs plan (rest_at (number + 1) to) old mid
       next_one to is = subst (λ p. GoesOnAs plan p old mid) (is (rest_at (number + 1))) saved_one
 

@@ -6,8 +6,8 @@ use Rattle.guest_run.specs.declared.run.RunEnd.{RunEnd}
 use Rattle.guest_run.specs.declared.run.RunEnd.TheVariants as run
 use Rattle.guest_run.specs.Run.{End, Exited, Trapped, UnknownCall}
 use Rattle.guest_run.specs.State.{GuestState}
-use Rattle.wheeler.specs.Stages.{finished, stage_result}
-use Rattle.wheeler.specs.declared.answer.Finished.{Finished}
+use Rattle.audit_rules.specs.Stages.{finished, stage_result}
+use Rattle.audit_rules.specs.declared.answer.Finished.{Finished}
 use Rattle.segments.specs.Segments.{EndsWith, GoesOnFrom, IsNoState, IsSegment}
 use Rattle.segments.specs.declared.answers.StateFault.{StateFault}
 use Rattle.command_plan.specs.declared.status.Status.TheVariants.{Yes}
@@ -27,10 +27,10 @@ pub record HoldPiece (from to : List ℕ) (files : NamedFiles) (steps : ℕ) : T
   pub piece : IsSegment former latter steps
 
 -- what `segment` with 0 comes to
-abbrev pub piece_told_yes : ℕ → NamedFiles → Outcome
-piece_told_yes steps files = record { status = Yes; text = segment_line steps; files = files }
+abbrev pub piece_reported_yes : ℕ → NamedFiles → Outcome
+piece_reported_yes steps files = record { status = Yes; text = segment_line steps; files = files }
 
--- what the end behind a text says of the bytes
+-- what the end after a text says of the bytes
 abbrev pub run_end : End → RunEnd
 run_end (Exited status) = run.Exited status
 run_end (Trapped cause) = run.Trapped cause
@@ -50,7 +50,7 @@ pub record AreChecked (recipe stage prefix : List ℕ) (count : ℕ) (files : Na
   pub pieces : (number : ℕ) → number + 1 < count → (segment_over (piece_name prefix number) (piece_name prefix (number + 1)) files).status ≡ Yes
 
 -- what is printed is the stage's run from its start: its steps in all, its exit with 0, and what it left; which is the bench's record where that has one
-pub record IsRunTold (recipe stage prefix : List ℕ) (files : NamedFiles) (came : Outcome) : Type 0 where
+pub record IsRunReported (recipe stage prefix : List ℕ) (files : NamedFiles) (came : Outcome) : Type 0 where
   pub run : CutRun recipe stage prefix files
-  pub told : came ≡ record { status = Yes; text = run_record run.start.named.name (finished (run.last.steps + 1) run.last.world run.made); files = files }
+  pub reported : came ≡ record { status = Yes; text = run_record run.start.named.name (finished (run.last.steps + 1) run.last.world run.made); files = files }
   pub as_benched : (f : Finished) → stage_result run.start.ready.recipe run.start.ready.inputs run.start.ready.done run.start.named ≡ Ok f → came.text ≡ run_record run.start.named.name f

@@ -5,8 +5,8 @@ use Rattle.guest_run.specs.Run.{End, first_end}
 use Rattle.guest_run.specs.Start.{Refusal}
 use Rattle.guest_run.specs.State.{GuestState}
 use Rattle.recipe.specs.declared.parts.Stage.{Stage}
-use Rattle.wheeler.specs.Stages.{contents, start_cause, start_stage}
-use Rattle.wheeler.specs.declared.cause.RunCause.TheVariants as run
+use Rattle.audit_rules.specs.Stages.{contents, start_cause, start_stage}
+use Rattle.audit_rules.specs.declared.cause.RunCause.TheVariants as run
 use Rattle.segments.specs.Segments.{second_text}
 use Rattle.command_plan.specs.declared.status.Status.TheVariants.{Yes, TooManySegments}
 use Rattle.command_plan.specs.Plan.{Plan, answers, sets}
@@ -40,7 +40,7 @@ abbrev pub cut_from : Stage → ℕ → List ℕ → Result GuestState Refusal �
 cut_from stage every prefix (Ok guest) = saved_from stage every prefix 1_000 0 guest
 cut_from stage every prefix (Err why) = run_failed stage (run.Start (start_cause why)) 0
 
--- the stage behind those that are done is cut
+-- the stage after those that are done is cut
 unfoldable pub cut_ready : ℕ → List ℕ → Ready → Plan
 cut_ready every prefix ready =
     or_usage (slice_get ready.recipe.stages (length ready.done)) (λ stage.

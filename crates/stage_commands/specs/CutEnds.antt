@@ -3,7 +3,7 @@ use Rattle.std.specs.Prelude.{◌≡◌, ℕ, ◌+◌, ◌*◌, ◌/◌, Option,
 use Rattle.guest_run.specs.Run.{End, first_end}
 use Rattle.guest_run.specs.State.{GuestState}
 use Rattle.recipe.specs.declared.parts.Stage.{Stage}
-use Rattle.wheeler.specs.declared.cause.RunCause.TheVariants as run
+use Rattle.audit_rules.specs.declared.cause.RunCause.TheVariants as run
 use Rattle.command_plan.specs.declared.status.Status.TheVariants.{TooManySegments, Yes}
 use Rattle.command_plan.specs.Plan.{Outcome, Plan, answers}
 use Rattle.stage_commands.specs.Exits.{run_ended, run_failed}

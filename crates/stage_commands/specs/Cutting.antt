@@ -6,8 +6,8 @@ use Rattle.mem_files.specs.Outputs.{out}
 use Rattle.guest_run.specs.Run.{Exited, after, first_end}
 use Rattle.guest_run.specs.State.{GuestState}
 use Rattle.recipe.specs.declared.parts.Stage.{Stage}
-use Rattle.wheeler.specs.Stages.{contents, finished, output_of, stage_result, start_stage}
-use Rattle.wheeler.specs.declared.answer.Finished.{Finished}
+use Rattle.audit_rules.specs.Stages.{contents, finished, output_of, stage_result, start_stage}
+use Rattle.audit_rules.specs.declared.answer.Finished.{Finished}
 use Rattle.segments.specs.Segments.{second_text}
 use Rattle.command_plan.specs.declared.status.Status.TheVariants.{Yes}
 use Rattle.command_plan.specs.Plan.{Outcome, Plan, outcome}
@@ -31,7 +31,7 @@ segment_over from to files = outcome (segment_plan (from ∷ to ∷ [])) files
 abbrev pub ends_over : List ℕ → List ℕ → List ℕ → ℕ → NamedFiles → Outcome
 ends_over recipe stage prefix count files = outcome (ends_plan (recipe ∷ stage ∷ prefix ∷ decimal count ∷ [])) files
 
--- the stage that the words name over these files, behind what the commands begin with, and its start
+-- the stage that the words name over these files, after what the commands begin with, and its start
 pub record CutStart (recipe stage prefix : List ℕ) (files : NamedFiles) : Type 0 where
   pub ready : Ready
   pub begins : IsBegun recipe stage files ready
@@ -51,7 +51,7 @@ pub record CutRun (recipe stage prefix : List ℕ) (files : NamedFiles) : Type 0
   pub benched : (f : Finished) → stage_result start.ready.recipe start.ready.inputs start.ready.done start.named ≡ Ok f
       → f ≡ finished (last.steps + 1) last.world made
 
--- the state of the run behind so many steps is held under a name
+-- the state of the run after so many steps is held under a name
 pub record IsHeldState {recipe stage prefix : List ℕ} {files : NamedFiles} (run : CutRun recipe stage prefix files) (later : NamedFiles) (name : List ℕ) (steps : ℕ) : Type 0 where
   pub state : GuestState
   pub reached : after run.start.begun steps ≡ Some state

@@ -1,19 +1,19 @@
 -- What commands on one stage begin with: the stages before it. docs/reference/command-line.md says the same for people.
 use Rattle.std.specs.Prelude.{ℕ, List, [], take}
 use Rattle.recipe.specs.Lookups.{stage_at}
-use Rattle.recipe.specs.declared.contents.Said.{Said}
-use Rattle.wheeler.specs.declared.answer.Finished.{Finished}
+use Rattle.recipe.specs.declared.contents.RecipeContents.{RecipeContents}
+use Rattle.audit_rules.specs.declared.answer.Finished.{Finished}
 use Rattle.audit_run.specs.Earlier.{done_in_order}
-use Rattle.audit_run.specs.declared.earlier.Undone.{Undone}
+use Rattle.audit_run.specs.declared.earlier.Unfinished.{Unfinished}
 use Rattle.command_plan.specs.Plan.{Plan, unless_refused}
 use Rattle.command_plan.specs.Words.{or_usage}
-use Rattle.recipe_plan.specs.NotDone.{undone}
+use Rattle.recipe_plan.specs.NotDone.{unfinished}
 
 -- STAGE is to name a stage: how many come before it
-abbrev pub needs_stage : Said → List ℕ → (ℕ → Plan) → Plan
+abbrev pub needs_stage : RecipeContents → List ℕ → (ℕ → Plan) → Plan
 needs_stage recipe word next = or_usage (stage_at recipe.stages word) next
 
 -- so many stages are run; the first that is not done ends the command
-abbrev pub needs_earlier : Said → List (List ℕ) → ℕ → (List Finished → Plan) → Plan
+abbrev pub needs_earlier : RecipeContents → List (List ℕ) → ℕ → (List Finished → Plan) → Plan
 needs_earlier recipe inputs count next =
-    unless_refused (done_in_order recipe inputs [] (take count recipe.stages)) (λ (not_done : Undone). undone recipe not_done.stage not_done.fault) next
+    unless_refused (done_in_order recipe inputs [] (take count recipe.stages)) (λ (not_done : Unfinished). unfinished recipe not_done.stage not_done.fault) next

@@ -1,4 +1,4 @@
--- `ends RECIPE STAGE PREFIX COUNT`: whether the first saved state is that of the stage's start, and how the run behind the last one ends.
+-- `ends RECIPE STAGE PREFIX COUNT`: whether the first saved state is that of the stage's start, and how the run after the last one ends.
 -- docs/reference/command-line.md and docs/reference/segments.md say the same for people.
 use Rattle.std.specs.Prelude.{ℕ, ◌+◌, ◌-◌, Option, None, Some, Result, Ok, Err, List, [], ◌∷◌, length, slice_get, if◌then◌else◌}
 use Rattle.ddc_base.specs.Difference.{first_difference}
@@ -6,8 +6,8 @@ use Rattle.guest_run.specs.Run.{End}
 use Rattle.guest_run.specs.Start.{Refusal}
 use Rattle.guest_run.specs.State.{GuestState}
 use Rattle.recipe.specs.declared.parts.Stage.{Stage}
-use Rattle.wheeler.specs.Stages.{contents, finished, start_cause, start_stage}
-use Rattle.wheeler.specs.declared.cause.RunCause.TheVariants as run
+use Rattle.audit_rules.specs.Stages.{contents, finished, start_cause, start_stage}
+use Rattle.audit_rules.specs.declared.cause.RunCause.TheVariants as run
 use Rattle.segments.specs.Faults.{state_fault_number}
 use Rattle.segments.specs.Segments.{second_text}
 use Rattle.segments.specs.declared.answers.StateFault.{StateFault}
@@ -17,7 +17,7 @@ use Rattle.command_plan.specs.Words.{or_usage, usage}
 use Rattle.stage_commands.specs.Exits.{run_ended, run_failed}
 use Rattle.stage_commands.specs.Names.{are_stage_words, as_states, piece_name}
 use Rattle.stage_commands.specs.Ready.{needs_ready}
-use Rattle.stage_commands.specs.States.{end_behind, state_said}
+use Rattle.stage_commands.specs.States.{end_after, state_said}
 use Rattle.stage_commands.specs.Texts.{other_first_line, refuted_first_line, refuted_last_line, run_record}
 use Rattle.stage_commands.specs.declared.ready.Ready.{Ready}
 
@@ -31,21 +31,21 @@ needs_first stage (Err why) read next = run_failed stage (run.Start (start_cause
 needs_first stage (Ok start) (Err why) next = answers Refuted (refuted_first_line (state_fault_number why))
 needs_first stage (Ok start) (Ok first) next = unless_other_start (first_difference (second_text start) (second_text first)) next
 
--- the run behind the last state, within the stage's limit: what it did is told where it made something
-abbrev pub last_told : Stage → Option (End × GuestState) → Plan
-last_told stage (Some (end, guest)) =
+-- the run after the last state, within the stage's limit: what it did is told where it made something
+abbrev pub last_reported : Stage → Option (End × GuestState) → Plan
+last_reported stage (Some (end, guest)) =
     run_ended stage end guest (λ made. answers Yes (run_record stage.name (finished (guest.steps + 1) guest.world made)))
-last_told stage None = run_failed stage run.Spent stage.steps
+last_reported stage None = run_failed stage run.Spent stage.steps
 
 abbrev pub needs_last : Stage → Result (Option (End × GuestState)) StateFault → Plan
-needs_last stage ended = unless_refused ended (λ why. answers Refuted (refuted_last_line (state_fault_number why))) (last_told stage)
+needs_last stage ended = unless_refused ended (λ why. answers Refuted (refuted_last_line (state_fault_number why))) (last_reported stage)
 
--- both texts are judged by the stage behind those that are done
+-- both texts are judged by the stage after those that are done
 unfoldable pub ends_judged : Ready → List ℕ → List ℕ → Plan
 ends_judged ready first last =
     or_usage (slice_get ready.recipe.stages (length ready.done)) (λ stage.
     needs_first stage (start_stage ready.recipe (contents ready.inputs ready.done) stage) (state_said first)
-    (needs_last stage (end_behind last stage.steps)))
+    (needs_last stage (end_after last stage.steps)))
 
 -- the first text and then the last one, each of at most 4,294,967,296 bytes
 unfoldable pub ends_files : List ℕ → List ℕ → List ℕ → ℕ → Plan

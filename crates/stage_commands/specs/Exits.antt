@@ -5,9 +5,9 @@ use Rattle.mem_files.specs.World.{World}
 use Rattle.guest_run.specs.Run.{End, Exited, Trapped, UnknownCall}
 use Rattle.guest_run.specs.State.{GuestState}
 use Rattle.recipe.specs.declared.parts.Stage.{Stage}
-use Rattle.wheeler.specs.Stages.{output_of}
-use Rattle.wheeler.specs.declared.cause.RunCause.{RunCause}
-use Rattle.wheeler.specs.declared.cause.RunCause.TheVariants as run
+use Rattle.audit_rules.specs.Stages.{output_of}
+use Rattle.audit_rules.specs.declared.cause.RunCause.{RunCause}
+use Rattle.audit_rules.specs.declared.cause.RunCause.TheVariants as run
 use Rattle.command_plan.specs.declared.status.Status.TheVariants.{RunFailed}
 use Rattle.command_plan.specs.Plan.{Plan, answers, unless_refused}
 use Rattle.recipe_plan.specs.NotDone.{run_failed_line}
@@ -16,7 +16,7 @@ use Rattle.recipe_plan.specs.NotDone.{run_failed_line}
 abbrev pub run_failed : Stage → RunCause → ℕ → Plan
 run_failed stage cause step = answers RunFailed (run_failed_line stage.name cause step)
 
--- what stands at the stage's output behind an exit, or why nothing does
+-- what stands at the stage's output after an exit, or why nothing does
 abbrev pub unless_absent : Option (List ℕ) → Result (List ℕ) RunCause
 unless_absent None = Err run.NoOutput
 unless_absent (Some made) = Ok made

@@ -8,19 +8,19 @@ use Rattle.guest_run.specs.State.{GuestState}
 use Rattle.mem_files.specs.Calls.{content_at}
 use Rattle.mem_files.specs.Names.{is_stripped_name, stripped}
 use Rattle.mem_files.specs.World.{World}
-use Rattle.recipe.specs.declared.contents.Said.{Said}
+use Rattle.recipe.specs.declared.contents.RecipeContents.{RecipeContents}
 use Rattle.recipe.specs.declared.parts.Stage.{Stage}
-use Rattle.wheeler.specs.Stages.{contents, start_cause, start_stage}
-use Rattle.wheeler.specs.declared.answer.Fault.TheVariants.{Runs}
-use Rattle.wheeler.specs.declared.answer.Finished.{Finished}
-use Rattle.wheeler.specs.declared.cause.RunCause.{RunCause}
-use Rattle.wheeler.specs.declared.cause.RunCause.TheVariants as run
+use Rattle.audit_rules.specs.Stages.{contents, start_cause, start_stage}
+use Rattle.audit_rules.specs.declared.answer.StageFault.TheVariants.{Runs}
+use Rattle.audit_rules.specs.declared.answer.Finished.{Finished}
+use Rattle.audit_rules.specs.declared.cause.RunCause.{RunCause}
+use Rattle.audit_rules.specs.declared.cause.RunCause.TheVariants as run
 use Rattle.command_plan.specs.declared.status.Status.{Status}
 use Rattle.command_plan.specs.declared.status.Status.TheVariants.{FileRefused, RunFailed, Yes}
 use Rattle.command_plan.specs.Words.{are_two_files, has_no_zero_byte, or_usage, usage}
 use Rattle.command_plan.specs.Plan.{Plan, answers, sets}
 use Rattle.recipe_plan.specs.Recipes.{needs_apart, needs_inputs, needs_recipe}
-use Rattle.recipe_plan.specs.NotDone.{run_cause_text, undone}
+use Rattle.recipe_plan.specs.NotDone.{run_cause_text, unfinished}
 use Rattle.stage_commands.specs.Earlier.{needs_earlier, needs_stage}
 
 -- ---- how a run ended, and what stood then
@@ -37,7 +37,7 @@ cause_of (Exited status) = run.Status status
 cause_of (Trapped cause) = run.Trap cause
 cause_of (UnknownCall number) = run.Call number
 
--- the first end within so many steps, else that they are spent and what stands behind them
+-- the first end within so many steps, else that they are spent and what stands after them
 abbrev pub run_left_by : GuestState → ℕ → Option (End × GuestState) → RunLeft
 run_left_by start most (Some (end, guest)) = record { cause = cause_of end; step = guest.steps + 1; files = guest.world }
 run_left_by start most None = record { cause = run.Spent; step = most; files = (unwrap_or (after start most) start).world }
@@ -65,7 +65,7 @@ abbrev pub absent_status : RunCause → Status
 absent_status (run.Status status) = FileRefused
 absent_status _ = RunFailed
 
--- how the run ended, behind what it left, or did not leave
+-- how the run ended, after what it left, or did not leave
 unfoldable pub file_left_line : List ℕ → List ℕ → ℕ → RunCause → ℕ → List ℕ
 file_left_line stage file size cause step =
     line (codes "left" ∷ stage ∷ file ∷ decimal size ∷ run_cause_text cause ∷ codes "step" ∷ decimal step ∷ [])
@@ -83,12 +83,12 @@ unfoldable pub ends_left : List ℕ → List ℕ → List ℕ → RunLeft → Pl
 ends_left stage file out end = saved_left stage file out end (bytes_left_at end.files file)
 
 -- the stage's program runs to its end; a start that is refused is a run that failed at step 0
-abbrev pub left_by : Said → ℕ → Stage → List ℕ → List ℕ → Result GuestState Refusal → Plan
+abbrev pub left_by : RecipeContents → ℕ → Stage → List ℕ → List ℕ → Result GuestState Refusal → Plan
 left_by recipe number stage file out (Ok start) = ends_left stage.name file out (run_left start stage.steps)
-left_by recipe number stage file out (Err why) = undone recipe number (Runs (run.Start (start_cause why)) 0)
+left_by recipe number stage file out (Err why) = unfinished recipe number (Runs (run.Start (start_cause why)) 0)
 
--- the stage behind those that are done
-unfoldable pub left_of_stage : Said → List (List ℕ) → List Finished → List ℕ → List ℕ → Plan
+-- the stage after those that are done
+unfoldable pub left_of_stage : RecipeContents → List (List ℕ) → List Finished → List ℕ → List ℕ → Plan
 left_of_stage recipe inputs done file out =
     or_usage (slice_get recipe.stages (length done)) (λ stage. left_by recipe (length done + 1) stage file out (start_stage recipe (contents inputs done) stage))
 

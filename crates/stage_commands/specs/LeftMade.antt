@@ -5,8 +5,8 @@ use Rattle.ddc_base.specs.Outside.{NamedFiles}
 use Rattle.recipe.specs.declared.parts.Output.{Output}
 use Rattle.recipe.specs.declared.parts.Output.TheVariants.{Stream, File}
 use Rattle.recipe.specs.declared.parts.Stage.{Stage}
-use Rattle.wheeler.specs.declared.answer.Finished.{Finished}
-use Rattle.wheeler.specs.declared.cause.RunCause.TheVariants as run
+use Rattle.audit_rules.specs.declared.answer.Finished.{Finished}
+use Rattle.audit_rules.specs.declared.cause.RunCause.TheVariants as run
 use Rattle.command_plan.specs.declared.status.Status.TheVariants.{Yes}
 use Rattle.command_plan.specs.Plan.{Outcome, Plan, outcome}
 use Rattle.recipe_plan.specs.Recipes.{needs_apart, needs_inputs, needs_recipe}
@@ -34,7 +34,7 @@ needs_left recipe stage out next =
     needs_earlier said inputs count (λ done.
     next (record { recipe = said; inputs = inputs; done = done }))))))
 
--- the stage of this name, behind what `left` finds over these files
+-- the stage of this name, after what `left` finds over these files
 pub record LeftRun (recipe stage out : List ℕ) (files : NamedFiles) : Type 0 where
   pub ready : Ready
   pub begins : IsBegun recipe stage files ready

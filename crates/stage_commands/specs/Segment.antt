@@ -8,16 +8,16 @@ use Rattle.stage_commands.specs.States.{piece_of}
 use Rattle.stage_commands.specs.Texts.{refuted_segment_line, segment_line}
 
 -- they are one, of so many steps, or not
-abbrev pub piece_told : Result ℕ SegmentFault → Plan
-piece_told (Ok steps) = answers Yes (segment_line steps)
-piece_told (Err why) = answers Refuted (refuted_segment_line why)
+abbrev pub piece_reported : Result ℕ SegmentFault → Plan
+piece_reported (Ok steps) = answers Yes (segment_line steps)
+piece_reported (Err why) = answers Refuted (refuted_segment_line why)
 
 -- the former text and then the latter, each of at most 4,294,967,296 bytes
 unfoldable pub segment_files : List ℕ → List ℕ → Plan
 segment_files from to =
     needs from 4_294_967_296 (λ former.
     needs to 4_294_967_296 (λ latter.
-    piece_told (piece_of former latter)))
+    piece_reported (piece_of former latter)))
 
 -- the words after `segment`
 abbrev pub segment_plan : List (List ℕ) → Plan

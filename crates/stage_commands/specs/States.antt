@@ -1,7 +1,7 @@
 -- What texts of states say, as the commands print it: one answer for all bytes. docs/reference/segments.md says the same for people.
 use Rattle.std.specs.Prelude.{ℕ, ◌+◌, ◌-◌, ◌^◌, Option, None, Some, Result, Ok, Err, List, nat_le, nat_lt, unwrap_or, if◌then◌else◌}
 use Rattle.ddc_base.specs.Difference.{first_difference}
-use Rattle.save_text.specs.StateText.StateText.{StateText, parsed_state}
+use Rattle.save_format.specs.StateText.StateText.{StateText, parsed_state}
 use Rattle.checkpoints.specs.Checkpoint.{guest_of}
 use Rattle.checkpoints.specs.Inside.Tests.{is_in_range, is_joined}
 use Rattle.guest_run.specs.Run.{End, after, first_end}
@@ -22,7 +22,7 @@ said_by (Ok said) = if is_in_range said then (if is_joined said then Ok (guest_o
 unfoldable pub state_said : List ℕ → Result GuestState StateFault
 state_said text = said_by (parsed_state text)
 
--- the state behind so many steps that go on
+-- the state after so many steps that go on
 abbrev pub state_after : GuestState → ℕ → GuestState
 state_after guest steps = unwrap_or (after guest steps) guest
 
@@ -49,13 +49,13 @@ between_states (Ok first) (Ok last) = if nat_le last.steps first.steps then Err 
 unfoldable pub piece_of : List ℕ → List ℕ → Result ℕ SegmentFault
 piece_of from to = between_states (state_said from) (state_said to)
 
--- the first end of the run behind a state, at a step up to the limit; or why the text says no state
+-- the first end of the run after a state, at a step up to the limit; or why the text says no state
 abbrev pub end_from : Result GuestState StateFault → ℕ → Result (Option (End × GuestState)) StateFault
 end_from (Err why) limit = Err why
 end_from (Ok guest) limit = Ok (first_end guest (limit - guest.steps))
 
-unfoldable pub end_behind : List ℕ → ℕ → Result (Option (End × GuestState)) StateFault
-end_behind text limit = end_from (state_said text) limit
+unfoldable pub end_after : List ℕ → ℕ → Result (Option (End × GuestState)) StateFault
+end_after text limit = end_from (state_said text) limit
 
 -- ---- what the two answers say of the bytes
 

@@ -4,34 +4,34 @@ use Rattle.std.specs.Prelude.{ℕ, suc, Bool, ◌&&◌, Result, Ok, Err, List, [
 use Rattle.guest_run.specs.State.{GuestState}
 use Rattle.guest_run.specs.Start.{Refusal}
 use Rattle.prompt.specs.Talks.{talk}
-use Rattle.recipe.specs.declared.contents.Said.{Said}
+use Rattle.recipe.specs.declared.contents.RecipeContents.{RecipeContents}
 use Rattle.recipe.specs.declared.parts.Stage.{Stage}
-use Rattle.session.specs.Sessions.{SessionState, reply_to, session_start}
-use Rattle.wheeler.specs.Contents.{Contents, box_of, program_of}
-use Rattle.wheeler.specs.Stages.{contents, start_cause, start_stage}
-use Rattle.wheeler.specs.declared.answer.Fault.TheVariants.{Runs}
-use Rattle.wheeler.specs.declared.answer.Finished.{Finished}
-use Rattle.wheeler.specs.declared.cause.RunCause.TheVariants.{Start}
-use Rattle.wheeler.specs.declared.cause.StartCause.{StartCause}
+use Rattle.step_debug.specs.Sessions.{SessionState, reply_to, session_start}
+use Rattle.audit_rules.specs.Contents.{Contents, box_of, program_of}
+use Rattle.audit_rules.specs.Stages.{contents, start_cause, start_stage}
+use Rattle.audit_rules.specs.declared.answer.StageFault.TheVariants.{Runs}
+use Rattle.audit_rules.specs.declared.answer.Finished.{Finished}
+use Rattle.audit_rules.specs.declared.cause.RunCause.TheVariants.{Start}
+use Rattle.audit_rules.specs.declared.cause.StartCause.{StartCause}
 use Rattle.command_plan.specs.Words.{has_no_zero_byte, is_file_word, or_usage, usage}
 use Rattle.command_plan.specs.Plan.{Plan, talks, unless_refused}
 use Rattle.recipe_plan.specs.Recipes.{needs_inputs, needs_recipe}
-use Rattle.recipe_plan.specs.NotDone.{undone}
+use Rattle.recipe_plan.specs.NotDone.{unfinished}
 use Rattle.stage_commands.specs.Earlier.{needs_earlier, needs_stage}
 
 -- a session with a stage's program, where that starts
-abbrev pub started_session : Said → Contents → Stage → Result GuestState Refusal → Result SessionState StartCause
+abbrev pub started_session : RecipeContents → Contents → Stage → Result GuestState Refusal → Result SessionState StartCause
 started_session recipe so_far stage (Ok start) = Ok (session_start (program_of recipe so_far stage) (box_of recipe so_far stage) stage.steps start)
 started_session recipe so_far stage (Err why) = Err (start_cause why)
 
-abbrev pub session_of : Said → Contents → Stage → Result SessionState StartCause
+abbrev pub session_of : RecipeContents → Contents → Stage → Result SessionState StartCause
 session_of recipe so_far stage = started_session recipe so_far stage (start_stage recipe so_far stage)
 
--- the stage behind those that are done starts; a start that is refused is a run that failed at step 0
-abbrev pub needs_session : Said → List (List ℕ) → List Finished → (SessionState → Plan) → Plan
+-- the stage after those that are done starts; a start that is refused is a run that failed at step 0
+abbrev pub needs_session : RecipeContents → List (List ℕ) → List Finished → (SessionState → Plan) → Plan
 needs_session recipe inputs done next =
     or_usage (slice_get recipe.stages (length done)) (λ stage.
-    unless_refused (session_of recipe (contents inputs done) stage) (λ cause. undone recipe (suc (length done)) (Runs (Start cause) 0)) next)
+    unless_refused (session_of recipe (contents inputs done) stage) (λ cause. unfinished recipe (suc (length done)) (Runs (Start cause) 0)) next)
 
 -- the recipe, the stage, the inputs, the stages before that one, its start; then at most 65,536 lines are answered
 unfoldable pub step_stage : List ℕ → List ℕ → Plan

@@ -2,13 +2,13 @@
 use Rattle.std.specs.Prelude.{ℕ, List, [], ◌∷◌, ◌++◌, codes, decimal, map}
 use Rattle.ddc_base.specs.Lines.{line}
 use Rattle.report.specs.Lines.{lines_text}
-use Rattle.report.specs.declared.line.Line.{Line}
-use Rattle.report.specs.declared.line.Line.TheVariants.{Stage, Stream1, Stream2, Left, Made}
+use Rattle.report.specs.declared.line.ReportLine.{ReportLine}
+use Rattle.report.specs.declared.line.ReportLine.TheVariants.{Stage, Stream1, Stream2, Left, Made}
 use Rattle.segments.specs.Faults.{state_fault_number}
 use Rattle.segments.specs.declared.answers.SegmentFault.{SegmentFault}
 use Rattle.segments.specs.declared.answers.SegmentFault.TheVariants.{From, To, NotLater, TooFar, EndsAt, Differs}
 use Rattle.report.specs.Marks.{mark_of}
-use Rattle.wheeler.specs.declared.answer.Finished.{Finished}
+use Rattle.audit_rules.specs.declared.answer.Finished.{Finished}
 
 -- so many states are saved of a run that ended at this step
 unfoldable pub cut_line : ℕ → ℕ → List ℕ
@@ -44,7 +44,7 @@ unfoldable pub refuted_last_line : ℕ → List ℕ
 refuted_last_line number = line (codes "refuted" ∷ codes "last" ∷ decimal number ∷ [])
 
 -- what a run did, as in a report's block of a stage, but for the line on its check
-abbrev pub run_record_lines : List ℕ → Finished → List Line
+abbrev pub run_record_lines : List ℕ → Finished → List ReportLine
 run_record_lines name f = (Stage name f.steps ∷ Stream1 f.stream1 ∷ Stream2 f.stream2 ∷ map Left f.left) ++ Made (mark_of f.made) ∷ []
 
 unfoldable pub run_record : List ℕ → Finished → List ℕ

@@ -6,7 +6,7 @@ ghost use Rattle.guest_run.specs.Run.{first_end};
 ghost use Rattle.segments.specs.Segments.{second_text};
 ghost use Rattle.audit_run.specs.Stage.Rules.{IsStageOf};
 ghost use Rattle.recipe.specs.Kept as kept;
-ghost use Rattle.wheeler.specs.Stages.{contents, start_stage};
+ghost use Rattle.audit_rules.specs.Stages.{contents, start_stage};
 ghost use Rattle.command_plan.specs.Performs.{Performs};
 ghost use Rattle.command_plan.specs.Plan.{answers, unless_refused};
 ghost use Rattle.command_plan.specs.Steps.{Saves, Says};
@@ -22,7 +22,7 @@ ghost use Rattle.stage_commands.specs.Texts.{cut_line};
 
 use crate::exits::{output_left, run_failed};
 use crate::names::{MOST_STATES, are_stage_words, piece_name};
-use crate::ready::{Ready, make_ready, stage_behind};
+use crate::ready::{Ready, make_ready, stage_after};
 use crate::texts;
 use audit_run::stage::start_stage;
 use checkpoints::write_state;
@@ -33,7 +33,7 @@ use guest_run::{Guest, RunEnd, RunRam};
 use mem_files::Files;
 use recipe::Stage;
 use std::alloc::Global;
-use wheeler::RunCause;
+use audit_rules::RunCause;
 
 /// Performs the command on the words after its name.
 #[tactic(auto, using(command_plan::proofs::Performing::performing))]
@@ -85,7 +85,7 @@ fn cut<S: Shelf>(
     cut_ready(alloc, shelf, &ready, every, prefix)
 }
 
-/// Cuts the stage behind those that are done.
+/// Cuts the stage after those that are done.
 fn cut_ready<S: Shelf>(
     alloc: Global,
     shelf: &mut S,
@@ -98,7 +98,7 @@ fn cut_ready<S: Shelf>(
     requires prefix { IsTrue (is_prefix prefix.now) }
     ensures { Performs (cut_ready every prefix.now ready.now) (S.state shelf.old) (S.state shelf.new) result }
 {
-    match stage_behind(ready) {
+    match stage_after(ready) {
         Some(stage) => cut_stage(alloc, shelf, ready, stage, every, prefix),
         None => usage(alloc),
     }
@@ -174,7 +174,7 @@ fn save_state<S: Shelf>(
     store(alloc, shelf, name.as_str(), text.as_slice())
 }
 
-/// Takes the steps that follow so many saved states. None where the run goes on behind them.
+/// Takes the steps that follow so many saved states. None where the run goes on after them.
 fn go_on(
     alloc: Global,
     stage: &Stage,
@@ -208,7 +208,7 @@ fn go_on(
     }
 }
 
-/// The answer to an exit behind so many saved states.
+/// The answer to an exit after so many saved states.
 fn exited(
     alloc: Global,
     stage: &Stage,

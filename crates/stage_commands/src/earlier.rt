@@ -3,7 +3,7 @@
 ghost use Rattle.std.specs.Prelude.{◌≡◌, ◌<◌, IfOk, IfSome, length};
 ghost use Rattle.ddc_base.specs.Outside.{ShelfState};
 ghost use Rattle.recipe.specs.Lookups.{stage_at};
-ghost use Rattle.wheeler.specs.Valid.{AreDone, IsInputs};
+ghost use Rattle.audit_rules.specs.Valid.{AreDone, IsInputs};
 ghost use Rattle.command_plan.specs.Steps.{Obtains};
 ghost use Rattle.stage_commands.specs.Earlier.{needs_earlier, needs_stage};
 
@@ -12,7 +12,7 @@ use audit_run::stage::Done;
 use command_plan::{Stop, usage};
 use ddc_base::{Bytes, ListOf};
 use recipe::{Inputs, Recipe};
-use recipe_plan::undone;
+use recipe_plan::unfinished;
 use std::alloc::Global;
 
 /// How many stages come before the one of a name.
@@ -53,7 +53,7 @@ pub(crate) fn run_before(
     run_over(alloc, recipe, inputs.as_slice(), count)
 }
 
-/// The same, over inputs that are lent.
+/// The same, over inputs that are borrowed.
 fn run_over(
     alloc: Global,
     recipe: &Recipe,
@@ -68,7 +68,7 @@ fn run_over(
     match run_earlier(alloc, recipe, inputs, count)? {
         Ok(done) => Ok(done),
         Err(not_done) => {
-            let answer = undone(alloc, recipe, not_done.stage, not_done.fault)?;
+            let answer = unfinished(alloc, recipe, not_done.stage, not_done.fault)?;
             Err(Stop::Answered(answer))
         }
     }

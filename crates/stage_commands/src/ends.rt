@@ -1,4 +1,4 @@
-//! `ends RECIPE STAGE PREFIX COUNT`: whether the first saved state is that of the stage's start, and how the run behind the last one ends.
+//! `ends RECIPE STAGE PREFIX COUNT`: whether the first saved state is that of the stage's start, and how the run after the last one ends.
 
 ghost use Rattle.std.specs.Prelude.{◌≡◌, ◌≤◌, ◌<◌, ◌+◌, ◌-◌, ◌^◌, Err, IsTrue, if◌then◌else◌, map};
 ghost use Rattle.ddc_base.specs.Outside.{IsFileName};
@@ -16,13 +16,13 @@ ghost use Rattle.stage_commands.specs.Ends.{ends_files, ends_judged, ends_plan, 
 ghost use Rattle.stage_commands.specs.Exits.{output_left, run_failed};
 ghost use Rattle.stage_commands.specs.Inside.Kept.{IsReady};
 ghost use Rattle.stage_commands.specs.Names.{are_stage_words, as_states, is_prefix, piece_name};
-ghost use Rattle.stage_commands.specs.States.{end_behind, state_said};
+ghost use Rattle.stage_commands.specs.States.{end_after, state_said};
 ghost use Rattle.stage_commands.specs.Texts.{other_first_line, refuted_first_line, refuted_last_line, run_record};
-ghost use Rattle.wheeler.specs.Stages.{contents, finished, start_cause, start_stage};
+ghost use Rattle.audit_rules.specs.Stages.{contents, finished, start_cause, start_stage};
 
 use crate::exits::{output_left, run_failed};
 use crate::names::{are_stage_words, fetch_state, states_of};
-use crate::ready::{Ready, make_ready, stage_behind};
+use crate::ready::{Ready, make_ready, stage_after};
 use crate::texts;
 use audit_run::stage::{box_of, content};
 use command_plan::{Answer, Status, Stop, usage};
@@ -32,7 +32,7 @@ use mem_files::Files;
 use recipe::Stage;
 use segments::{EndAnswer, StartAnswer, StartFault, StateFault, check_end, check_start};
 use std::alloc::Global;
-use wheeler::{RunCause, StartCause};
+use audit_rules::{RunCause, StartCause};
 
 /// Performs the command on the words after its name.
 #[tactic(auto, using(command_plan::proofs::Performing::performing))]
@@ -105,12 +105,12 @@ fn judge_states<S: Shelf>(
     judge(alloc, ready, first.as_slice(), last.as_slice())
 }
 
-/// Judges both texts by the stage behind those that are done.
+/// Judges both texts by the stage after those that are done.
 fn judge(alloc: Global, ready: &Ready, first: &[u8], last: &[u8]) -> Result<Answer, Stop>
     requires { IsReady ready.now }
     ensures { Says (ends_judged ready.now first.now last.now) result }
 {
-    match stage_behind(ready) {
+    match stage_after(ready) {
         Some(stage) => judge_stage(alloc, ready, stage, first, last),
         None => usage(alloc),
     }
@@ -127,7 +127,7 @@ fn judge_stage(
     requires ready { IsReady ready.now }
     requires rules { IsStageOf ready.now.recipe stage.now }
     ensures { Says (needs_first stage.now (start_stage ready.now.recipe (contents ready.now.inputs ready.now.done) stage.now) (state_said first.now)
-        (needs_last stage.now (end_behind last.now stage.now.steps))) result }
+        (needs_last stage.now (end_after last.now stage.now.steps))) result }
 {
     let inputs = ready.inputs.as_slice();
     let done = ready.done.as_slice();
@@ -148,7 +148,7 @@ fn judge_first(
     requires output { kept.IsOutput stage.now.output }
     requires few { stage.now.steps ≤ 2 ^ 48 }
     ensures { Says (needs_first stage.now (start_of program.now given.now) (state_said first.now)
-        (needs_last stage.now (end_behind last.now stage.now.steps))) result }
+        (needs_last stage.now (end_after last.now stage.now.steps))) result }
 {
     match check_start(alloc, program, given, first) {
         StartAnswer::Yes => judge_last(alloc, stage, last),
@@ -190,11 +190,11 @@ fn other_first(alloc: Global, offset: u64) -> Result<Answer, Stop>
     })
 }
 
-/// Judges the last text, and tells what the run behind it left.
+/// Judges the last text, and tells what the run after it left.
 fn judge_last(alloc: Global, stage: &Stage, last: &[u8]) -> Result<Answer, Stop>
     requires output { kept.IsOutput stage.now.output }
     requires few { stage.now.steps ≤ 2 ^ 48 }
-    ensures { Says (needs_last stage.now (end_behind last.now stage.now.steps)) result }
+    ensures { Says (needs_last stage.now (end_after last.now stage.now.steps)) result }
 {
     match check_end(alloc, last, stage.steps) {
         EndAnswer::Ended(guest, end) => ended(alloc, stage, end, &guest, last),
@@ -214,7 +214,7 @@ fn refuted_last(alloc: Global, why: StateFault) -> Result<Answer, Stop>
     })
 }
 
-/// Tells the end of the run behind the last state.
+/// Tells the end of the run after the last state.
 fn ended(
     alloc: Global,
     stage: &Stage,
@@ -225,7 +225,7 @@ fn ended(
     requires output { kept.IsOutput stage.now.output }
     requires few { stage.now.steps ≤ 2 ^ 48 }
     requires ends { EndsWith last.now stage.now.steps guest.now end }
-    ensures { Says (needs_last stage.now (end_behind last.now stage.now.steps)) result }
+    ensures { Says (needs_last stage.now (end_after last.now stage.now.steps)) result }
 {
     let step = guest.steps() + 1;
     match end {

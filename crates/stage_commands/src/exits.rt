@@ -4,7 +4,7 @@ ghost use Rattle.std.specs.Prelude.{◌≡◌, ◌<◌};
 ghost use Rattle.std.specs.Option.{option_copied};
 ghost use Rattle.mem_files.specs.Outputs.{out};
 ghost use Rattle.recipe.specs.Kept as kept;
-ghost use Rattle.wheeler.specs.Stages.{output_of};
+ghost use Rattle.audit_rules.specs.Stages.{output_of};
 ghost use Rattle.command_plan.specs.Steps.{Says};
 ghost use Rattle.stage_commands.specs.Exits.{output_left, run_failed};
 ghost use Rattle.stage_commands.specs.Inside.Going.{IsLeft};
@@ -13,9 +13,9 @@ use command_plan::{Answer, Stop};
 use mem_files::Files;
 use recipe::{Output, Stage};
 use std::alloc::Global;
-use wheeler::RunCause;
+use audit_rules::RunCause;
 
-/// What stands at the stage's output behind an exit with a status, or why nothing does.
+/// What stands at the stage's output after an exit with a status, or why nothing does.
 pub(crate) fn output_left<'a>(
     stage: &Stage,
     status: u8,

@@ -7,7 +7,7 @@ ghost use Rattle.ddc_base.specs.Outside.{NamedFiles};
 ghost use Rattle.command_plan.specs.Words.{are_two_files, as_steps};
 ghost use Rattle.command_plan.specs.declared.status.Status.TheVariants.{TooManySegments, Yes};
 ghost use Rattle.command_plan.specs.Plan.{Plan, outcome};
-ghost use Rattle.stage_commands.specs.Checked.{AreChecked, EndShows, HoldPiece, IsRunTold, piece_told_yes};
+ghost use Rattle.stage_commands.specs.Checked.{AreChecked, EndShows, HoldPiece, IsRunReported, piece_reported_yes};
 ghost use Rattle.stage_commands.specs.CutEnds.{SaysSame, cut_end_from};
 ghost use Rattle.stage_commands.specs.Cutting.{CutStart, IsRightCut, cut_over, ends_over, segment_over};
 ghost use Rattle.stage_commands.specs.Ends.{needs_first};
@@ -19,13 +19,13 @@ ghost use Rattle.guest_run.specs.Setting.{Setting};
 ghost use Rattle.guest_run.specs.Start.{start_of};
 ghost use Rattle.guest_run.specs.State.{GuestState};
 ghost use Rattle.guest_run.specs.Valid.{IsValid};
-ghost use Rattle.wheeler.specs.Stages.{stage_result};
-ghost use Rattle.wheeler.specs.declared.answer.Finished.{Finished};
+ghost use Rattle.audit_rules.specs.Stages.{stage_result};
+ghost use Rattle.audit_rules.specs.declared.answer.Finished.{Finished};
 ghost use Rattle.recipe.specs.declared.parts.Stage.{Stage};
 ghost use Rattle.segments.specs.Segments.{BeginsWith, ChecksPiece, second_text};
 ghost use Rattle.segments.specs.declared.answers.SegmentFault.{SegmentFault};
 ghost use Rattle.segments.specs.declared.answers.StateFault.{StateFault};
-ghost use Rattle.stage_commands.specs.States.{ReadsAs, end_behind, piece_answer, piece_of, state_said};
+ghost use Rattle.stage_commands.specs.States.{ReadsAs, end_after, piece_answer, piece_of, state_said};
 
 /// What a text says as a state is what the rules of texts say.
 pub fn texts_are_read()
@@ -33,7 +33,7 @@ pub fn texts_are_read()
 {}
 
 /// What is printed of two texts is what the check of a piece answers.
-pub fn pieces_are_told()
+pub fn pieces_are_reported()
     ensures { (from to : List ℕ) (result : Result ℕ SegmentFault) → ChecksPiece from to (piece_answer result) → piece_of from to ≡ result }
 {}
 
@@ -43,27 +43,27 @@ pub fn pieces_are_shown()
 {}
 
 /// What is said of a first text is so: `ends` goes on to the last one exactly where the bytes say the state in which the program starts.
-pub fn firsts_are_told()
-    ensures told { (stage : Stage) (program : List ℕ) (setting : Setting) (text : List ℕ) (next : Plan) → BeginsWith program setting text
+pub fn firsts_are_reported()
+    ensures reported { (stage : Stage) (program : List ℕ) (setting : Setting) (text : List ℕ) (next : Plan) → BeginsWith program setting text
         → needs_first stage (start_of program setting) (state_said text) next ≡ next }
     ensures shown { (stage : Stage) (program : List ℕ) (setting : Setting) (text : List ℕ) (begun : GuestState) → start_of program setting ≡ Ok begun → IsValid begun → AreBytes text
         → ((next : Plan) → needs_first stage (start_of program setting) (state_said text) next ≡ next) → BeginsWith program setting text }
 {}
 
-/// What is said of the run behind a last text is so, and nothing else that is so is said.
-pub fn ends_are_told()
-    ensures told { (text : List ℕ) (limit : ℕ) (result : Result (Option (End × GuestState)) StateFault) → EndShows text limit result → end_behind text limit ≡ result }
-    ensures shown { (text : List ℕ) (limit : ℕ) → EndShows text limit (end_behind text limit) }
+/// What is said of the run after a last text is so, and nothing else that is so is said.
+pub fn ends_are_reported()
+    ensures reported { (text : List ℕ) (limit : ℕ) (result : Result (Option (End × GuestState)) StateFault) → EndShows text limit result → end_after text limit ≡ result }
+    ensures shown { (text : List ℕ) (limit : ℕ) → EndShows text limit (end_after text limit) }
 {}
 
 /// `segment` over files of bytes comes to 0 only where the two names hold a piece, and always where they do and are words of two files, and says of
 /// how many steps it is.
-pub fn segments_are_told()
+pub fn segments_are_reported()
     ensures shown { (from to : List ℕ) (files : NamedFiles) → ((name content : List ℕ) → map.get files name ≡ Some content → All (λ byte. byte < 256) content)
         → (segment_over from to files).status ≡ Yes
-        → (steps : ℕ) × HoldPiece from to files steps × (segment_over from to files ≡ piece_told_yes steps files) }
-    ensures told { (from to : List ℕ) (files : NamedFiles) (steps : ℕ) → IsTrue (are_two_files from to) → HoldPiece from to files steps
-        → segment_over from to files ≡ piece_told_yes steps files }
+        → (steps : ℕ) × HoldPiece from to files steps × (segment_over from to files ≡ piece_reported_yes steps files) }
+    ensures reported { (from to : List ℕ) (files : NamedFiles) (steps : ℕ) → IsTrue (are_two_files from to) → HoldPiece from to files steps
+        → segment_over from to files ≡ piece_reported_yes steps files }
 {}
 
 /// Pieces that are checked are the stage's run: where, over files of bytes, `ends RECIPE STAGE PREFIX COUNT` comes to 0, and `segment PREFIX.K
@@ -72,7 +72,7 @@ pub fn segments_are_told()
 pub fn checked_pieces_are_the_run()
     ensures { (recipe stage prefix : List ℕ) (count : ℕ) (files : NamedFiles)
         → ((name content : List ℕ) → map.get files name ≡ Some content → All (λ byte. byte < 256) content)
-        → AreChecked recipe stage prefix count files → IsRunTold recipe stage prefix files (ends_over recipe stage prefix count files) }
+        → AreChecked recipe stage prefix count files → IsRunReported recipe stage prefix files (ends_over recipe stage prefix count files) }
 {}
 
 /// The texts of two valid states of one run, of which the latter is reached from the former by some steps that go on, are told as a piece of
@@ -83,7 +83,7 @@ pub fn neighbours_are_pieces()
 {}
 
 /// A cut is right by its own commands: where `cut RECIPE STAGE EVERY PREFIX` over files of bytes comes to 0, it leaves the states of the stage's
-/// run behind 0, EVERY, 2 * EVERY and so on steps, and changes no other name; over the files afterwards `segment` comes to 0 of every two
+/// run after 0, EVERY, 2 * EVERY and so on steps, and changes no other name; over the files afterwards `segment` comes to 0 of every two
 /// neighbours, and `ends` with the number of states that was printed comes to 0 and says what the run did, as the bench's report does.
 pub fn cuts()
     ensures { (recipe stage every prefix : List ℕ) (files : NamedFiles)
@@ -94,7 +94,7 @@ pub fn cuts()
 /// How a cut ends: where the stage is found and starts, the status and the text are told by the first end of its run within 1,000 times EVERY steps
 /// and its limit. 14 comes exactly where so many steps go on, below the limit.
 pub fn cuts_end()
-    ensures told { (recipe stage every prefix : List ℕ) (files : NamedFiles) (start : CutStart recipe stage prefix files) (steps : ℕ) → as_steps every ≡ Some steps
+    ensures reported { (recipe stage every prefix : List ℕ) (files : NamedFiles) (start : CutStart recipe stage prefix files) (steps : ℕ) → as_steps every ≡ Some steps
         → IsTrue (are_stage_words recipe stage prefix)
         → SaysSame (cut_over recipe stage every prefix files) (outcome (cut_end_from start.named steps start.begun) files) }
     ensures many { (recipe stage every prefix : List ℕ) (files : NamedFiles) (start : CutStart recipe stage prefix files) (steps : ℕ) → as_steps every ≡ Some steps

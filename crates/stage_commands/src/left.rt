@@ -5,13 +5,13 @@ ghost use Rattle.std.specs.Option.{option_copied};
 ghost use Rattle.ddc_base.specs.Outside.{IsFileName};
 ghost use Rattle.mem_files.specs.Names.{is_stripped_name, stripped};
 ghost use Rattle.recipe.specs.Kept.{IsRecipe};
-ghost use Rattle.wheeler.specs.Stages.{contents, start_stage};
-ghost use Rattle.wheeler.specs.Valid.{AreDone, IsInputs};
+ghost use Rattle.audit_rules.specs.Stages.{contents, start_stage};
+ghost use Rattle.audit_rules.specs.Valid.{AreDone, IsInputs};
 ghost use Rattle.command_plan.specs.Performs.{Performs};
 ghost use Rattle.command_plan.specs.Words.{usage};
 ghost use Rattle.recipe_plan.specs.Recipes.{needs_apart, needs_inputs};
 ghost use Rattle.stage_commands.specs.Earlier.{needs_stage};
-ghost use Rattle.stage_commands.specs.Inside.Leaving.{left_behind};
+ghost use Rattle.stage_commands.specs.Inside.Leaving.{left_after};
 ghost use Rattle.stage_commands.specs.Left.{absent_status, are_left_words, run_left, ends_left, bytes_left_at, left_by, left_of_stage, left_files, file_left_line, left_plan, left_status, none_left_line};
 
 use crate::earlier::{run_before, stages_before};
@@ -23,9 +23,9 @@ use guest_run::{Guest, RunEnd, RunRam};
 use mem_files::{Files, is_stripped_name, strip};
 use recipe::{Inputs, Recipe, Stage};
 use recipe_plan::causes::run_cause;
-use recipe_plan::{about_stage, apart, fetch_inputs, fetch_recipe, undone};
+use recipe_plan::{about_stage, apart, fetch_inputs, fetch_recipe, unfinished};
 use std::alloc::Global;
-use wheeler::{Fault, RunCause};
+use audit_rules::{StageFault, RunCause};
 
 /// Performs the command on the words after its name.
 #[tactic(auto, using(command_plan::proofs::Performing::performing))]
@@ -100,7 +100,7 @@ fn find<S: Shelf>(
     requires out { IsFileName out.now }
     requires file { IsTrue (is_stripped_name (stripped file.now)) }
     ensures { Performs (needs_stage recipe.now stage.now (λ count. needs_apart recipe.now out.now (λ _. needs_inputs recipe.now (λ inputs.
-        left_behind recipe.now inputs count file.now out.now)))) (S.state shelf.old) (S.state shelf.new) result }
+        left_after recipe.now inputs count file.now out.now)))) (S.state shelf.old) (S.state shelf.new) result }
 {
     let count = stages_before(alloc, recipe, stage)?;
     apart(alloc, recipe, out)?;
@@ -108,7 +108,7 @@ fn find<S: Shelf>(
     run_earlier(alloc, shelf, recipe, &inputs, count, file, out)
 }
 
-/// Runs so many stages, and then the one behind them.
+/// Runs so many stages, and then the one after them.
 fn run_earlier<S: Shelf>(
     alloc: Global,
     shelf: &mut S,
@@ -122,10 +122,10 @@ fn run_earlier<S: Shelf>(
     requires count { count < length recipe.now.stages }
     requires out { IsFileName out.now }
     requires file { IsTrue (is_stripped_name (stripped file.now)) }
-    ensures { Performs (left_behind recipe.now inputs.now count file.now out.now) (S.state shelf.old) (S.state shelf.new) result }
+    ensures { Performs (left_after recipe.now inputs.now count file.now out.now) (S.state shelf.old) (S.state shelf.new) result }
 {
     let done = run_before(alloc, recipe, inputs, count)?;
-    run_behind(
+    run_after(
         alloc,
         shelf,
         recipe,
@@ -136,8 +136,8 @@ fn run_earlier<S: Shelf>(
     )
 }
 
-/// Runs the stage behind those that are done.
-fn run_behind<S: Shelf>(
+/// Runs the stage after those that are done.
+fn run_after<S: Shelf>(
     alloc: Global,
     shelf: &mut S,
     recipe: &Recipe,
@@ -181,8 +181,8 @@ fn start<S: Shelf>(
     match start_stage(alloc, recipe, stage, inputs, done)? {
         Ok(guest) => run_out(alloc, shelf, stage, guest, file, out),
         Err(cause) => {
-            let fault = Fault::Runs(RunCause::Start(cause), 0);
-            undone(alloc, recipe, done.len() as u32 + 1, fault)
+            let fault = StageFault::Runs(RunCause::Start(cause), 0);
+            unfinished(alloc, recipe, done.len() as u32 + 1, fault)
         }
     }
 }
@@ -313,8 +313,8 @@ fn file_left_line(
     ensures { IfOk result (λ text. text ≡ file_left_line stage.now file.now size cause step) }
 {
     let cause = run_cause(alloc, cause)?;
-    let behind = format!(in alloc; " {file} {size} {cause} step {step}\n")?;
-    about_stage(alloc, b"left ", stage, &behind)
+    let following = format!(in alloc; " {file} {size} {cause} step {step}\n")?;
+    about_stage(alloc, b"left ", stage, &following)
 }
 
 /// FILE was not left, and the run ended so.
@@ -329,6 +329,6 @@ fn none_left_line(
     ensures { IfOk result (λ text. text ≡ none_left_line stage.now file.now cause step) }
 {
     let cause = run_cause(alloc, cause)?;
-    let behind = format!(in alloc; " {file} {cause} step {step}\n")?;
-    about_stage(alloc, b"not left ", stage, &behind)
+    let following = format!(in alloc; " {file} {cause} step {step}\n")?;
+    about_stage(alloc, b"not left ", stage, &following)
 }

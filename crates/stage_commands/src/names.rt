@@ -76,7 +76,7 @@ pub(crate) fn fetch_state<S: Shelf>(
 }
 
 /// Ends the command where the name of a state clashes with RECIPE.
-pub(crate) fn names_beside(alloc: Global, file: &str, prefix: &str) -> Result<(), Stop>
+pub(crate) fn names_relative(alloc: Global, file: &str, prefix: &str) -> Result<(), Stop>
     requires { IsTrue (is_prefix prefix.now) }
     ensures { (shelf : ShelfState) → Obtains (each_name (needs_other file.now) prefix.now 1_000) shelf shelf result }
 {

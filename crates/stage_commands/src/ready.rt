@@ -4,8 +4,8 @@ ghost use Rattle.std.specs.Prelude.{◌≡◌, ℕ, IfOk, IfSome, IsTrue, List, 
 ghost use Rattle.audit_run.specs.Stage.Rules.{IsStageOf};
 ghost use Rattle.ddc_base.specs.Outside.{IsFileName};
 ghost use Rattle.recipe.specs.Kept.{IsRecipe};
-ghost use Rattle.wheeler.specs.Valid.{AreDone, IsInputs};
-ghost use Rattle.wheeler.specs.declared.answer.Finished.{Finished};
+ghost use Rattle.audit_rules.specs.Valid.{AreDone, IsInputs};
+ghost use Rattle.audit_rules.specs.declared.answer.Finished.{Finished};
 ghost use Rattle.command_plan.specs.Plan.{Plan};
 ghost use Rattle.command_plan.specs.Steps.{Obtains};
 ghost use Rattle.recipe_plan.specs.Recipes.{needs_apart, needs_inputs};
@@ -15,7 +15,7 @@ ghost use Rattle.stage_commands.specs.Names.{each_name, is_prefix};
 ghost use Rattle.stage_commands.specs.Ready.{needs_ready};
 
 use crate::earlier::{run_before, stages_before};
-use crate::names::{names_apart, names_beside};
+use crate::names::{names_apart, names_relative};
 use audit_run::stage::Done;
 use command_plan::Stop;
 use ddc_base::{ListOf, Shelf};
@@ -44,7 +44,7 @@ pub(crate) fn make_ready<S: Shelf>(
     ensures obtained { Obtains (needs_ready recipe.now stage.now prefix.now) (S.state shelf.old) (S.state shelf.new) result }
     ensures ready { IfOk result IsReady }
 {
-    names_beside(alloc, recipe, prefix)?;
+    names_relative(alloc, recipe, prefix)?;
     let recipe = fetch_recipe(alloc, shelf, recipe)?;
     let (inputs, done) = run_stages(alloc, shelf, &recipe, stage, prefix)?;
     Ok(Ready {
@@ -76,8 +76,8 @@ fn run_stages<S: Shelf>(
     Ok((inputs, done))
 }
 
-/// The stage behind those that are done.
-pub(crate) fn stage_behind(ready: &Ready) -> Option<&Stage>
+/// The stage after those that are done.
+pub(crate) fn stage_after(ready: &Ready) -> Option<&Stage>
     requires { IsReady ready.now }
     ensures there { MatchOption result (slice_get ready.now.recipe.stages (length ready.now.done) ≡ None)
         (λ stage. slice_get ready.now.recipe.stages (length ready.now.done) ≡ Some stage.now) }
@@ -86,7 +86,7 @@ pub(crate) fn stage_behind(ready: &Ready) -> Option<&Stage>
     stage_at(&ready.recipe, ready.done.as_slice())
 }
 
-/// The same, over stages that are lent.
+/// The same, over stages that are borrowed.
 fn stage_at<'a>(recipe: &'a Recipe, done: &[Done]) -> Option<&'a Stage>
     ensures there { MatchOption result (slice_get recipe.now.stages (length done.now) ≡ None)
         (λ stage. slice_get recipe.now.stages (length done.now) ≡ Some stage.now) }

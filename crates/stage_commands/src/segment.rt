@@ -4,7 +4,7 @@ ghost use Rattle.std.specs.Prelude.{map};
 ghost use Rattle.ddc_base.specs.Outside.{IsFileName};
 ghost use Rattle.command_plan.specs.Performs.{Performs};
 ghost use Rattle.command_plan.specs.Steps.{Says};
-ghost use Rattle.stage_commands.specs.Segment.{piece_told, segment_files, segment_plan};
+ghost use Rattle.stage_commands.specs.Segment.{piece_reported, segment_files, segment_plan};
 ghost use Rattle.stage_commands.specs.States.{piece_of};
 
 use crate::names::STATE_LIMIT;
@@ -40,7 +40,7 @@ fn segment<S: Shelf>(alloc: Global, shelf: &mut S, from: &str, to: &str) -> Resu
 
 /// Whether two texts are a piece.
 fn tell(alloc: Global, from: &[u8], to: &[u8]) -> Result<Answer, Stop>
-    ensures { Says (piece_told (piece_of from.now to.now)) result }
+    ensures { Says (piece_reported (piece_of from.now to.now)) result }
 {
     match check(alloc, from, to) {
         SegmentAnswer::Yes(steps) => Ok(Answer {
@@ -54,7 +54,7 @@ fn tell(alloc: Global, from: &[u8], to: &[u8]) -> Result<Answer, Stop>
 
 /// The answer to two texts that are no piece.
 fn refuted(alloc: Global, why: SegmentFault) -> Result<Answer, Stop>
-    ensures { Says (piece_told (Err why)) result }
+    ensures { Says (piece_reported (Err why)) result }
 {
     Ok(Answer {
         status: Status::Refuted,

@@ -5,16 +5,16 @@ ghost use Rattle.ddc_base.specs.Outside.{IsFileName, ShelfState, SinkState};
 ghost use Rattle.mem_files.specs.Outputs.{IsContent};
 ghost use Rattle.prompt.specs.Prompts.{PromptState};
 ghost use Rattle.prompt.specs.Talks.{talk};
-ghost use Rattle.session.specs.Sessions.{reply_to};
-ghost use Rattle.wheeler.specs.Stages.{contents};
-ghost use Rattle.wheeler.specs.Valid.{AreDone, IsInputs};
+ghost use Rattle.step_debug.specs.Sessions.{reply_to};
+ghost use Rattle.audit_rules.specs.Stages.{contents};
+ghost use Rattle.audit_rules.specs.Valid.{AreDone, IsInputs};
 ghost use Rattle.audit_run.specs.Stage.Rules.{AreMade, IsStageOf};
 ghost use Rattle.command_plan.specs.Performs.{PerformsTalk};
 ghost use Rattle.command_plan.specs.Plan.{talks};
 ghost use Rattle.command_plan.specs.Steps.{Obtains};
 ghost use Rattle.command_plan.specs.Words.{usage};
 ghost use Rattle.recipe_plan.specs.Recipes.{needs_inputs};
-ghost use Rattle.stage_commands.specs.Inside.Leaving.{talks_behind};
+ghost use Rattle.stage_commands.specs.Inside.Leaving.{talks_after};
 ghost use Rattle.stage_commands.specs.Earlier.{needs_stage};
 ghost use Rattle.stage_commands.specs.Step.{are_step_words, needs_session, session_of, step_plan, step_stage};
 
@@ -26,10 +26,10 @@ use ddc_base::{Bytes, ListOf, OutOfMemory, PutFail, Shelf, Sink};
 use guest_run::StartRefusal;
 use prompt::{Prompt, converse};
 use recipe::{Inputs, Recipe, Stage};
-use recipe_plan::{fetch_inputs, fetch_recipe, undone};
-use session::Session;
+use recipe_plan::{fetch_inputs, fetch_recipe, unfinished};
+use step_debug::Session;
 use std::alloc::Global;
-use wheeler::{Fault, RunCause, StartCause};
+use audit_rules::{StageFault, RunCause, StartCause};
 
 /// The most lines of a session.
 const MOST_LINES: u32 = 65_536;
@@ -104,16 +104,16 @@ fn find<S: Shelf, K: Sink, P: Prompt>(
     out: &mut K,
     prompt: &mut P,
 ) -> Result<Result<(), PutFail>, Stop>
-    ensures { PerformsTalk (needs_stage recipe.now stage.now (λ count. needs_inputs recipe.now (λ inputs. talks_behind recipe.now inputs count)))
+    ensures { PerformsTalk (needs_stage recipe.now stage.now (λ count. needs_inputs recipe.now (λ inputs. talks_after recipe.now inputs count)))
         (S.state shelf.old) (S.state shelf.new) (K.state out.old) (K.state out.new) (P.state prompt.old) (P.state prompt.new) result }
 {
     let count = stages_before(alloc, recipe, stage)?;
     let inputs = fetch_inputs(alloc, shelf, recipe)?;
-    talk_behind(alloc, recipe, &inputs, count, out, prompt)
+    talk_after(alloc, recipe, &inputs, count, out, prompt)
 }
 
-/// Runs so many stages, and answers lines about the one behind them.
-fn talk_behind<K: Sink, P: Prompt>(
+/// Runs so many stages, and answers lines about the one after them.
+fn talk_after<K: Sink, P: Prompt>(
     alloc: Global,
     recipe: &Recipe,
     inputs: &Inputs,
@@ -123,14 +123,14 @@ fn talk_behind<K: Sink, P: Prompt>(
 ) -> Result<Result<(), PutFail>, Stop>
     requires given { IsInputs recipe.now inputs.now }
     requires count { count < length recipe.now.stages }
-    ensures { (shelf : ShelfState) → PerformsTalk (talks_behind recipe.now inputs.now count) shelf shelf
+    ensures { (shelf : ShelfState) → PerformsTalk (talks_after recipe.now inputs.now count) shelf shelf
         (K.state out.old) (K.state out.new) (P.state prompt.old) (P.state prompt.new) result }
 {
     let done = run_before(alloc, recipe, inputs, count)?;
     talk(alloc, recipe, inputs, &done, out, prompt)
 }
 
-/// Answers lines about the stage behind those that are done.
+/// Answers lines about the stage after those that are done.
 fn talk<K: Sink, P: Prompt>(
     alloc: Global,
     recipe: &Recipe,
@@ -148,7 +148,7 @@ fn talk<K: Sink, P: Prompt>(
     Ok(converse(&mut session, MOST_LINES, prompt, out))
 }
 
-/// Starts the stage behind those that are done; a start that is refused ends the command.
+/// Starts the stage after those that are done; a start that is refused ends the command.
 fn start_session<'a>(
     alloc: Global,
     recipe: &'a Recipe,
@@ -162,7 +162,7 @@ fn start_session<'a>(
     start_over(alloc, recipe, inputs.as_slice(), done.as_slice())
 }
 
-/// The same, over inputs and stages that are lent.
+/// The same, over inputs and stages that are borrowed.
 fn start_over<'a>(
     alloc: Global,
     recipe: &'a Recipe,
@@ -179,8 +179,8 @@ fn start_over<'a>(
     match open(alloc, recipe, stage, inputs, done)? {
         Ok(session) => Ok(session),
         Err(cause) => {
-            let fault = Fault::Runs(RunCause::Start(cause), 0);
-            let answer = undone(alloc, recipe, done.len() as u32 + 1, fault)?;
+            let fault = StageFault::Runs(RunCause::Start(cause), 0);
+            let answer = unfinished(alloc, recipe, done.len() as u32 + 1, fault)?;
             Err(Stop::Answered(answer))
         }
     }

@@ -3,10 +3,10 @@
 ghost use Rattle.std.specs.Prelude.{◌≡◌, ◌++◌, IfOk, OnOk, string_bytes};
 ghost use Rattle.ddc_base.specs.Lines.{line};
 ghost use Rattle.report.specs.Lines.{line_words};
-ghost use Rattle.report.specs.declared.line.Line.TheVariants.{Made, Stage};
+ghost use Rattle.report.specs.declared.line.ReportLine.TheVariants.{Made, Stage};
 ghost use Rattle.stage_commands.specs.Texts.{cut_line, other_first_line, refuted_first_line, refuted_last_line, refuted_segment_line, run_record, segment_line, too_many_line};
 ghost use Rattle.report.specs.Marks.{mark_of};
-ghost use Rattle.wheeler.specs.Stages.{finished};
+ghost use Rattle.audit_rules.specs.Stages.{finished};
 
 use ddc_base::{Bytes, Name, OutOfMemory, digest, put_decimal, put_hex};
 use mem_files::Files;

@@ -3,7 +3,7 @@
 
 ghost use Rattle.std.specs.Prelude.{◌≡◌};
 
-use save_text::state_text::Run;
+use save_format::state_text::Run;
 
 #[cfg(test)]
 mod files;

@@ -12,8 +12,8 @@ use Rattle.std.proofs.lemmas.List.{at_drop_more, drop_all}
 use Rattle.std.proofs.lemmas.List.Elements.{All-head, All-tail}
 use Rattle.std.proofs.lemmas.Slice.Eq.{bytes_eq-Decides}
 use Rattle.ddc_base.specs.Outside.{ShelfState}
-use Rattle.mem_files.specs.declared.slot.PlaceRefusal.{PlaceRefusal}
-use Rattle.mem_files.specs.declared.slot.PlaceRefusal.TheVariants.{BadName, Twice, Full}
+use Rattle.mem_files.specs.declared.open_file.PlaceRefusal.{PlaceRefusal}
+use Rattle.mem_files.specs.declared.open_file.PlaceRefusal.TheVariants.{BadName, Twice, Full}
 use Rattle.mem_files.specs.Calls.{first_world, is_full, placed, with_file}
 use Rattle.mem_files.specs.Names.{bytes_cmp, is_file_name, stripped}
 use Rattle.mem_files.specs.World.{World, lowest_unused, total}
@@ -83,8 +83,8 @@ module _ (listed : FilesListed) (room : ℕ) (word : List ℕ) (words : List (Li
   pub placed-so : IsPlaced listed word content
   placed-so = ap (λ (p : Result (Unit {0}) PlaceRefusal × World). p.0) is-placed
 
-  pub room-behind : HasRoom (and_file listed word content) (room - length content) words
-  room-behind =
+  pub room-following : HasRoom (and_file listed word content) (room - length content) words
+  room-following =
       let number = lowest_unused listed.world.files in
       let grown = total-insert listed.world (lowest_unused listed.world.files) content in
       let longer : fin.len made.names ≡ fin.len listed.world.names + 1 =
@@ -105,7 +105,7 @@ module _ (listed : FilesListed) (room : ℕ) (word : List ℕ) (words : List (Li
 
 -- ---- the plan
 
--- the files of these words are needed yet, behind the files so far
+-- the files of these words are needed yet, after the files so far
 abbrev pub files_left : ℕ → FilesListed → List (List ℕ) → (FilesListed → Plan) → Plan
 files_left room listed words next = needs_all 268_435_456 room words (λ contents. next (and_files listed words contents))
 
@@ -126,23 +126,23 @@ module _ (plan : (FilesListed → Plan) → Plan) (listed : FilesListed) (room :
 
   -- one word more
   module _ (word text : List ℕ) (limit : ℕ) (front : drop index words ≡ word ∷ drop (index + 1) words) (named : text ≡ word) (limited : limit ≡ min 268_435_456 room) where
-    abbrev behind : (FilesListed → Plan) → List ℕ → Plan
-    behind next content = files_left (room - length content) (and_file listed word content) (drop (index + 1) words) next
+    abbrev following : (FilesListed → Plan) → List ℕ → Plan
+    following next content = files_left (room - length content) (and_file listed word content) (drop (index + 1) words) next
 
-    here : LeadsOn plan (λ next. needs text limit (behind next)) old now
+    here : LeadsOn plan (λ next. needs text limit (following next)) old now
     here =
-        subst (λ t. LeadsOn plan (λ next. needs t limit (behind next)) old now) (sym named)
-        (subst (λ l. LeadsOn plan (λ next. needs word l (behind next)) old now) (sym limited)
+        subst (λ t. LeadsOn plan (λ next. needs t limit (following next)) old now) (sym named)
+        (subst (λ l. LeadsOn plan (λ next. needs word l (following next)) old now) (sym limited)
         (subst (λ (left : List (List ℕ)). LeadsOn plan (files_left room listed left) old now) front leads))
 
     pub file-ends : (new : ShelfState) (ending : Stop) → Obtains (needs text limit) now new (Err ending) → Obtains plan old new (Err ending)
     file-ends new ending o = record {
-      by_result = λ next. led_to plan (λ n. needs text limit (behind n)) old now here next new (Err ending) (o.by_result (behind next));
+      by_result = λ next. led_to plan (λ n. needs text limit (following n)) old now here next new (Err ending) (o.by_result (following next));
     }
 
     pub file-more : (mid : ShelfState) (content : List ℕ) → Obtains (needs text limit) now mid (Ok content)
         → LeadsOn plan (files_left (room - length content) (and_file listed word content) (drop (index + 1) words)) old mid
-    file-more mid content o = λ next final ending e. here next final ending (o.by_result (behind next) final ending e)
+    file-more mid content o = λ next final ending e. here next final ending (o.by_result (following next) final ending e)
 
     pub file-added : (mid : ShelfState) (content : List ℕ) (left : ℕ) (grown : FilesListed) → Obtains (needs text limit) now mid (Ok content)
         → HasRoom (and_file listed word content) (room - length content) (drop (index + 1) words) → left ≡ room - length content → grown ≡ and_file listed word content

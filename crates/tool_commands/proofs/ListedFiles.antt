@@ -15,7 +15,7 @@ use Rattle.kaem_script.proofs.Names.{list-more}
 use Rattle.command_plan.specs.Lists.{is_line_feed, is_listed_byte, is_listed_word, list_of, listed_after, with_line_item}
 use Rattle.command_plan.proofs.Listing.{holds-listed, parts-of}
 use Rattle.tool_commands.specs.Scripts.{and_file, and_files, file_line, stands_for_another}
-use Rattle.tool_commands.proofs.FilePlaces.{HasRoom, placed-so, room-at-first, room-behind}
+use Rattle.tool_commands.proofs.FilePlaces.{HasRoom, placed-so, room-at-first, room-following}
 use Rattle.tool_commands.proofs.FileWords.{file-named, listed-apart}
 
 -- ---- no text lists more than so many
@@ -90,7 +90,7 @@ files-listed (word ∷ words) (content ∷ contents) room listed list sound has 
     files-listed words contents (room - length content) (and_file listed word content)
     (list-more listed.names w (placed w word content).1 word content list (λ i. (placing i, (placed w word content).1)))
     (placed-sound w word content sound good.bytes is.bytes)
-    (room-behind listed room word words content has good.named small within)
+    (room-following listed room word words content has good.named small within)
     (All-tail IsFileWord word words are) (omega (arith, count)) (All-tail IsContent content contents each) (omega (arith, fits, sum))
 
 -- of a list that reads, with a content for each of its words, within the limits

@@ -2,7 +2,7 @@
 
 ghost use Rattle.std.specs.Prelude.{◌≡◌, ◌≤◌, ◌^◌, All, if◌then◌else◌, length, map, sum_by};
 ghost use Rattle.ddc_base.specs.Outside.{IsFileName};
-ghost use Rattle.report.specs.declared.script.types.CommandLine.{CommandLine as Line};
+ghost use Rattle.report.specs.declared.script.types.CommandLine.{CommandLine as ReportLine};
 ghost use Rattle.report.specs.Script.Reports.{IsCommandLine, IsScriptReport, script_report_text};
 ghost use Rattle.kaem_script.specs.Fold.{folded};
 ghost use Rattle.command_plan.specs.declared.status.Status.TheVariants.{RunFailed, Yes};
@@ -132,7 +132,7 @@ fn save<S: Shelf>(
 ) -> Result<Answer, Stop>
     requires file { IsFileName file.now }
     requires report { IsScriptReport made.now }
-    ensures { Performs (sets file.now (script_report_text made.now) (answers Yes (done_line (length made.now.commands) (sum_by (λ (c : Line). c.steps) made.now.commands))))
+    ensures { Performs (sets file.now (script_report_text made.now) (answers Yes (done_line (length made.now.commands) (sum_by (λ (c : ReportLine). c.steps) made.now.commands))))
         (S.state shelf.old) (S.state shelf.new) result }
 {
     let answer = done(alloc, made.commands.as_slice())?;
@@ -144,7 +144,7 @@ fn save<S: Shelf>(
 fn done(alloc: Global, commands: &[CommandLine]) -> Result<Answer, Stop>
     requires few { length commands.now ≤ 4096 }
     requires each { All IsCommandLine commands.now }
-    ensures { Says (answers Yes (done_line (length commands.now) (sum_by (λ (c : Line). c.steps) commands.now))) result }
+    ensures { Says (answers Yes (done_line (length commands.now) (sum_by (λ (c : ReportLine). c.steps) commands.now))) result }
 {
     Ok(Answer {
         status: Status::Yes,
@@ -156,7 +156,7 @@ fn done(alloc: Global, commands: &[CommandLine]) -> Result<Answer, Stop>
 fn steps_in_all(commands: &[CommandLine]) -> u64
     requires few { length commands.now ≤ 4096 }
     requires each { All IsCommandLine commands.now }
-    ensures { result ≡ sum_by (λ (c : Line). c.steps) commands.now }
+    ensures { result ≡ sum_by (λ (c : ReportLine). c.steps) commands.now }
 {
     let mut steps = 0;
     for command in commands {

@@ -15,20 +15,20 @@ use Rattle.guest_run.specs.Program.{ProgramRun}
 use Rattle.guest_run.proofs.Endings.{end-counted, run-sound}
 use Rattle.guest_run.proofs.Running.{after-counted, end_at-next}
 use Rattle.guest_run.proofs.RunLaws.{first_end-found, no_end_at-zero}
-use Rattle.recipe.specs.declared.contents.Said.{Said}
+use Rattle.recipe.specs.declared.contents.RecipeContents.{RecipeContents}
 use Rattle.recipe.specs.declared.parts.Stage.{Stage}
 use Rattle.report.specs.declared.types.StageLine.{StageLine}
-use Rattle.wheeler.specs.declared.source_check.cause.CheckCause.{CheckCause}
-use Rattle.wheeler.specs.declared.answer.Fault.TheVariants.{Runs}
-use Rattle.wheeler.specs.declared.answer.Finished.{Finished}
-use Rattle.wheeler.specs.declared.cause.RunCause.TheVariants as run
+use Rattle.audit_rules.specs.declared.source_check.cause.CheckCause.{CheckCause}
+use Rattle.audit_rules.specs.declared.answer.StageFault.TheVariants.{Runs}
+use Rattle.audit_rules.specs.declared.answer.Finished.{Finished}
+use Rattle.audit_rules.specs.declared.cause.RunCause.TheVariants as run
 use Rattle.recipe.specs.Kept.{IsRecipe}
-use Rattle.wheeler.specs.Contents.{Contents, box_of, check_of, program_of}
-use Rattle.wheeler.specs.Stages.{artefact_bytes, by_end, by_start, checked_by, contents, finished, made_by, output_of, stage_result, start_stage}
-use Rattle.wheeler.proofs.Continues.{fresh}
-use Rattle.wheeler.proofs.Endings.{ended}
-use Rattle.wheeler.proofs.GivenBoxes.{AreContents, box-is, content-is}
-use Rattle.wheeler.proofs.Slices.{end-place}
+use Rattle.audit_rules.specs.Contents.{Contents, box_of, check_of, program_of}
+use Rattle.audit_rules.specs.Stages.{artefact_bytes, by_end, by_start, checked_by, contents, finished, made_by, output_of, stage_result, start_stage}
+use Rattle.audit_rules.proofs.Continues.{fresh}
+use Rattle.audit_rules.proofs.Endings.{ended}
+use Rattle.audit_rules.proofs.GivenBoxes.{AreContents, box-is, content-is}
+use Rattle.audit_rules.proofs.Slices.{end-place}
 use Rattle.verifier.proofs.StageRules.{rules-of}
 use Rattle.verifier.specs.declared.part.Part.{Part}
 use Rattle.verifier.specs.declared.part.Part.TheVariants as part
@@ -36,7 +36,7 @@ use Rattle.report.specs.Marks.{is_mark_of}
 use Rattle.verifier.specs.Faults.{◌>>=◌, checked_artefact, exit_of, has_left, left_at, made_as, or_fails, recorded, replayed, size_of}
 
 -- the program ends by an exit with 0 at this step, and what it leaves has an artefact that is small enough and right
-pub record IsDone (recipe : Said) (inputs : List (List ℕ)) (done : List Finished) (stage : Stage) (steps : ℕ) (world : World) (made : List ℕ) : Type 0 where
+pub record IsDone (recipe : RecipeContents) (inputs : List (List ℕ)) (done : List Finished) (stage : Stage) (steps : ℕ) (world : World) (made : List ℕ) : Type 0 where
   pub guest : GuestState
   pub last : GuestState
   pub started : start_stage recipe (contents inputs done) stage ≡ Ok guest
@@ -49,7 +49,7 @@ pub record IsDone (recipe : Said) (inputs : List (List ℕ)) (done : List Finish
 
 -- ---- the bench's stage
 
-pub result-done : (recipe : Said) (inputs : List (List ℕ)) (done : List Finished) (stage : Stage) (f : Finished) → stage_result recipe inputs done stage ≡ Ok f
+pub result-done : (recipe : RecipeContents) (inputs : List (List ℕ)) (done : List Finished) (stage : Stage) (f : Finished) → stage_result recipe inputs done stage ≡ Ok f
     → (world : World) × (made : List ℕ) × IsDone recipe inputs done stage f.steps world made × (f ≡ finished f.steps world made)
 unfolding finished
 result-done recipe inputs done stage f is = by_begin (start_stage recipe (contents inputs done) stage) refl is where
@@ -84,7 +84,7 @@ result-done recipe inputs done stage f is = by_begin (start_stage recipe (conten
           e.is ∙ ap (λ s. finished s last.world e.made) (sym steps),
         )
 
-pub done-result : (recipe : Said) (inputs : List (List ℕ)) (done : List Finished) (stage : Stage) (steps : ℕ) (world : World) (made : List ℕ)
+pub done-result : (recipe : RecipeContents) (inputs : List (List ℕ)) (done : List Finished) (stage : Stage) (steps : ℕ) (world : World) (made : List ℕ)
     → IsDone recipe inputs done stage steps world made → stage_result recipe inputs done stage ≡ Ok (finished steps world made)
 done-result recipe inputs done stage steps world made ok =
     let counted = end-counted ok.guest ok.last steps (Exited 0) ok.ended in
@@ -107,7 +107,7 @@ sizes sum (f ∷ done) = sizes (sum + length f.made) done
 pub size-of : (inputs : List (List ℕ)) (done : List Finished) → size_of (contents inputs done) ≡ artefact_bytes done
 size-of inputs done = sizes 0 done
 
--- what stands behind a chain that comes to a value
+-- what stands after a chain that comes to a value
 chained : {A B : Type 0} (r : Result A Part) (rest : A → Result B Part) (value : B) → (r >>= rest) ≡ Ok value → (found : A) × (r ≡ Ok found) × (rest found ≡ Ok value)
 chained (Ok found) rest value is = (found, refl, is)
 chained (Err why) rest value is = absurd cc
@@ -195,14 +195,14 @@ right-is found made None is = (refl, ap (λ (r : Result (List ℕ) Part). value_
   value_of (Err e) = found
 right-is found made (Some why) is = absurd cc
 
--- what stands behind a line that is right
-record Judged (recipe : Said) (so_far : Contents) (stage : Stage) (line : StageLine) (made : List ℕ) : Type 0 where
+-- what stands after a line that is right
+record Judged (recipe : RecipeContents) (so_far : Contents) (stage : Stage) (line : StageLine) (made : List ℕ) : Type 0 where
   world : World
   run : Ran (start_stage recipe so_far stage) stage.steps line.steps world
   artefact : Made so_far stage line world made
   right : check_of recipe so_far stage made ≡ None
 
-judged : (recipe : Said) (so_far : Contents) (stage : Stage) (line : StageLine) (made : List ℕ) → replayed recipe so_far stage line ≡ Ok made
+judged : (recipe : RecipeContents) (so_far : Contents) (stage : Stage) (line : StageLine) (made : List ℕ) → replayed recipe so_far stage line ≡ Ok made
     → Judged recipe so_far stage line made
 unfolding replayed
 judged recipe so_far stage line made is =
@@ -219,7 +219,7 @@ judged recipe so_far stage line made is =
       right = ap (check_of recipe so_far stage) (sym third.1) ∙ third.0;
     }
 
-pub replayed-done : (recipe : Said) (inputs : List (List ℕ)) (done : List Finished) (stage : Stage) (line : StageLine) (made : List ℕ)
+pub replayed-done : (recipe : RecipeContents) (inputs : List (List ℕ)) (done : List Finished) (stage : Stage) (line : StageLine) (made : List ℕ)
     → replayed recipe (contents inputs done) stage line ≡ Ok made
     → (world : World) × IsDone recipe inputs done stage line.steps world made × (has_left line world ≡ true) × (is_mark_of line.made made ≡ true)
 replayed-done recipe inputs done stage line made is =
@@ -243,7 +243,7 @@ replayed-done recipe inputs done stage line made is =
     )
 
 -- the artefact of a stage that is right is a content, and within the limit of all artefacts
-pub replayed-content : (recipe : Said) (so_far : Contents) (stage : Stage) (line : StageLine) (made : List ℕ) → IsRecipe recipe → Contains recipe.stages stage
+pub replayed-content : (recipe : RecipeContents) (so_far : Contents) (stage : Stage) (line : StageLine) (made : List ℕ) → IsRecipe recipe → Contains recipe.stages stage
     → AreContents so_far → replayed recipe so_far stage line ≡ Ok made → IsContent made × (size_of so_far + length made ≤ 1073741824)
 replayed-content recipe so_far stage line made is known are right =
     let j = judged recipe so_far stage line made right in
@@ -257,7 +257,7 @@ some-step : (guest : GuestState) (end : End × GuestState) (steps : ℕ) → end
 some-step guest end zero is = absurd (no_end_at-zero guest end is)
 some-step guest end (suc count) is = omega arith
 
-pub done-replayed : (recipe : Said) (inputs : List (List ℕ)) (done : List Finished) (stage : Stage) (line : StageLine) (world : World) (made : List ℕ)
+pub done-replayed : (recipe : RecipeContents) (inputs : List (List ℕ)) (done : List Finished) (stage : Stage) (line : StageLine) (world : World) (made : List ℕ)
     → IsDone recipe inputs done stage line.steps world made → has_left line world ≡ true → is_mark_of line.made made ≡ true
     → replayed recipe (contents inputs done) stage line ≡ Ok made
 unfolding replayed

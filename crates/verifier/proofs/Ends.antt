@@ -6,7 +6,7 @@ use Rattle.guest_run.specs.State.{GuestState}
 use Rattle.guest_run.specs.Run.{End, Exited, Trapped, UnknownCall, end_at, end_of, first_end}
 use Rattle.guest_run.proofs.Running.{after-counted, end_at-next}
 use Rattle.guest_run.proofs.RunLaws.{first_end-found, one_end-law}
-use Rattle.wheeler.proofs.Slices.{end-place}
+use Rattle.audit_rules.proofs.Slices.{end-place}
 use Rattle.verifier.specs.Faults.{exit_of, or_fails}
 use Rattle.verifier.specs.declared.part.Part.TheVariants as part
 

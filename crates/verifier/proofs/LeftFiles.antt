@@ -46,7 +46,7 @@ line-missing lines index line w given less none =
     at_drop_more (λ l. names_left l (left_after w given)) lines index line less
     ∙ ap (names_left (get_or lines index line ∷ drop (index + 1) lines)) (left-end w given none)
 
--- behind the last line there is no further file, or one without a line
+-- after the last line there is no further file, or one without a line
 pub line-end : (lines : List LeftLine) (index : ℕ) (w : World) (given : Option (List ℕ)) → length lines ≤ index
     → names_left (drop index lines) (left_after w given) ≡ is_none (find (is_after given) (finite.keys w.names))
 line-end lines index w given past =

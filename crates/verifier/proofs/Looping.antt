@@ -4,10 +4,10 @@ use Rattle.std.specs.Prelude.{Contains, slice_get}
 use Rattle.std.proofs.lemmas.Bool.{cases_lt}
 use Rattle.std.proofs.lemmas.Option.{same_Some, slice_get-get_or, slice_get_past}
 use Rattle.std.proofs.lemmas.List.{at_drop_all, at_drop_more}
-use Rattle.recipe.specs.declared.contents.Said.{Said}
+use Rattle.recipe.specs.declared.contents.RecipeContents.{RecipeContents}
 use Rattle.recipe.specs.declared.parts.Stage.{Stage}
 use Rattle.report.specs.declared.types.StageLine.{StageLine}
-use Rattle.wheeler.specs.Contents.{Contents}
+use Rattle.audit_rules.specs.Contents.{Contents}
 use Rattle.verifier.specs.declared.part.Part.{Part}
 use Rattle.verifier.specs.Faults.{fault_after_stage, replayed, stages_fault, with_artefact}
 use Rattle.verifier.specs.Verdicts.{AreReplayed, StandsAtStage}
@@ -40,7 +40,7 @@ among xs index x is = elim (cases_lt index (length xs)) [
 ]
 
 -- the next stage and its line
-pub at_stage : (recipe : Said) (last : Contents → Option (Part × ℕ)) (so_far : Contents) (stages : List Stage) (lines : List StageLine) (index : ℕ) (stage : Stage) (line : StageLine)
+pub at_stage : (recipe : RecipeContents) (last : Contents → Option (Part × ℕ)) (so_far : Contents) (stages : List Stage) (lines : List StageLine) (index : ℕ) (stage : Stage) (line : StageLine)
     → slice_get stages index ≡ Some stage → index < length lines → line ≡ get_or lines index line
     → stages_fault recipe last so_far (drop index stages) (drop index lines)
     ≡ stages_fault recipe last so_far (stage ∷ drop (index + 1) stages) (line ∷ drop (index + 1) lines)
@@ -48,24 +48,24 @@ at_stage recipe last so_far stages lines index stage line found less is =
     let next : drop index lines ≡ line ∷ drop (index + 1) lines = at_drop_more (λ l. l) lines index line less ∙ ap (λ l. l ∷ drop (index + 1) lines) (sym is) in
     λ i. stages_fault recipe last so_far (drop-found stages index stage found i) (next i)
 
-pub goes_on : (recipe : Said) (last : Contents → Option (Part × ℕ)) (so_far : Contents) (stage : Stage) (later : List Stage) (line : StageLine) (others : List StageLine) (made : List ℕ)
+pub goes_on : (recipe : RecipeContents) (last : Contents → Option (Part × ℕ)) (so_far : Contents) (stage : Stage) (later : List Stage) (line : StageLine) (others : List StageLine) (made : List ℕ)
     → replayed recipe so_far stage line ≡ Ok made
     → stages_fault recipe last so_far (stage ∷ later) (line ∷ others) ≡ stages_fault recipe last (with_artefact so_far made) later others
 goes_on recipe last so_far stage later line others made is =
     ap (λ r. fault_after_stage (length so_far.artefacts + 1) r (λ m. stages_fault recipe last (with_artefact so_far m) later others)) is
 
-pub stops : (recipe : Said) (last : Contents → Option (Part × ℕ)) (so_far : Contents) (stage : Stage) (later : List Stage) (line : StageLine) (others : List StageLine) (why : Part)
+pub stops : (recipe : RecipeContents) (last : Contents → Option (Part × ℕ)) (so_far : Contents) (stage : Stage) (later : List Stage) (line : StageLine) (others : List StageLine) (why : Part)
     → replayed recipe so_far stage line ≡ Err why
     → stages_fault recipe last so_far (stage ∷ later) (line ∷ others) ≡ Some (why, length so_far.artefacts + 1)
 stops recipe last so_far stage later line others why is =
     ap (λ r. fault_after_stage (length so_far.artefacts + 1) r (λ m. stages_fault recipe last (with_artefact so_far m) later others)) is
 
--- behind the last stage, or the last line, the comparison is left
-pub no_stage : (recipe : Said) (last : Contents → Option (Part × ℕ)) (so_far : Contents) (stages : List Stage) (lines : List StageLine) (index : ℕ) → slice_get stages index ≡ None
+-- after the last stage, or the last line, the comparison is left
+pub no_stage : (recipe : RecipeContents) (last : Contents → Option (Part × ℕ)) (so_far : Contents) (stages : List Stage) (lines : List StageLine) (index : ℕ) → slice_get stages index ≡ None
     → stages_fault recipe last so_far (drop index stages) lines ≡ last so_far
 no_stage recipe last so_far stages lines index none = ap (λ s. stages_fault recipe last so_far s lines) (drop-past stages index none)
 
-pub no_line : (recipe : Said) (last : Contents → Option (Part × ℕ)) (so_far : Contents) (stages : List Stage) (lines : List StageLine) (index : ℕ) → length lines ≤ index
+pub no_line : (recipe : RecipeContents) (last : Contents → Option (Part × ℕ)) (so_far : Contents) (stages : List Stage) (lines : List StageLine) (index : ℕ) → length lines ≤ index
     → stages_fault recipe last so_far stages (drop index lines) ≡ last so_far
 no_line recipe last so_far stages lines index past = at_drop_all (stages_fault recipe last so_far stages) lines index past ∙ by_stages stages where
   by_stages : (stages : List Stage) → stages_fault recipe last so_far stages [] ≡ last so_far
@@ -74,7 +74,7 @@ no_line recipe last so_far stages lines index past = at_drop_all (stages_fault r
 
 -- ---- the lines that are right
 
-one-more : (recipe : Said) (so_far all : Contents) (stages : List Stage) (lines : List StageLine) (stage : Stage) (line : StageLine) (made : List ℕ)
+one-more : (recipe : RecipeContents) (so_far all : Contents) (stages : List Stage) (lines : List StageLine) (stage : Stage) (line : StageLine) (made : List ℕ)
     → AreReplayed recipe so_far stages lines all → replayed recipe all stage line ≡ Ok made
     → AreReplayed recipe so_far (stages ++ stage ∷ []) (lines ++ line ∷ []) (with_artefact all made)
 one-more recipe so_far all [] [] stage line made before right =
@@ -84,7 +84,7 @@ one-more recipe so_far all (s ∷ stages) [] stage line made before right = absu
 one-more recipe so_far all (s ∷ stages) (l ∷ lines) stage line made before right =
     (before.0, before.1, one-more recipe (with_artefact so_far before.0) all stages lines stage line made before.2 right)
 
-pub replayed_on : (recipe : Said) (so_far all : Contents) (stages : List Stage) (lines : List StageLine) (index : ℕ) (stage : Stage) (line : StageLine) (made : List ℕ)
+pub replayed_on : (recipe : RecipeContents) (so_far all : Contents) (stages : List Stage) (lines : List StageLine) (index : ℕ) (stage : Stage) (line : StageLine) (made : List ℕ)
     → slice_get stages index ≡ Some stage → index < length lines → line ≡ get_or lines index line
     → AreReplayed recipe so_far (take index stages) (take index lines) all → replayed recipe all stage line ≡ Ok made
     → AreReplayed recipe so_far (take (index + 1) stages) (take (index + 1) lines) (with_artefact all made)
@@ -94,7 +94,7 @@ replayed_on recipe so_far all stages lines index stage line made found less is b
     (subst (λ (l : List StageLine). AreReplayed recipe so_far (take index stages ++ stage ∷ []) l (with_artefact all made)) (sym (take-found lines index line there))
     (one-more recipe so_far all (take index stages) (take index lines) stage line made before right))
 
-pub stands : (recipe : Said) (inputs : List (List ℕ)) (stages : List Stage) (lines : List StageLine) (index number : ℕ) (so_far : Contents) (stage : Stage)
+pub stands : (recipe : RecipeContents) (inputs : List (List ℕ)) (stages : List Stage) (lines : List StageLine) (index number : ℕ) (so_far : Contents) (stage : Stage)
     → stages ≡ recipe.stages → number ≡ index + 1 → slice_get stages index ≡ Some stage
     → AreReplayed recipe (record { inputs = inputs; artefacts = [] }) (take index stages) (take index lines) so_far
     → StandsAtStage recipe inputs lines number

@@ -16,10 +16,10 @@ use Rattle.report.specs.declared.types.Compared.TheVariants.{Equal, Differs}
 use Rattle.report.specs.declared.types.LeftLine.{LeftLine}
 use Rattle.report.specs.declared.types.Mark.{Mark}
 use Rattle.report.specs.declared.types.StageLine.{StageLine}
-use Rattle.wheeler.specs.SourceCheck.Checks.{differs}
-use Rattle.wheeler.specs.Bench.{compared, compared_at}
+use Rattle.audit_rules.specs.SourceCheck.Checks.{differs}
+use Rattle.audit_rules.specs.Bench.{compared, compared_at}
 use Rattle.report.specs.Marks.{mark_of}
-use Rattle.wheeler.specs.Stages.{marked_left}
+use Rattle.audit_rules.specs.Stages.{marked_left}
 use Rattle.report.specs.Marks.{is_mark_of}
 use Rattle.verifier.specs.Faults.{has_left, is_at, names_left, same_language, says}
 use Rattle.verifier.proofs.Rightness.{no-difference}

@@ -4,7 +4,7 @@ use Rattle.std.specs.Prelude.{bytes_eq, option_map}
 use Rattle.std.proofs.lemmas.Bool.{and_parts, and_from, eqb-true}
 use Rattle.std.proofs.lemmas.List.{append_assoc, append-nil, map_push}
 use Rattle.std.proofs.lemmas.Slice.Eq.{bytes_eq-Decides}
-use Rattle.recipe.specs.declared.contents.Said.{Said}
+use Rattle.recipe.specs.declared.contents.RecipeContents.{RecipeContents}
 use Rattle.recipe.specs.declared.parts.Input.{Input}
 use Rattle.recipe.specs.declared.parts.Stage.{Stage}
 use Rattle.recipe.specs.Kept.{IsRecipe, most_compared}
@@ -12,14 +12,14 @@ use Rattle.report.specs.declared.types.CompareLine.{CompareLine}
 use Rattle.report.specs.declared.types.InputLine.{InputLine}
 use Rattle.report.specs.declared.types.Report.{Report}
 use Rattle.report.specs.declared.types.StageLine.{StageLine}
-use Rattle.wheeler.specs.declared.answer.Answer.{Answer}
-use Rattle.wheeler.specs.declared.answer.Answer.TheVariants.{Completes, Fails}
-use Rattle.wheeler.specs.declared.answer.Fault.{Fault}
-use Rattle.wheeler.specs.declared.answer.Finished.{Finished}
-use Rattle.wheeler.specs.Contents.{Contents, check_language, content}
+use Rattle.audit_rules.specs.declared.answer.AuditAnswer.{AuditAnswer}
+use Rattle.audit_rules.specs.declared.answer.AuditAnswer.TheVariants.{Completes, Fails}
+use Rattle.audit_rules.specs.declared.answer.StageFault.{StageFault}
+use Rattle.audit_rules.specs.declared.answer.Finished.{Finished}
+use Rattle.audit_rules.specs.Contents.{Contents, check_language, content}
 use Rattle.report.specs.Marks.{mark_of}
-use Rattle.wheeler.specs.Stages.{contents, finished, stage_result}
-use Rattle.wheeler.specs.Bench.{after_stage as bench_after, bench, bench_from, bench_report, compare_line, compare_lines, compared, input_lines, stage_line, stage_lines}
+use Rattle.audit_rules.specs.Stages.{contents, finished, stage_result}
+use Rattle.audit_rules.specs.Bench.{after_stage as bench_after, bench, bench_from, bench_report, compare_line, compare_lines, compared, input_lines, stage_line, stage_lines}
 use Rattle.verifier.specs.declared.part.Part.{Part}
 use Rattle.verifier.specs.declared.part.Part.TheVariants as part
 use Rattle.report.specs.Marks.{is_mark_of}
@@ -62,7 +62,7 @@ right-inputs number (row ∷ rows) (bytes ∷ inputs) =
 
 -- ---- the comparisons
 
-lines-are : (recipe : Said) (all : Contents) (number : ℕ) (stages : List (List ℕ)) (lines : List CompareLine)
+lines-are : (recipe : RecipeContents) (all : Contents) (number : ℕ) (stages : List (List ℕ)) (lines : List CompareLine)
     → names_compared recipe.compare.binary stages lines ≡ true → wrong_line recipe all number lines ≡ None → map (compare_line recipe all) stages ≡ lines
 lines-are recipe all number [] [] named none = refl
 lines-are recipe all number [] (line ∷ lines) named none = absurd cc
@@ -87,7 +87,7 @@ lines-are recipe all number (stage ∷ stages) (line ∷ lines) named none =
           λ i. record { stage = own i; binary = audited i; result = result i } ∷ later none i
       by_test false is none later = absurd cc
 
-right-lines : (recipe : Said) (all : Contents) (number : ℕ) (stages : List (List ℕ)) → wrong_line recipe all number (map (compare_line recipe all) stages) ≡ None
+right-lines : (recipe : RecipeContents) (all : Contents) (number : ℕ) (stages : List (List ℕ)) → wrong_line recipe all number (map (compare_line recipe all) stages) ≡ None
 right-lines recipe all number [] = refl
 right-lines recipe all number (stage ∷ stages) =
     let made = content recipe all stage in
@@ -96,7 +96,7 @@ right-lines recipe all number (stage ∷ stages) =
     ((compared-Decides (compared made binary) made binary).1 refl)
     ∙ right-lines recipe all (number + 1) stages
 
-named-lines : (recipe : Said) (all : Contents) (stages : List (List ℕ)) → names_compared recipe.compare.binary stages (map (compare_line recipe all) stages) ≡ true
+named-lines : (recipe : RecipeContents) (all : Contents) (stages : List (List ℕ)) → names_compared recipe.compare.binary stages (map (compare_line recipe all) stages) ≡ true
 named-lines recipe all [] = refl
 named-lines recipe all (stage ∷ stages) =
     and_from (bytes_eq stage stage && bytes_eq recipe.compare.binary recipe.compare.binary) (names_compared recipe.compare.binary stages (map (compare_line recipe all) stages))
@@ -104,13 +104,13 @@ named-lines recipe all (stage ∷ stages) =
     ((bytes_eq-Decides recipe.compare.binary recipe.compare.binary).1 refl))
     (named-lines recipe all stages)
 
-no-wrong-line : (recipe : Said) (form : ℕ) (lines : List CompareLine) (all : Contents) → compare_fault recipe form lines all ≡ None → wrong_line recipe all 1 lines ≡ None
+no-wrong-line : (recipe : RecipeContents) (form : ℕ) (lines : List CompareLine) (all : Contents) → compare_fault recipe form lines all ≡ None → wrong_line recipe all 1 lines ≡ None
 no-wrong-line recipe form lines all none = by (wrong_line recipe all 1 lines) none where
   by : (o : Option ℕ) → ◌≡◌ {A = Option (Part × ℕ)} (option_map (λ number. (part.Compare, line_place form number)) o) None → o ≡ None
   by None is = refl
   by (Some number) is = absurd cc
 
-own-lines : (recipe : Said) (form : ℕ) (all : Contents) → compare_fault recipe form (compare_lines recipe all) all ≡ None
+own-lines : (recipe : RecipeContents) (form : ℕ) (all : Contents) → compare_fault recipe form (compare_lines recipe all) all ≡ None
 own-lines recipe form all = ap (option_map (λ number. (part.Compare, line_place form number))) (right-lines recipe all 1 recipe.compare.stages)
 
 -- ---- stages
@@ -125,13 +125,13 @@ more-contents inputs done f made same =
     λ i. record { inputs = inputs; artefacts = (ap (λ m. map (λ (g : Finished). g.made) done ++ m ∷ []) (sym same) ∙ sym (map_push (λ (g : Finished). g.made) done f)) i }
 
 -- a stage whose line is right
-record Right (recipe : Said) (inputs : List (List ℕ)) (done : List Finished) (stage : Stage) (line : StageLine) (made : List ℕ) : Type 0 where
+record Right (recipe : RecipeContents) (inputs : List (List ℕ)) (done : List Finished) (stage : Stage) (line : StageLine) (made : List ℕ) : Type 0 where
   f : Finished
   result : stage_result recipe inputs done stage ≡ Ok f
   made_is : f.made ≡ made
   line_is : stage_line recipe stage f ≡ line
 
-right : (recipe : Said) (inputs : List (List ℕ)) (done : List Finished) (stage : Stage) (line : StageLine) (made : List ℕ)
+right : (recipe : RecipeContents) (inputs : List (List ℕ)) (done : List Finished) (stage : Stage) (line : StageLine) (made : List ℕ)
     → bytes_eq stage.name line.name ≡ true → same_language (check_language recipe stage) line.checked ≡ true
     → replayed recipe (contents inputs done) stage line ≡ Ok made → Right recipe inputs done stage line made
 unfolding finished
@@ -154,7 +154,7 @@ right recipe inputs done stage line made named language is =
     }
 
 -- the line of a stage that is done is right
-own-line : (recipe : Said) (inputs : List (List ℕ)) (done : List Finished) (stage : Stage) (f : Finished) → stage_result recipe inputs done stage ≡ Ok f
+own-line : (recipe : RecipeContents) (inputs : List (List ℕ)) (done : List Finished) (stage : Stage) (f : Finished) → stage_result recipe inputs done stage ≡ Ok f
     → replayed recipe (contents inputs done) stage (stage_line recipe stage f) ≡ Ok f.made
 unfolding finished
 own-line recipe inputs done stage f is =
@@ -170,12 +170,12 @@ own-line recipe inputs done stage f is =
     ∙ ap Ok same
 
 -- what lines without a fault stand for
-abbrev Stands : Said → List (List ℕ) → (Contents → Option (Part × ℕ)) → List Finished → List Stage → List StageLine → Type 0
+abbrev Stands : RecipeContents → List (List ℕ) → (Contents → Option (Part × ℕ)) → List Finished → List Stage → List StageLine → Type 0
 Stands recipe inputs last done stages lines =
     (more : List Finished) × (bench_from recipe inputs done stages ≡ Completes (bench_report recipe inputs (done ++ more)))
     × (stage_lines recipe stages more ≡ lines) × (last (contents inputs (done ++ more)) ≡ None)
 
-none-stands : (recipe : Said) (inputs : List (List ℕ)) (last : Contents → Option (Part × ℕ)) (done : List Finished) (stages : List Stage) (lines : List StageLine)
+none-stands : (recipe : RecipeContents) (inputs : List (List ℕ)) (last : Contents → Option (Part × ℕ)) (done : List Finished) (stages : List Stage) (lines : List StageLine)
     → names_stages recipe stages lines ≡ true → stages_fault recipe last (contents inputs done) stages lines ≡ None → Stands recipe inputs last done stages lines
 none-stands recipe inputs last done [] [] named is = (
   [],
@@ -209,8 +209,8 @@ none-stands recipe inputs last done (stage ∷ stages) (first ∷ lines) named i
             ap (λ d. last (contents inputs d)) (sym (one_more done more.0 ok.f)) ∙ more.3,
           )
 
--- what stands behind a bench that reaches its end
-abbrev Reached : Said → List (List ℕ) → List Finished → List Stage → Report → Type 0
+-- what stands after a bench that reaches its end
+abbrev Reached : RecipeContents → List (List ℕ) → List Finished → List Stage → Report → Type 0
 Reached recipe inputs done stages report =
     (more : List Finished) × (report ≡ bench_report recipe inputs (done ++ more)) × (names_stages recipe stages (stage_lines recipe stages more) ≡ true)
     × ((last : Contents → Option (Part × ℕ)) → last (contents inputs (done ++ more)) ≡ None
@@ -218,11 +218,11 @@ Reached recipe inputs done stages report =
 
 same_report : (a b : Report) → Completes a ≡ Completes b → a ≡ b
 same_report a b is = ap of is where
-  of : Answer → Report
+  of : AuditAnswer → Report
   of (Completes r) = r
   of (Fails n f) = a
 
-reaches : (recipe : Said) (inputs : List (List ℕ)) (done : List Finished) (stages : List Stage) (report : Report)
+reaches : (recipe : RecipeContents) (inputs : List (List ℕ)) (done : List Finished) (stages : List Stage) (report : Report)
     → bench_from recipe inputs done stages ≡ Completes report → Reached recipe inputs done stages report
 reaches recipe inputs done [] report is = (
   [],
@@ -231,7 +231,7 @@ reaches recipe inputs done [] report is = (
   λ last none. ap (λ d. last (contents inputs d)) (sym (append-nil done)) ∙ none,
 )
 reaches recipe inputs done (stage ∷ stages) report is = by_result (stage_result recipe inputs done stage) refl is (λ d. reaches recipe inputs d stages report) where
-  by_result : (r : Result Finished Fault) → stage_result recipe inputs done stage ≡ r
+  by_result : (r : Result Finished StageFault) → stage_result recipe inputs done stage ≡ r
       → bench_after (suc (length done)) r (λ f. bench_from recipe inputs (done ++ f ∷ []) stages) ≡ Completes report
       → ((d : List Finished) → bench_from recipe inputs d stages ≡ Completes report → Reached recipe inputs d stages report)
       → Reached recipe inputs done (stage ∷ stages) report
@@ -254,14 +254,14 @@ reaches recipe inputs done (stage ∷ stages) report is = by_result (stage_resul
 -- ---- the report
 
 -- the parts of a header
-record Header (recipe : Said) (report : Report) : Type 0 where
+record Header (recipe : RecipeContents) (report : Report) : Type 0 where
   form : (recipe.format == report.form) ≡ true
   digest : bytes_eq recipe.digest.0 report.recipe.0 ≡ true
   inputs : names_inputs recipe.inputs report.inputs ≡ true
   stages : names_stages recipe recipe.stages report.stages ≡ true
   compared : names_compared recipe.compare.binary recipe.compare.stages report.compare ≡ true
 
-header-is : (recipe : Said) (report : Report) → is_header recipe report ≡ true → Header recipe report
+header-is : (recipe : RecipeContents) (report : Report) → is_header recipe report ≡ true → Header recipe report
 unfolding is_header
 header-is recipe report is =
     let form = recipe.format == report.form in
@@ -274,7 +274,7 @@ header-is recipe report is =
     let first = and_parts form digest front.0 in
     record { form = first.0; digest = first.1; inputs = front.1; stages = middle.1; compared = last.1 }
 
-is-header : (recipe : Said) (report : Report) → Header recipe report → is_header recipe report ≡ true
+is-header : (recipe : RecipeContents) (report : Report) → Header recipe report → is_header recipe report ≡ true
 unfolding is_header
 is-header recipe report is =
     let form = recipe.format == report.form in
@@ -300,7 +300,7 @@ few-compared format = by (format == 1) where
   by true = omega arith
   by false = omega arith
 
-pub few-lines : (recipe : Said) (report : Report) → IsRecipe recipe → is_header recipe report ≡ true → length report.compare ≤ 16
+pub few-lines : (recipe : RecipeContents) (report : Report) → IsRecipe recipe → is_header recipe report ≡ true → length report.compare ≤ 16
 few-lines recipe report ok header =
     omega (
       arith,
@@ -312,7 +312,7 @@ few-lines recipe report ok header =
 abbrev at_first : List (List ℕ) → Contents
 at_first inputs = record { inputs = inputs; artefacts = [] }
 
-pub fault-none : (recipe : Said) (inputs : List (List ℕ)) (report : Report) → length inputs ≡ length recipe.inputs
+pub fault-none : (recipe : RecipeContents) (inputs : List (List ℕ)) (report : Report) → length inputs ≡ length recipe.inputs
     → first_fault recipe inputs report ≡ None → bench recipe inputs ≡ Completes report
 unfolding first_fault bench_report
 fault-none recipe inputs report counted is = by_header (is_header recipe report) refl is where
@@ -339,7 +339,7 @@ fault-none recipe inputs report counted is = by_header (is_header recipe report)
   by_header true header is = by_inputs (inputs_fault 1 inputs report.inputs) refl (header-is recipe report header) is
   by_header false header is = absurd cc
 
-own-report : (recipe : Said) (inputs : List (List ℕ)) (done : List Finished) → length inputs ≡ length recipe.inputs
+own-report : (recipe : RecipeContents) (inputs : List (List ℕ)) (done : List Finished) → length inputs ≡ length recipe.inputs
     → names_stages recipe recipe.stages (stage_lines recipe recipe.stages done) ≡ true
     → stages_fault recipe (compare_fault recipe recipe.format (compare_lines recipe (contents inputs done))) (at_first inputs) recipe.stages (stage_lines recipe recipe.stages done) ≡ None
     → first_fault recipe inputs (bench_report recipe inputs done) ≡ None
@@ -359,7 +359,7 @@ own-report recipe inputs done counted named none =
     ∙ ap (λ o. first_of_both o stages) (right-inputs 1 recipe.inputs inputs)
     ∙ none
 
-pub none-fault : (recipe : Said) (inputs : List (List ℕ)) (report : Report) → length inputs ≡ length recipe.inputs
+pub none-fault : (recipe : RecipeContents) (inputs : List (List ℕ)) (report : Report) → length inputs ≡ length recipe.inputs
     → bench recipe inputs ≡ Completes report → first_fault recipe inputs report ≡ None
 none-fault recipe inputs report counted is =
     let whole = reaches recipe inputs [] recipe.stages report is in

@@ -12,14 +12,14 @@ use Rattle.std.proofs.lemmas.List.{at_drop_more}
 use Rattle.std.proofs.lemmas.List.Elements.{All-cons, All-head, All-nil, All-tail}
 use Rattle.std.proofs.lemmas.Slice.Eq.{bytes_eq-Decides}
 use Rattle.mem_files.proofs.Directory.{bytes_cmp-IsAntisymmetric}
-use Rattle.mem_files.specs.declared.slot.PlaceRefusal.{PlaceRefusal}
-use Rattle.mem_files.specs.declared.slot.PlaceRefusal.TheVariants.{BadName, Twice, Full, OutOfMemory}
+use Rattle.mem_files.specs.declared.open_file.PlaceRefusal.{PlaceRefusal}
+use Rattle.mem_files.specs.declared.open_file.PlaceRefusal.TheVariants.{BadName, Twice, Full, OutOfMemory}
 use Rattle.mem_files.specs.Limits.{most_content, most_names}
 use Rattle.mem_files.specs.Names.{begins_with_dot_slash, bytes_cmp, is_file_name, is_stripped_name, stripped}
 use Rattle.guest_run.specs.Setting.{FileMap, PlacesIn, place_refusal}
 use Rattle.recipe.specs.declared.parts.StageFile.{StageFile}
-use Rattle.recipe.specs.declared.contents.Said.{Said}
-use Rattle.wheeler.specs.Contents.{Contents, content, with_stage_file}
+use Rattle.recipe.specs.declared.contents.RecipeContents.{RecipeContents}
+use Rattle.audit_rules.specs.Contents.{Contents, content, with_stage_file}
 use Rattle.verifier.specs.Inside.Holdings.{CanPlace}
 
 -- ---- one file
@@ -89,7 +89,7 @@ absent-more held path content other differ absent =
     ap is_some (finite.get-insert nat_list_cmp_total held path content other)
     ∙ ap (λ b. is_some (cond b (Some content) (finite.get held other))) (apart path other differ) ∙ absent
 
--- behind a file that was placed the others can be placed
+-- after a file that was placed the others can be placed
 pub place-rest : (held : FileMap) (file : StageFile) (rest : List StageFile) (content : List ℕ) → CanPlace held (file ∷ rest) → CanPlace (finite.insert held file.path content) rest
 unfolding IsDistinct
 place-rest held file rest content can = record {
@@ -111,7 +111,7 @@ place-rest held file rest content can = record {
       (absent others apart_all.1 (All-tail (λ (f : StageFile). finite.contains_key held f.path ≡ false) other others all))
 
 -- one turn of the loop over files
-pub turn : (recipe : Said) (all : Contents) (held new : FileMap) (files : List StageFile) (index : ℕ) (file : StageFile) (whole : FileMap) → index < length files
+pub turn : (recipe : RecipeContents) (all : Contents) (held new : FileMap) (files : List StageFile) (index : ℕ) (file : StageFile) (whole : FileMap) → index < length files
     → file ≡ get_or files index file → CanPlace held (drop index files) → fold (with_stage_file recipe all) held (drop index files) ≡ whole
     → new ≡ finite.insert held file.path (content recipe all file.from)
     → CanPlace new (drop (index + 1) files) × (fold (with_stage_file recipe all) new (drop (index + 1) files) ≡ whole)

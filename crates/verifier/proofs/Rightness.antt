@@ -10,13 +10,13 @@ use Rattle.hex_langs.specs.declared.items.item.Item.{Item}
 use Rattle.hex_langs.specs.declared.items.reader.HexRefusal.{HexRefusal}
 use Rattle.hex_langs.specs.Link.Link.{Links}
 use Rattle.ddc_base.specs.declared.languages.Language.{Language}
-use Rattle.recipe.specs.declared.contents.Said.{Said}
+use Rattle.recipe.specs.declared.contents.RecipeContents.{RecipeContents}
 use Rattle.recipe.specs.declared.parts.Source.{Source}
 use Rattle.recipe.specs.declared.parts.SourceLanguage.TheVariants.{Defined}
 use Rattle.recipe.specs.declared.parts.Stage.{Stage}
 use Rattle.recipe.specs.Lookups.{source_named}
-use Rattle.wheeler.specs.SourceCheck.Checks.{check, checked, differs, first_other_item, hex_value, joined_files, same_item}
-use Rattle.wheeler.specs.Contents.{Contents, check_of, defined, source_check, text_check, text_of}
+use Rattle.audit_rules.specs.SourceCheck.Checks.{check, checked, differs, first_other_item, hex_value, joined_files, same_item}
+use Rattle.audit_rules.specs.Contents.{Contents, check_of, defined, source_check, text_check, text_of}
 
 -- equal bytes have no difference
 pub no-difference : (value made : List ℕ) → is_none (differs (first_difference value made)) ≡ bytes_eq value made
@@ -57,7 +57,7 @@ other-length (x ∷ xs) (y ∷ ys) differ = by_test (same_item x y) (other-lengt
   by_test true rest = none-later (first_other_item xs ys) ∙ rest
   by_test false rest = refl
 
--- a text is its first file, and each other behind an LF
+-- a text is its first file, and each other after an LF
 pub joined-first : {A : Type 0} (bytes : A → List ℕ) (first : A) (others : List A)
     → join_with_byte 10 (map bytes (first ∷ others)) ≡ bytes first ++ flat_map (λ name. 10 ∷ bytes name) others
 joined-first bytes first [] = sym (append-nil (bytes first))
@@ -106,7 +106,7 @@ item-turn (x' ∷ xs) (y' ∷ ys) (suc index) x y is is' =
 
 -- ---- a stage's check
 
-pub check-is : (recipe : Said) (all : Contents) (stage : Stage) (name : List ℕ) (source : Source) (language : Language) (made : List ℕ)
+pub check-is : (recipe : RecipeContents) (all : Contents) (stage : Stage) (name : List ℕ) (source : Source) (language : Language) (made : List ℕ)
     → stage.check ≡ Some name → source_named recipe.sources name ≡ Some source → source.lang ≡ Defined language
     → check_of recipe all stage made ≡ check language source.base (joined_files (text_of recipe all source).files) made
 unfolding check_of text_of

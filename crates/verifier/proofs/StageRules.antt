@@ -6,7 +6,7 @@ use Rattle.std.proofs.lemmas.List.Elements.{All-contains, All-get_or, All-weaker
 use Rattle.std.proofs.lemmas.Option.{same_Some, slice_get-get_or}
 use Rattle.mem_files.specs.Names.{bytes_cmp, is_stripped_name}
 use Rattle.guest_run.specs.Setting.{IsText}
-use Rattle.recipe.specs.declared.contents.Said.{Said}
+use Rattle.recipe.specs.declared.contents.RecipeContents.{RecipeContents}
 use Rattle.recipe.specs.declared.parts.Output.{Output}
 use Rattle.recipe.specs.declared.parts.Output.TheVariants.{Stream, File}
 use Rattle.recipe.specs.declared.parts.Source.{Source}
@@ -14,28 +14,28 @@ use Rattle.recipe.specs.declared.parts.Stage.{Stage}
 use Rattle.recipe.specs.declared.parts.StageFile.{StageFile}
 use Rattle.recipe.specs.Kept.{Each, IsOutput, IsRecipe, IsSource, IsStage}
 use Rattle.recipe.specs.Lookups.{source_named}
-use Rattle.wheeler.proofs.Rules as rules
+use Rattle.audit_rules.proofs.Rules as rules
 use Rattle.verifier.specs.Inside.Holdings.{CanPlace, IsOutputName}
 
-kept : (recipe : Said) (stage : Stage) → IsRecipe recipe → (known : Contains recipe.stages stage) → IsStage recipe (take known.0 recipe.stages) stage
+kept : (recipe : RecipeContents) (stage : Stage) → IsRecipe recipe → (known : Contains recipe.stages stage) → IsStage recipe (take known.0 recipe.stages) stage
 kept recipe stage is known = is.stages known.0 stage (slice_get-get_or recipe.stages known.0 stage known.1 ∙ ap Some known.2)
 
-pub rules-of : (recipe : Said) (stage : Stage) → IsRecipe recipe → Contains recipe.stages stage → rules.IsStage stage
+pub rules-of : (recipe : RecipeContents) (stage : Stage) → IsRecipe recipe → Contains recipe.stages stage → rules.IsStage stage
 rules-of recipe stage is known = All-contains rules.IsStage recipe.stages stage (rules.rules recipe is).stages known
 
-pub args-are : (recipe : Said) (stage : Stage) → IsRecipe recipe → Contains recipe.stages stage → All IsText stage.args
+pub args-are : (recipe : RecipeContents) (stage : Stage) → IsRecipe recipe → Contains recipe.stages stage → All IsText stage.args
 args-are recipe stage is known = All-weaker rules.IsWord IsText (λ text word. word.whole) stage.args (rules-of recipe stage is known).args
 
-pub env-is : (recipe : Said) (stage : Stage) → IsRecipe recipe → Contains recipe.stages stage → All IsText stage.env
+pub env-is : (recipe : RecipeContents) (stage : Stage) → IsRecipe recipe → Contains recipe.stages stage → All IsText stage.env
 env-is recipe stage is known = All-weaker rules.IsWord IsText (λ text word. word.whole) stage.env (rules-of recipe stage is known).env
 
-pub heap-is : (recipe : Said) (stage : Stage) → IsRecipe recipe → Contains recipe.stages stage → stage.heap ≤ 2 ^ 30
+pub heap-is : (recipe : RecipeContents) (stage : Stage) → IsRecipe recipe → Contains recipe.stages stage → stage.heap ≤ 2 ^ 30
 heap-is recipe stage is known = (kept recipe stage is known).heap
 
-pub steps-are : (recipe : Said) (stage : Stage) → IsRecipe recipe → Contains recipe.stages stage → stage.steps ≤ 2 ^ 48
+pub steps-are : (recipe : RecipeContents) (stage : Stage) → IsRecipe recipe → Contains recipe.stages stage → stage.steps ≤ 2 ^ 48
 steps-are recipe stage is known = (kept recipe stage is known).few_steps
 
-pub output-is : (recipe : Said) (stage : Stage) → IsRecipe recipe → Contains recipe.stages stage → IsOutputName stage.output
+pub output-is : (recipe : RecipeContents) (stage : Stage) → IsRecipe recipe → Contains recipe.stages stage → IsOutputName stage.output
 output-is recipe stage is known = by_output stage.output (kept recipe stage is known).output where
   by_output : (output : Output) → IsOutput output → IsOutputName output
   by_output Stream is = tt
@@ -45,7 +45,7 @@ none-there : (name : List ℕ) → is_some (finite.get (finite.empty {X = List �
 none-there name = ap is_some (finite.get-empty bytes_cmp name)
 
 -- all files of a stage can be placed in a box that has none
-pub files-can : (recipe : Said) (stage : Stage) → IsRecipe recipe → Contains recipe.stages stage → CanPlace finite.empty stage.files
+pub files-can : (recipe : RecipeContents) (stage : Stage) → IsRecipe recipe → Contains recipe.stages stage → CanPlace finite.empty stage.files
 files-can recipe stage is known =
     let few = (kept recipe stage is known).few_files in
     let none = finite.len-empty bytes_cmp (List ℕ) in
@@ -64,12 +64,12 @@ each-find P test (y ∷ ys) x each is = by_test (test y) is (each-find P test ys
   by_test true is later = subst P (same_Some y x is) (each zero y refl)
   by_test false is later = later is
 
-pub base-is : (recipe : Said) (name : List ℕ) (source : Source) → IsRecipe recipe → source_named recipe.sources name ≡ Some source → source.base ≤ 2 ^ 37
+pub base-is : (recipe : RecipeContents) (name : List ℕ) (source : Source) → IsRecipe recipe → source_named recipe.sources name ≡ Some source → source.base ≤ 2 ^ 37
 base-is recipe name source is found = (each-find (IsSource recipe) (λ (s : Source). bytes_eq s.name name) recipe.sources source is.sources found).base
 
--- a text that is lent
+-- a text that is borrowed
 pub text-at : (texts shown : List (List ℕ)) (index : ℕ) (item text : List ℕ) → All IsText texts → shown ≡ texts → index < length shown
     → item ≡ get_or shown index item → text ≡ item → IsText text
-text-at texts shown index item text all same less is lent =
+text-at texts shown index item text all same less is borrowed =
     let lengths : length shown ≡ length texts = ap length same in
-    subst IsText (sym (lent ∙ is ∙ ap (λ l. get_or l index item) same)) (All-get_or IsText texts index item (omega (arith, less, lengths)) all)
+    subst IsText (sym (borrowed ∙ is ∙ ap (λ l. get_or l index item) same)) (All-get_or IsText texts index item (omega (arith, less, lengths)) all)

@@ -9,7 +9,7 @@ use Rattle.mem_files.specs.Outputs.{left, out}
 use Rattle.guest_run.specs.State.{GuestState}
 use Rattle.guest_run.specs.Start.{Refusal, start_of}
 use Rattle.guest_run.specs.Run.{End, Exited, end_at}
-use Rattle.recipe.specs.declared.contents.Said.{Said}
+use Rattle.recipe.specs.declared.contents.RecipeContents.{RecipeContents}
 use Rattle.recipe.specs.declared.parts.Input.{Input}
 use Rattle.recipe.specs.declared.parts.Stage.{Stage}
 use Rattle.report.specs.declared.types.CompareLine.{CompareLine}
@@ -20,9 +20,9 @@ use Rattle.report.specs.declared.types.LeftLine.{LeftLine}
 use Rattle.report.specs.declared.types.Report.{Report}
 use Rattle.report.specs.declared.types.StageLine.{StageLine}
 use Rattle.report.specs.Marks.{is_mark_of}
-use Rattle.wheeler.specs.declared.source_check.cause.CheckCause.{CheckCause}
-use Rattle.wheeler.specs.Contents.{Contents, box_of, check_language, check_of, content, program_of}
-use Rattle.wheeler.specs.Stages.{output_of}
+use Rattle.audit_rules.specs.declared.source_check.cause.CheckCause.{CheckCause}
+use Rattle.audit_rules.specs.Contents.{Contents, box_of, check_language, check_of, content, program_of}
+use Rattle.audit_rules.specs.Stages.{output_of}
 use Rattle.verifier.specs.declared.part.Part.{Part}
 use Rattle.verifier.specs.declared.part.Part.TheVariants as part
 
@@ -44,7 +44,7 @@ names_inputs (input ∷ inputs) (line ∷ lines) = bytes_eq input.name line.name
 names_inputs _ _ = false
 
 -- a line for each stage, with its name and the language in which its artefact is checked, in order
-abbrev pub names_stages : Said → List Stage → List StageLine → Bool
+abbrev pub names_stages : RecipeContents → List Stage → List StageLine → Bool
 names_stages recipe [] [] = true
 names_stages recipe (stage ∷ stages) (line ∷ lines) =
     bytes_eq stage.name line.name && same_language (check_language recipe stage) line.checked && names_stages recipe stages lines
@@ -57,7 +57,7 @@ names_compared binary (stage ∷ stages) (line ∷ lines) =
     bytes_eq stage line.stage && bytes_eq binary line.binary && names_compared binary stages lines
 names_compared binary _ _ = false
 
-unfoldable pub is_header : Said → Report → Bool
+unfoldable pub is_header : RecipeContents → Report → Bool
 is_header recipe report =
     recipe.format == report.form && bytes_eq recipe.digest.0 report.recipe.0 && names_inputs recipe.inputs report.inputs
     && names_stages recipe recipe.stages report.stages && names_compared recipe.compare.binary recipe.compare.stages report.compare
@@ -123,7 +123,7 @@ Ok value >>= rest = rest value
 Err part >>= rest = Err part
 
 -- a stage's line, judged by a replay: the artefact, or the part that fails
-unfoldable pub replayed : Said → Contents → Stage → StageLine → Result (List ℕ) Part
+unfoldable pub replayed : RecipeContents → Contents → Stage → StageLine → Result (List ℕ) Part
 replayed recipe so_far stage line = do
   world ← or_fails part.Run (left_at (start_of (program_of recipe so_far stage) (box_of recipe so_far stage)) stage.steps line.steps)
   made ← or_fails part.Files (recorded so_far stage line world)
@@ -142,7 +142,7 @@ says (Differs offset ours theirs) made binary =
     is_at offset (first_difference made binary) && ours == length made && theirs == length binary
 
 -- the number of the first line that does not, of those from this number on
-abbrev pub wrong_line : Said → Contents → ℕ → List CompareLine → Option ℕ
+abbrev pub wrong_line : RecipeContents → Contents → ℕ → List CompareLine → Option ℕ
 wrong_line recipe all number [] = None
 wrong_line recipe all number (line ∷ lines) =
     if says line.result (content recipe all line.stage) (content recipe all line.binary) then wrong_line recipe all (number + 1) lines
@@ -152,7 +152,7 @@ wrong_line recipe all number (line ∷ lines) =
 abbrev pub line_place : ℕ → ℕ → ℕ
 line_place form number = if form == 1 then 0 else number
 
-abbrev pub compare_fault : Said → ℕ → List CompareLine → Contents → Option (Part × ℕ)
+abbrev pub compare_fault : RecipeContents → ℕ → List CompareLine → Contents → Option (Part × ℕ)
 compare_fault recipe form lines all = option_map (λ number. (part.Compare, line_place form number)) (wrong_line recipe all 1 lines)
 
 -- ---- all parts
@@ -166,7 +166,7 @@ fault_after_stage number (Err part) rest = Some (part, number)
 fault_after_stage number (Ok made) rest = rest made
 
 -- the first fault of the stages that are left, and then what is judged over all contents; a header says that there are as many lines
-abbrev pub stages_fault : Said → (Contents → Option (Part × ℕ)) → Contents → List Stage → List StageLine → Option (Part × ℕ)
+abbrev pub stages_fault : RecipeContents → (Contents → Option (Part × ℕ)) → Contents → List Stage → List StageLine → Option (Part × ℕ)
 stages_fault recipe last so_far (stage ∷ stages) (line ∷ lines) =
     fault_after_stage (length so_far.artefacts + 1) (replayed recipe so_far stage line) (λ made. stages_fault recipe last (with_artefact so_far made) stages lines)
 stages_fault recipe last so_far _ _ = last so_far
@@ -178,7 +178,7 @@ first_of_both None later = later
 
 -- the first part of a report that fails, with its place: the number of the input or of the stage from 1, 0 for the header, and that of a
 -- comparison as above; none where every word of the report is true
-unfoldable pub first_fault : Said → List (List ℕ) → Report → Option (Part × ℕ)
+unfoldable pub first_fault : RecipeContents → List (List ℕ) → Report → Option (Part × ℕ)
 first_fault recipe inputs report =
     if is_header recipe report
     then first_of_both (inputs_fault 1 inputs report.inputs)

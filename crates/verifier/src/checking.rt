@@ -6,10 +6,10 @@ ghost use Rattle.hex_langs.specs.declared.items.reader.HexRefusal.{HexRefusal as
 ghost use Rattle.hex_langs.specs.declared.items.token.Dialect.TheVariants as dialect;
 ghost use Rattle.hex_langs.specs.Link.Link.{Links};
 ghost use Rattle.hex_langs.specs.Link.Values.{linked};
-ghost use Rattle.wheeler.specs.SourceCheck.Checks.{check, checked, first_other_item, hex_value, items_against, joined_files, same_item};
+ghost use Rattle.audit_rules.specs.SourceCheck.Checks.{check, checked, first_other_item, hex_value, items_against, joined_files, same_item};
 ghost use Rattle.std.specs.Prelude.{◌≡◌, ◌≤◌, ◌^◌, is_none, ℕ, List, Result, IfOk};
 ghost use Rattle.verifier.specs.Inside.Holdings.{IsHeld, so_far};
-ghost use Rattle.wheeler.specs.Contents.{check_of, text_of};
+ghost use Rattle.audit_rules.specs.Contents.{check_of, text_of};
 
 use crate::held::Held;
 use ddc_base::languages::Language;
@@ -20,10 +20,10 @@ use hex_langs::link::link;
 use m1_lang::{M1Refusal, expand};
 use recipe::{Source, SourceLanguage, Stage};
 use std::alloc::Global;
-use wheeler::source_check::{same_kind, same_name};
+use audit_rules::source_check::{same_kind, same_name};
 
 /// Whether an artefact is right by its stage's check, or unchecked.
-#[tactic(auto, unfolding(wheeler::specs::Contents::check_of))]
+#[tactic(auto, unfolding(audit_rules::specs::Contents::check_of))]
 pub(crate) fn is_right(
     alloc: Global,
     held: &Held<'_>,
@@ -46,7 +46,7 @@ pub(crate) fn is_right(
 }
 
 /// Whether a source's language accepts its text and gives an artefact. A text of one file is that file, and isn't copied.
-#[tactic(auto, unfolding(wheeler::specs::Contents::text_of))]
+#[tactic(auto, unfolding(audit_rules::specs::Contents::text_of))]
 fn gives_text(
     alloc: Global,
     held: &Held<'_>,
@@ -65,7 +65,7 @@ fn gives_text(
 }
 
 /// The text of a source: its files, with one LF between neighbours.
-#[tactic(auto, unfolding(wheeler::specs::Contents::text_of))]
+#[tactic(auto, unfolding(audit_rules::specs::Contents::text_of))]
 fn joined(alloc: Global, held: &Held<'_>, source: &Source) -> Result<Bytes, OutOfMemory>
     ensures { IfOk result (λ text. text ≡ joined_files (text_of held.now.recipe.now (so_far held.now) source.now).files) }
 {
@@ -81,7 +81,7 @@ fn joined(alloc: Global, held: &Held<'_>, source: &Source) -> Result<Bytes, OutO
 }
 
 /// Whether a language accepts a source and gives an artefact.
-#[tactic(auto, unfolding(wheeler::specs::SourceCheck::Checks::check))]
+#[tactic(auto, unfolding(audit_rules::specs::SourceCheck::Checks::check))]
 fn gives(
     alloc: Global,
     language: Language,
@@ -197,7 +197,7 @@ fn same_items(ours: &Items<'_>, theirs: &Items<'_>) -> bool
 }
 
 /// Whether both are the same item.
-#[tactic(auto, unfolding(wheeler::specs::SourceCheck::Checks::same_item))]
+#[tactic(auto, unfolding(audit_rules::specs::SourceCheck::Checks::same_item))]
 fn same_item(ours: &Item<'_>, theirs: &Item<'_>) -> bool
     ensures { result ≡ same_item ours.now theirs.now }
 {

@@ -6,7 +6,7 @@ ghost use Rattle.std.specs.FinMap as map;
 ghost use Rattle.std.specs.List.{fold};
 ghost use Rattle.std.specs.Prelude.{◌≡◌, ◌<◌, ◌≤◌, false, length, Contains, IfOk, IsTrue, OnOk};
 ghost use Rattle.verifier.specs.Inside.Holdings.{CanPlace, IsHeld, so_far};
-ghost use Rattle.wheeler.specs.Contents.{box_of, with_stage_file};
+ghost use Rattle.audit_rules.specs.Contents.{box_of, with_stage_file};
 
 use crate::held::Held;
 use ddc_base::OutOfMemory;
@@ -15,8 +15,8 @@ use mem_files::PlaceRefusal;
 use recipe::{Stage, StageFile};
 use std::alloc::Global;
 
-/// The arguments, the environment and the files of a stage, all lent.
-#[tactic(auto, unfolding(wheeler::specs::Contents::box_of))]
+/// The arguments, the environment and the files of a stage, all borrowed.
+#[tactic(auto, unfolding(audit_rules::specs::Contents::box_of))]
 pub(crate) fn box_of<'a>(
     alloc: Global,
     held: &Held<'a>,

@@ -2,7 +2,7 @@
 
 ghost use Rattle.std.specs.Prelude.{◌≡◌};
 ghost use Rattle.verifier.specs.Faults.{is_header, names_compared, names_inputs, names_stages, same_language};
-ghost use Rattle.wheeler.specs.Contents.{check_language};
+ghost use Rattle.audit_rules.specs.Contents.{check_language};
 
 use ddc_base::Name;
 use ddc_base::languages::Language;
@@ -75,7 +75,7 @@ fn names_compared(binary: &Name, stages: &[Name], lines: &[CompareLine]) -> bool
 }
 
 /// The language in which a stage is checked, if it is.
-#[tactic(auto, unfolding(wheeler::specs::Contents::check_language))]
+#[tactic(auto, unfolding(audit_rules::specs::Contents::check_language))]
 fn check_language(recipe: &Recipe, stage: &Stage) -> Option<Language>
     ensures { result ≡ check_language recipe.now stage.now }
 {

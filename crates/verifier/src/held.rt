@@ -2,12 +2,12 @@
 
 ghost use Rattle.std.specs.Prelude.{◌≡◌, [], get_or};
 ghost use Rattle.verifier.specs.Inside.Holdings.{so_far};
-ghost use Rattle.wheeler.specs.Contents.{content};
+ghost use Rattle.audit_rules.specs.Contents.{content};
 
 use ddc_base::{Bytes, Name};
 use recipe::{Content, Recipe};
 
-/// The recipe, the inputs, and the artefacts of the stages so far. All are lent.
+/// The recipe, the inputs, and the artefacts of the stages so far. All are borrowed.
 #[derive(Drop)]
 pub(crate) struct Held<'a> {
     pub(crate) recipe: &'a Recipe,
@@ -17,7 +17,7 @@ pub(crate) struct Held<'a> {
 
 impl<'a> Held<'a> {
     /// The bytes that a name stands for: of the input, or of the artefact.
-    #[tactic(auto, unfolding(wheeler::specs::Contents::content))]
+    #[tactic(auto, unfolding(audit_rules::specs::Contents::content))]
     pub(crate) fn bytes(&self, name: &Name) -> &'a [u8]
         ensures { result.now ≡ content self.now.recipe.now (so_far self.now) name.now }
     {

@@ -9,18 +9,18 @@ ghost use Rattle.verifier.specs.Inside.Holdings.{so_far};
 ghost use Rattle.verifier.specs.Inside.Replays.{Replays};
 ghost use Rattle.verifier.specs.Verdicts.{IsReplaying, Judges, OnWant, verdict_of};
 ghost use Rattle.verifier.specs.declared.part.Part.TheVariants as part;
-ghost use Rattle.wheeler.specs.Valid.{IsInputs};
+ghost use Rattle.audit_rules.specs.Valid.{IsInputs};
 
 use crate::header::is_header;
 use crate::held::Held;
 use crate::part::{Part, Verdict};
 use crate::replay::replay;
-use crate::stop::Stop;
+use crate::stop::JudgingStop;
 use ddc_base::{Bytes, ListOf, OutOfMemory, first_difference};
 use recipe::{Inputs, Recipe, Stage};
 use report::{CompareLine, Compared, InputLine, Report, StageLine};
 use std::alloc::Global;
-use wheeler::all_equal;
+use audit_rules::all_equal;
 
 /// Replays a report, which it doesn't believe.
 ///
@@ -37,7 +37,7 @@ pub fn verify(alloc: Global, recipe: &Recipe, inputs: &Inputs, report: &Report) 
     judge(alloc, recipe, inputs.as_slice(), report)
 }
 
-/// The same, of inputs that are lent.
+/// The same, of inputs that are borrowed.
 #[tactic(auto, unfolding(crate::specs::Faults::first_fault))]
 fn judge(alloc: Global, recipe: &Recipe, inputs: &[Bytes], report: &Report) -> Verdict
     requires { IsInputs recipe.now inputs.now }
@@ -123,13 +123,13 @@ fn replay_all(
                     Err(OutOfMemory) => return Err(Verdict::OutOfMemory { stage: number }),
                 }
             }
-            Err(Stop::Refuted(part)) => {
+            Err(JudgingStop::Refuted(part)) => {
                 return Err(Verdict::Refuted {
                     part,
                     place: number,
                 });
             }
-            Err(Stop::OutOfMemory) => return Err(Verdict::OutOfMemory { stage: number }),
+            Err(JudgingStop::OutOfMemory) => return Err(Verdict::OutOfMemory { stage: number }),
         }
     }
     Ok(artefacts)

@@ -5,18 +5,18 @@ ghost use Rattle.guest_run.specs.Setting.{Setting};
 ghost use Rattle.guest_run.specs.Start.{start_of};
 ghost use Rattle.mem_files.specs.World.{World};
 ghost use Rattle.recipe.specs.Kept.{IsRecipe};
-ghost use Rattle.recipe.specs.declared.contents.Said.{Said};
+ghost use Rattle.recipe.specs.declared.contents.RecipeContents.{RecipeContents};
 ghost use Rattle.report.specs.declared.types.Report.{Report};
 ghost use Rattle.std.specs.Prelude.{◌≡◌, ◌≤◌, ◌↔◌, ℕ, List, None, Some};
 ghost use Rattle.verifier.specs.Faults.{first_fault, left_at};
-ghost use Rattle.wheeler.specs.Bench.{bench};
-ghost use Rattle.wheeler.specs.Valid.{IsInputs};
-ghost use Rattle.wheeler.specs.declared.answer.Answer.TheVariants.{Completes};
+ghost use Rattle.audit_rules.specs.Bench.{bench};
+ghost use Rattle.audit_rules.specs.Valid.{IsInputs};
+ghost use Rattle.audit_rules.specs.declared.answer.AuditAnswer.TheVariants.{Completes};
 
 /// One report: of a recipe that keeps its rules and of inputs within their limits, a report has no fault exactly where the bench reaches
 /// its end with this report.
 pub fn one_report()
-    ensures { (recipe : Said) (inputs : List (List ℕ)) (report : Report) → IsRecipe recipe → IsInputs recipe inputs
+    ensures { (recipe : RecipeContents) (inputs : List (List ℕ)) (report : Report) → IsRecipe recipe → IsInputs recipe inputs
         → (first_fault recipe inputs report ≡ None) ↔ (bench recipe inputs ≡ Completes report) }
 {}
 

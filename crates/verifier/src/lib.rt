@@ -1,7 +1,7 @@
 //! The replay of a report, which believes nothing of it, and what its verdict shows under every meaning of sources (`conclusion`).
 //!
 //! Its rules for people: docs/reference/verify.md. It has no code in common with the crate that runs an audit: both meet the definitions
-//! of `wheeler` and stand on the layers below (docs/ARCHITECTURE.md).
+//! of `audit_rules` and stand on the layers below (docs/ARCHITECTURE.md).
 #![tactic(auto)]
 
 mod checking;

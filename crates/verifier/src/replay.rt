@@ -8,22 +8,22 @@ ghost use Rattle.std.specs.Prelude.{◌≡◌, ◌+◌, ◌≤◌, ◌^◌, Cont
 ghost use Rattle.verifier.specs.Faults.{exit_of, left_at, or_fails, recorded, replayed, size_of};
 ghost use Rattle.verifier.specs.Inside.Holdings.{IsHeld, IsOutputName, Judged, judged_left, so_far};
 ghost use Rattle.verifier.specs.declared.part.Part.TheVariants as part;
-ghost use Rattle.wheeler.specs.Contents.{Contents, box_of, program_of};
-ghost use Rattle.wheeler.specs.Stages.{output_of};
+ghost use Rattle.audit_rules.specs.Contents.{Contents, box_of, program_of};
+ghost use Rattle.audit_rules.specs.Stages.{output_of};
 
 use crate::checking::is_right;
 use crate::given::box_of;
 use crate::held::Held;
 use crate::left::has_left;
 use crate::part::Part;
-use crate::stop::Stop;
+use crate::stop::JudgingStop;
 use ddc_base::{Bytes, OutOfMemory};
 use guest_run::{Guest, RunEnd, RunRam, StartRefusal};
 use mem_files::Files;
 use recipe::{Output, Stage};
 use report::StageLine;
 use std::alloc::Global;
-use wheeler::MAX_ARTEFACTS;
+use audit_rules::MAX_ARTEFACTS;
 
 /// The artefact of a stage whose line is true; `total` is the bytes of the artefacts so far.
 #[tactic(auto, unfolding(crate::specs::Faults::replayed))]
@@ -33,7 +33,7 @@ pub(crate) fn replay(
     stage: &Stage,
     line: &StageLine,
     total: u64,
-) -> Result<Bytes, Stop>
+) -> Result<Bytes, JudgingStop>
     requires held { IsHeld held.now }
     requires known { Contains held.now.recipe.now.stages stage.now }
     requires total { total ≡ size_of (so_far held.now) }
@@ -52,7 +52,7 @@ fn left(
     line: &StageLine,
     total: u64,
     files: &Files,
-) -> Result<Bytes, Stop>
+) -> Result<Bytes, JudgingStop>
     requires held { IsHeld held.now }
     requires known { Contains held.now.recipe.now.stages stage.now }
     requires total { total ≡ size_of (so_far held.now) }
@@ -60,35 +60,35 @@ fn left(
     ensures { Judged (λ made. made) (judged_left held.now.recipe.now (so_far held.now) stage.now line.now files.now) result }
 {
     let Some(made) = recorded(stage, line, total, files) else {
-        return Err(Stop::Refuted(Part::Files));
+        return Err(JudgingStop::Refuted(Part::Files));
     };
     if !is_right(alloc, held, stage, made)? {
-        return Err(Stop::Refuted(Part::Assembled));
+        return Err(JudgingStop::Refuted(Part::Assembled));
     }
     Ok(Bytes::from_slice(alloc, made)?)
 }
 
 /// The guest of a stage's program, which has exited with 0 at exactly this step.
-fn exited(alloc: Global, held: &Held<'_>, stage: &Stage, step: u64) -> Result<Guest<RunRam>, Stop>
+fn exited(alloc: Global, held: &Held<'_>, stage: &Stage, step: u64) -> Result<Guest<RunRam>, JudgingStop>
     requires held { IsHeld held.now }
     requires known { Contains held.now.recipe.now.stages stage.now }
     ensures { Judged (λ guest. guest.world) (or_fails part.Run (left_at (start_of (program_of held.now.recipe.now (so_far held.now) stage.now) (box_of held.now.recipe.now (so_far held.now) stage.now)) stage.now.steps step)) result }
 {
     if step == 0 || step > stage.steps {
-        return Err(Stop::Refuted(Part::Run));
+        return Err(JudgingStop::Refuted(Part::Run));
     }
     let given = box_of(alloc, held, stage)?;
     match Guest::<RunRam>::start(alloc, held.bytes(&stage.program), &given) {
         Ok(guest) => run_out(guest, step),
-        Err(StartRefusal::Elf(_)) => Err(Stop::Refuted(Part::Run)),
-        Err(StartRefusal::ArgsTooLong) => Err(Stop::Refuted(Part::Run)),
-        Err(StartRefusal::BoxTooLarge) => Err(Stop::Refuted(Part::Run)),
-        Err(StartRefusal::OutOfMemory) => Err(Stop::OutOfMemory),
+        Err(StartRefusal::Elf(_)) => Err(JudgingStop::Refuted(Part::Run)),
+        Err(StartRefusal::ArgsTooLong) => Err(JudgingStop::Refuted(Part::Run)),
+        Err(StartRefusal::BoxTooLarge) => Err(JudgingStop::Refuted(Part::Run)),
+        Err(StartRefusal::OutOfMemory) => Err(JudgingStop::OutOfMemory),
     }
 }
 
 /// The same guest after so many steps, the last of which has to be its exit with 0.
-fn run_out(guest: Guest<RunRam>, step: u64) -> Result<Guest<RunRam>, Stop>
+fn run_out(guest: Guest<RunRam>, step: u64) -> Result<Guest<RunRam>, JudgingStop>
     requires fresh { guest.steps ≡ 0 }
     requires some { 1 ≤ step }
     requires few { step ≤ 2 ^ 48 }
@@ -100,7 +100,7 @@ fn run_out(guest: Guest<RunRam>, step: u64) -> Result<Guest<RunRam>, Stop>
 }
 
 /// Runs a fresh guest for so many steps, the last of which has to be its exit with 0.
-fn run_to(guest: &mut Guest<RunRam>, step: u64) -> Result<(), Stop>
+fn run_to(guest: &mut Guest<RunRam>, step: u64) -> Result<(), JudgingStop>
     requires fresh { guest.old.steps ≡ 0 }
     requires some { 1 ≤ step }
     requires few { step ≤ 2 ^ 48 }
@@ -109,17 +109,17 @@ fn run_to(guest: &mut Guest<RunRam>, step: u64) -> Result<(), Stop>
     match guest.run(step) {
         RunEnd::Exited(status) => {
             if status != 0 {
-                return Err(Stop::Refuted(Part::Run));
+                return Err(JudgingStop::Refuted(Part::Run));
             }
             if guest.steps() + 1 != step {
-                return Err(Stop::Refuted(Part::Run));
+                return Err(JudgingStop::Refuted(Part::Run));
             }
             Ok(())
         }
-        RunEnd::Trapped(_) => Err(Stop::Refuted(Part::Run)),
-        RunEnd::UnknownCall(_) => Err(Stop::Refuted(Part::Run)),
-        RunEnd::Spent => Err(Stop::Refuted(Part::Run)),
-        RunEnd::OutOfMemory => Err(Stop::OutOfMemory),
+        RunEnd::Trapped(_) => Err(JudgingStop::Refuted(Part::Run)),
+        RunEnd::UnknownCall(_) => Err(JudgingStop::Refuted(Part::Run)),
+        RunEnd::Spent => Err(JudgingStop::Refuted(Part::Run)),
+        RunEnd::OutOfMemory => Err(JudgingStop::OutOfMemory),
     }
 }
 

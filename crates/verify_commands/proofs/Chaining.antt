@@ -3,7 +3,7 @@ use Rattle.std.proofs.Common.{◌≡◌, ℕ, Bool, true, false, if◌then◌els
 use Rattle.std.proofs.lemmas.List.{at_drop_more, drop_all, length-append}
 use Rattle.ddc_base.specs.Outside.{ShelfState}
 use Rattle.report.specs.declared.types.CompareLine.{CompareLine}
-use Rattle.wheeler.specs.Bench.{all_equal}
+use Rattle.audit_rules.specs.Bench.{all_equal}
 use Rattle.verifier.specs.declared.part.Part.{Part}
 use Rattle.verifier.specs.declared.part.Verdict.TheVariants as verdict
 use Rattle.verifier.specs.Verdicts.{Judges}
@@ -21,7 +21,7 @@ use Rattle.command_plan.proofs.Obtaining.{answers_at_once, leads, wants_as}
 use Rattle.command_plan.proofs.Performing.{says, wants_memory}
 use Rattle.recipe_plan.specs.Texts.{compared_lines}
 use Rattle.verify_commands.specs.declared.pair.Pair.{Pair}
-use Rattle.verify_commands.specs.Chain.{chained, needs_audit, needs_true, room_behind}
+use Rattle.verify_commands.specs.Chain.{chained, needs_audit, needs_true, room_after}
 use Rattle.verify_commands.specs.ChainTexts.{audit_line}
 use Rattle.verify_commands.specs.Inside.Ends.{EndsWith}
 use Rattle.verify_commands.specs.Texts.{refuted_line}
@@ -29,7 +29,7 @@ use Rattle.verify_commands.specs.Texts.{refuted_line}
 module _ (plan : Plan) (old now : ShelfState) (pairs : List Pair) (links : List Link) (room index : ℕ) (pair : Pair) (leads : GoesOnAs plan (chained links room (drop index pairs)) old now)
     (count : length links ≡ index) (less : index < length pairs) (is : pair ≡ get_or pairs index pair) where
   abbrev later : Link → Plan
-  later link = chained (links ++ link ∷ []) (room_behind room link.inputs) (drop (index + 1) pairs)
+  later link = chained (links ++ link ∷ []) (room_after room link.inputs) (drop (index + 1) pairs)
 
   here : GoesOnAs plan (needs_audit (index + 1) room pair later) old now
   here =
@@ -42,7 +42,7 @@ module _ (plan : Plan) (old now : ShelfState) (pairs : List Pair) (links : List 
 
   -- one more audit
   pub audit_more : (mid : ShelfState) (link : Link) (left : ℕ) (grown : List Link) → Obtains (needs_audit (index + 1) room pair) now mid (Ok link)
-      → left ≡ room_behind room link.inputs → grown ≡ links ++ link ∷ []
+      → left ≡ room_after room link.inputs → grown ≡ links ++ link ∷ []
       → GoesOnAs plan (chained grown left (drop (index + 1) pairs)) old mid × (length grown ≡ index + 1)
   audit_more mid link left grown o fell pushed = (
     subst (λ (l : List Link). GoesOnAs plan (chained l left (drop (index + 1) pairs)) old mid) (sym pushed)
@@ -51,12 +51,12 @@ module _ (plan : Plan) (old now : ShelfState) (pairs : List Pair) (links : List 
     ap length pushed ∙ length-append links (link ∷ []) ∙ ap (λ n. n + 1) count,
   )
 
-  -- want of memory behind it
+  -- want of memory after it
   pub audit_wants : (mid : ShelfState) (link : Link) → Obtains (needs_audit (index + 1) room pair) now mid (Ok link) → Performs plan old mid (Err stop.OutOfMemory)
   audit_wants mid link o =
       ends_as plan (later link) old mid (goes_on_obtained plan (needs_audit (index + 1) room pair) later old now here mid link o) mid (Err stop.OutOfMemory) (wants_memory (later link) mid)
 
--- behind the last audit
+-- after the last audit
 pub all_done : (plan : Plan) (old now : ShelfState) (pairs : List Pair) (links : List Link) (room index : ℕ) → GoesOnAs plan (chained links room (drop index pairs)) old now
     → length pairs ≤ index → (result : Result Answer Stop) → Says (chained links 0 []) result → Performs plan old now result
 all_done plan old now pairs links room index leads past result said =

@@ -22,5 +22,5 @@ past line is = by (nat_lt (position_or_len blank line) (length line)) refl is wh
 pub whole_before : (line : List ℕ) → position (λ byte. byte == 32) line ≡ None → before_first (λ byte. byte == 32) line ≡ line
 whole_before line is = take_all (position_or_len blank line) line (past line is)
 
-pub none_behind : (line : List ℕ) → position (λ byte. byte == 32) line ≡ None → after_first (λ byte. byte == 32) line ≡ []
-none_behind line is = let behind = past line is in drop_all (position_or_len blank line + 1) line (omega (arith, behind))
+pub none_after : (line : List ℕ) → position (λ byte. byte == 32) line ≡ None → after_first (λ byte. byte == 32) line ≡ []
+none_after line is = let after = past line is in drop_all (position_or_len blank line + 1) line (omega (arith, after))

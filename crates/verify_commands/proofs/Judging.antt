@@ -1,8 +1,8 @@
 -- What is said of a report, from the verdict on it.
 use Rattle.std.proofs.Common.{◌≡◌, ℕ, Bool, true, false, if◌then◌else◌, List, Option, Some, None, Result, subst}
-use Rattle.recipe.specs.declared.contents.Said.{Said}
+use Rattle.recipe.specs.declared.contents.RecipeContents.{RecipeContents}
 use Rattle.report.specs.declared.types.CompareLine.{CompareLine}
-use Rattle.wheeler.specs.Bench.{all_equal}
+use Rattle.audit_rules.specs.Bench.{all_equal}
 use Rattle.verifier.specs.declared.part.Part.{Part}
 use Rattle.verifier.specs.declared.part.Verdict.TheVariants as verdict
 use Rattle.verifier.specs.Verdicts.{Judges}
@@ -14,7 +14,7 @@ use Rattle.command_plan.specs.Steps.{Says}
 use Rattle.verify_commands.specs.Texts.{refuted_line}
 use Rattle.verify_commands.specs.Verify.{judged_report}
 
-module _ (recipe : Said) (lines : List CompareLine) (result : Result Answer Stop) where
+module _ (recipe : RecipeContents) (lines : List CompareLine) (result : Result Answer Stop) where
   -- no fault is told as a yes, or as a difference
   pub no_fault_equal : (fault : Option (Part × ℕ)) → Judges fault lines verdict.Yes → Says (judged_report recipe lines None) result → Says (judged_report recipe lines fault) result
   no_fault_equal None is said = said

@@ -2,12 +2,12 @@
 -- docs/reference/command-line.md and docs/reference/chain.md say the same for people.
 use Rattle.std.specs.Prelude.{ℕ, ◌+◌, ◌-◌, ◌==◌, Bool, Option, None, Some, List, [], ◌∷◌, ◌++◌, length, sum_by, if◌then◌else◌}
 use Rattle.std.specs.List.{before_first, after_first}
-use Rattle.recipe.specs.declared.contents.Said.{Said}
+use Rattle.recipe.specs.declared.contents.RecipeContents.{RecipeContents}
 use Rattle.recipe.specs.Reading.{recipe_of}
 use Rattle.report.specs.declared.types.CompareLine.{CompareLine}
 use Rattle.report.specs.declared.types.Report.{Report}
 use Rattle.report.specs.Reading.{report_of}
-use Rattle.wheeler.specs.Bench.{all_equal}
+use Rattle.audit_rules.specs.Bench.{all_equal}
 use Rattle.verifier.specs.declared.part.Part.{Part}
 use Rattle.verifier.specs.Faults.{first_fault}
 use Rattle.audit_chain.specs.declared.link.Link.{Link}
@@ -35,12 +35,12 @@ both_words _ _ = None
 unfoldable pub pair_of : List Pair → List ℕ → Option Pair
 pair_of earlier line = both_words (listed_word (before_first is_space line)) (listed_word (after_first is_space line))
 
--- ---- one audit, by its number from 1: what `verify` says of it stands behind a line with that number
+-- ---- one audit, by its number from 1: what `verify` says of it stands after a line with that number
 
 unfoldable pub needs_two_files : Pair → (Unit {0} → Plan) → Plan
 needs_two_files pair next = if is_one_file pair.recipe pair.report then usage else next tt
 
-abbrev pub needs_recipe_of : ℕ → List ℕ → (Said → Plan) → Plan
+abbrev pub needs_recipe_of : ℕ → List ℕ → (RecipeContents → Plan) → Plan
 needs_recipe_of number file next =
     needs file 1_048_576 (λ bytes. unless_refused (recipe_of bytes) (λ refusal. answers RecipeRefused (audit_line number ++ recipe_line refusal)) next)
 
@@ -67,13 +67,13 @@ needs_audit number room pair next =
 -- ---- all of them
 
 -- how many bytes are left for the inputs of later audits
-abbrev pub room_behind : ℕ → List (List ℕ) → ℕ
-room_behind room inputs = room - sum_by length inputs
+abbrev pub room_after : ℕ → List (List ℕ) → ℕ
+room_after room inputs = room - sum_by length inputs
 
--- the audits of these lines, behind those that are verified
+-- the audits of these lines, after those that are verified
 abbrev pub chained : List Link → ℕ → List Pair → Plan
 chained links room [] = answers Yes (chain_text links)
-chained links room (pair ∷ pairs) = needs_audit (length links + 1) room pair (λ link. chained (links ++ link ∷ []) (room_behind room link.inputs) pairs)
+chained links room (pair ∷ pairs) = needs_audit (length links + 1) room pair (λ link. chained (links ++ link ∷ []) (room_after room link.inputs) pairs)
 
 -- there is to be a line; the inputs of all audits have at most 1,073,741,824 bytes together
 unfoldable pub chained_lines : List Pair → Plan

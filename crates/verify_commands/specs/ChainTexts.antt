@@ -1,8 +1,8 @@
 -- What `chain` prints. docs/reference/command-line.md says the same for people.
 use Rattle.std.specs.Prelude.{ℕ, List, [], ◌∷◌, ◌++◌, codes, decimal, flat_map, length}
 use Rattle.ddc_base.specs.Lines.{line}
-use Rattle.meaning.specs.declared.assumption.Assumption.{Assumption}
-use Rattle.meaning.specs.declared.assumption.Assumption.TheVariants.{Implements, Compiles}
+use Rattle.wheeler.specs.declared.assumption.Assumption.{Assumption}
+use Rattle.wheeler.specs.declared.assumption.Assumption.TheVariants.{Implements, Compiles}
 use Rattle.audit_chain.specs.declared.link.Link.{Link}
 use Rattle.audit_chain.specs.declared.link.ChainLine.{ChainLine}
 use Rattle.audit_chain.specs.Chain.{remaining}

@@ -1,16 +1,16 @@
 -- What the command prints. docs/reference/command-line.md says the same for people.
 use Rattle.std.specs.Prelude.{ℕ, List, [], ◌∷◌, ◌++◌, codes, decimal, flat_map, ◌==◌, if◌then◌else◌}
 use Rattle.ddc_base.specs.Lines.{line}
-use Rattle.recipe.specs.declared.contents.Said.{Said}
+use Rattle.recipe.specs.declared.contents.RecipeContents.{RecipeContents}
 use Rattle.report.specs.declared.types.CompareLine.{CompareLine}
-use Rattle.wheeler.specs.Bench.{all_equal}
+use Rattle.audit_rules.specs.Bench.{all_equal}
 use Rattle.verifier.specs.declared.part.Part.{Part}
 use Rattle.verifier.specs.Words.{part_word}
 use Rattle.recipe_plan.specs.Texts.{compared_lines}
-use Rattle.meaning.specs.declared.assumption.Assumption.{Assumption}
-use Rattle.meaning.specs.declared.assumption.Assumption.TheVariants.{Implements, Compiles}
-use Rattle.meaning.specs.Assumptions.{assumed}
-use Rattle.meaning.specs.Routes.{assumed_named}
+use Rattle.wheeler.specs.declared.assumption.Assumption.{Assumption}
+use Rattle.wheeler.specs.declared.assumption.Assumption.TheVariants.{Implements, Compiles}
+use Rattle.wheeler.specs.Assumptions.{assumed}
+use Rattle.wheeler.specs.Routes.{assumed_named}
 
 -- the first part of a report that is not true, and the number of its input or stage
 unfoldable pub refuted_line : Part → ℕ → List ℕ
@@ -32,14 +32,14 @@ assumption_line (Compiles source stage becomes) = line (codes "assumes" ∷ code
 unfoldable pub route_line : List ℕ → List ℕ
 route_line stage = line (codes "route" ∷ stage ∷ [])
 
-abbrev pub route_text : Said → List ℕ → List ℕ
+abbrev pub route_text : RecipeContents → List ℕ → List ℕ
 route_text recipe stage = route_line stage ++ flat_map assumption_line (assumed_named recipe stage)
 
 -- what is assumed of the recipe's programs: in format 1 all of it, in format 2 the route of each compared stage in order
-abbrev pub assumed_text : Said → List ℕ
+abbrev pub assumed_text : RecipeContents → List ℕ
 assumed_text recipe =
     if recipe.format == 1 then flat_map assumption_line (assumed recipe) else flat_map (route_text recipe) recipe.compare.stages
 
 -- a report is true: how the artefacts and the binary compare, after a yes where all are the same, and then exactly what is assumed
-abbrev pub true_text : Said → List CompareLine → List ℕ
+abbrev pub true_text : RecipeContents → List CompareLine → List ℕ
 true_text recipe lines = headline lines ++ compared_lines lines ++ assumed_text recipe

@@ -5,7 +5,7 @@ ghost use Rattle.ddc_base.specs.Outside.{IsFileName, ShelfState};
 ghost use Rattle.recipe.specs.Reading.{recipe_of};
 ghost use Rattle.report.specs.Reading.{report_of};
 ghost use Rattle.verifier.specs.Faults.{first_fault};
-ghost use Rattle.wheeler.specs.Valid.{IsInputs};
+ghost use Rattle.audit_rules.specs.Valid.{IsInputs};
 ghost use Rattle.command_plan.specs.declared.status.Status.TheVariants.{Differs, RecipeRefused, Refuted, ReportRefused};
 ghost use Rattle.command_plan.specs.Performs.{Performs};
 ghost use Rattle.command_plan.specs.Plan.{answers, unless_refused};
@@ -13,7 +13,7 @@ ghost use Rattle.command_plan.specs.Steps.{Obtains, Says};
 ghost use Rattle.command_plan.specs.Texts.{report_line};
 ghost use Rattle.recipe_plan.specs.Recipes.{needs_apart, needs_inputs_within};
 ghost use Rattle.recipe_plan.specs.Texts.{compared_lines, recipe_line};
-ghost use Rattle.verify_commands.specs.Chain.{chain_files, chain_plan, chained, chained_lines, needs_audit, needs_recipe_of, needs_report_of, needs_true, needs_two_files, room_behind};
+ghost use Rattle.verify_commands.specs.Chain.{chain_files, chain_plan, chained, chained_lines, needs_audit, needs_recipe_of, needs_report_of, needs_true, needs_two_files, room_after};
 ghost use Rattle.verify_commands.specs.ChainTexts.{audit_line};
 ghost use Rattle.verify_commands.specs.Inside.Ends.{EndsWith};
 ghost use Rattle.verify_commands.specs.Texts.{refuted_line};
@@ -94,7 +94,7 @@ fn verify_each<S: Shelf>(alloc: Global, shelf: &mut S, pairs: &[Pair]) -> Result
     let mut room = INPUTS_LIMIT;
     for (index, pair) in pairs.iter().enumerate() {
         let link = verify_audit(alloc, shelf, index as u32 + 1, room, pair)?;
-        room = room_behind(room, link.inputs.as_slice());
+        room = room_after(room, link.inputs.as_slice());
         links.push(link)?;
     }
     all_true(alloc, &links)
@@ -112,8 +112,8 @@ fn all_true(alloc: Global, links: &ChainLinks) -> Result<Answer, Stop>
 }
 
 /// How many bytes are left for the inputs of later audits.
-fn room_behind(room: u64, inputs: &[Bytes]) -> u64
-    ensures { result ≡ room_behind room inputs.now }
+fn room_after(room: u64, inputs: &[Bytes]) -> u64
+    ensures { result ≡ room_after room inputs.now }
 {
     let mut left = room;
     for input in inputs {

@@ -8,10 +8,10 @@ ghost use Rattle.verify_commands.specs.ChainTexts.{audit_line, chain_text, remai
 use crate::texts::{put_pair, put_word};
 use audit_chain::{ChainLine, ChainLinks, remaining};
 use ddc_base::{Bytes, Name, OutOfMemory};
-use meaning::Assumption;
+use wheeler::Assumption;
 use std::alloc::Global;
 
-/// A text behind the line that says of which audit it is.
+/// A text after the line that says of which audit it is.
 #[tactic(auto, unfolding(crate::specs::ChainTexts::audit_line))]
 pub fn of_audit(alloc: Global, number: u32, text: &[u8]) -> Result<Bytes, OutOfMemory>
     ensures { IfOk result (λ whole. whole ≡ audit_line number ++ text.now) }

@@ -33,10 +33,10 @@ impl Listed for Pair {
     }
 }
 
-/// What stands before the first blank of a line, and what stands behind it: nothing where there is no blank.
+/// What stands before the first blank of a line, and what stands after it: nothing where there is no blank.
 fn cut_at_blank(line: &[u8]) -> (&[u8], &[u8])
     ensures before { result.0.now ≡ before_first (λ byte. byte == 32) line.now }
-    ensures behind { result.1.now ≡ after_first (λ byte. byte == 32) line.now }
+    ensures after { result.1.now ≡ after_first (λ byte. byte == 32) line.now }
 {
     match blank_at(line) {
         Some(at) => (&line[..at], &line[at + 1..]),

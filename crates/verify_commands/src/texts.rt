@@ -4,17 +4,17 @@ ghost use Rattle.recipe_plan.specs.Texts.{compared_lines};
 ghost use Rattle.ddc_base.specs.Lines.{line};
 ghost use Rattle.std.specs.Prelude.{◌≡◌, ◌++◌, [], ◌∷◌, IfOk, IfSome, OnOk, codes, flat_map, length, ◌<◌, ◌≤◌};
 ghost use Rattle.verify_commands.specs.Texts.{assumed_text, assumption_line, headline, refuted_line, route_text, true_text, yes_line};
-ghost use Rattle.meaning.specs.Routes.{assumed_named};
+ghost use Rattle.wheeler.specs.Routes.{assumed_named};
 ghost use Rattle.recipe.specs.Lookups.{stage_at};
 
 use ddc_base::{Bytes, Name, OutOfMemory};
-use meaning::{Assumption, Assumptions, assumptions, assumptions_for};
+use wheeler::{Assumption, Assumptions, assumptions, assumptions_for};
 use recipe::Recipe;
 use recipe_plan::texts::compared_lines;
 use report::CompareLine;
 use std::alloc::Global;
 use verifier::Part;
-use wheeler::all_equal;
+use audit_rules::all_equal;
 
 /// The first part of a report that is not true.
 #[tactic(auto, unfolding(crate::specs::Texts::refuted_line))]
@@ -175,7 +175,7 @@ fn compiles(
     Ok(text)
 }
 
-/// Adds a name, and the space behind it.
+/// Adds a name, and the space after it.
 #[tactic(auto, using(crate::proofs::Written::written))]
 pub(crate) fn put_word(text: &mut Bytes, name: &Name) -> Result<(), OutOfMemory>
     ensures { OnOk result (text.new ≡ text.old ++ (name.now ++ codes " ")) }

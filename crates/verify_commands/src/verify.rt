@@ -2,7 +2,7 @@
 
 ghost use Rattle.std.specs.Prelude.{if◌then◌else◌, map, None};
 ghost use Rattle.ddc_base.specs.Outside.{IsFileName};
-ghost use Rattle.wheeler.specs.Valid.{IsInputs};
+ghost use Rattle.audit_rules.specs.Valid.{IsInputs};
 ghost use Rattle.command_plan.specs.declared.status.Status.TheVariants.{Refuted};
 ghost use Rattle.command_plan.specs.Performs.{Performs};
 ghost use Rattle.command_plan.specs.Plan.{answers};
@@ -17,7 +17,7 @@ use crate::texts;
 use command_plan::words::are_two_files;
 use command_plan::{Answer, Status, Stop, usage};
 use ddc_base::Shelf;
-use meaning::Meaning;
+use wheeler::Meaning;
 use recipe::{Inputs, Recipe};
 use recipe_plan::{apart, compared_status, fetch_inputs, fetch_recipe, fetch_report};
 use report::{CompareLine, Report};

@@ -1,73 +1,55 @@
-//! Laws of benches, positions and reports, over a recipe that keeps its rules. Each law is the contract of a function that does nothing.
+//! Laws of every meaning. Each law is the contract of a function that does nothing.
 
-ghost use Rattle.mem_files.specs.Limits.{most_content};
+ghost use Rattle.wheeler.specs.AllContents.{stage_named};
+ghost use Rattle.wheeler.specs.Assumptions.{assumed, is_trusted};
+ghost use Rattle.wheeler.specs.Concludes.{Concludes};
+ghost use Rattle.wheeler.specs.Follows.{HasCompared};
+ghost use Rattle.wheeler.specs.Listed.{ConcludesListed, ListedHold};
+ghost use Rattle.wheeler.specs.Routes.{about, assumed_for, unless_checked, is_on, route, route_named};
 ghost use Rattle.recipe.specs.Kept.{IsRecipe};
-ghost use Rattle.recipe.specs.declared.contents.Said.{Said};
-ghost use Rattle.report.specs.Reports.{IsReport};
+ghost use Rattle.recipe.specs.declared.contents.RecipeContents.{RecipeContents};
+ghost use Rattle.recipe.specs.declared.parts.Stage.{Stage};
 ghost use Rattle.report.specs.declared.types.Report.{Report};
-ghost use Rattle.std.specs.Prelude.{◌≡◌, ◌≤◌, ◌+◌, ◌-◌, ◌^◌, ℕ, List};
-ghost use Rattle.wheeler.specs.Bench.{bench};
-ghost use Rattle.wheeler.specs.Positions.{Position, Standing, On, Over, beginning, continue, finish, forward, forward_from, position, step, todo};
-ghost use Rattle.wheeler.specs.Valid.{IsInputs, IsPosition, IsStanding, limits};
-ghost use Rattle.wheeler.specs.declared.answer.Answer.TheVariants.{Completes};
+ghost use Rattle.std.specs.Prelude.{◌≡◌, ◌-◌, ◌∷◌, [], ℕ, All, List, None, Some, filter, slice_get, true};
+ghost use Rattle.audit_rules.specs.Bench.{all_equal, bench};
+ghost use Rattle.audit_rules.specs.Valid.{IsInputs};
+ghost use Rattle.audit_rules.specs.declared.answer.AuditAnswer.TheVariants.{Completes};
 
-use crate::{MAX_ARTEFACTS, MAX_INPUT};
+use crate::meaning::Meaning;
 
-/// Going on by some steps and then by more is going on by their sum.
-pub fn steps_in_parts()
-    ensures position { (recipe : Said) (inputs : List (List ℕ)) (p q : Position) (first more : ℕ)
-        → forward recipe inputs p first ≡ On q → forward recipe inputs p (first + more) ≡ forward recipe inputs q more }
-    ensures standing { (recipe : Said) (inputs : List (List ℕ)) (from : Standing) (first more : ℕ)
-        → forward_from recipe inputs (forward_from recipe inputs from first) more ≡ forward_from recipe inputs from (first + more) }
+/// Each compared stage of a recipe that keeps its rules is there, and where it is unchecked it has a parent source.
+pub fn compared_stages_are_there()
+    ensures { (recipe : RecipeContents) → IsRecipe recipe → All (HasCompared recipe) recipe.compare.stages }
 {}
 
-/// Going on to the end from any valid position, reached or not, gives one answer, that of its continuation, after however many steps.
-pub fn positions_keep_their_answer()
-    ensures { (recipe : Said) (inputs : List (List ℕ)) (p : Position) (count : ℕ) → IsRecipe recipe → IsPosition recipe p
-        → finish recipe inputs (forward recipe inputs p count) ≡ continue recipe inputs p }
+/// Wheeler's argument, in both directions: of a recipe that keeps its rules and inputs within their limits, where the bench reaches its
+/// end, the conclusion that belongs to each comparison holds, from the lines of that stage's route alone.
+pub fn the_bench_concludes<M: Meaning>()
+    ensures { (recipe : RecipeContents) (inputs : List (List ℕ)) (report : Report) → IsRecipe recipe → IsInputs recipe inputs
+        → bench recipe inputs ≡ Completes report → Concludes M.prescribes M.compiles recipe inputs report.compare }
 {}
 
-/// Going on to the end from any position of an audit gives the bench's answer, and so its report.
-pub fn positions_have_the_answer_of_the_bench()
-    ensures { (recipe : Said) (inputs : List (List ℕ)) (count : ℕ) → IsRecipe recipe
-        → finish recipe inputs (position recipe inputs count) ≡ bench recipe inputs }
+/// A route in its own words: it is empty where the stage is checked, and else the stage's program and then the route of the stage that makes
+/// that program, if one does. Of a stage's number it is that of its name.
+pub fn a_route_goes_back()
+    ensures back { (recipe : RecipeContents) (name : List ℕ) (stage : Stage) → IsRecipe recipe → stage_named recipe.stages name ≡ Some stage
+        → route_named recipe name ≡ unless_checked stage.check (stage.program ∷ route_named recipe stage.program) }
+    ensures ends { (recipe : RecipeContents) (name : List ℕ) → stage_named recipe.stages name ≡ None → route_named recipe name ≡ [] }
+    ensures number { (recipe : RecipeContents) (number : ℕ) (stage : Stage) → IsRecipe recipe → slice_get recipe.stages (number - 1) ≡ Some stage
+        → route recipe number ≡ route_named recipe stage.name }
 {}
 
-/// With as many steps as the limits of the stages allow an audit is over, with the answer of its continuation.
-pub fn limits_are_enough()
-    ensures { (recipe : Said) (inputs : List (List ℕ)) (p : Position) (count : ℕ) → IsRecipe recipe → IsPosition recipe p
-        → limits (todo recipe p.done) ≤ p.at.steps + count → forward recipe inputs p count ≡ Over (continue recipe inputs p) }
+/// What stands on a route is the program of an unchecked stage, and the lines of a route are those lines of the whole audit that are about
+/// its members, in the same order.
+pub fn routes_are_trusted()
+    ensures programs { (recipe : RecipeContents) (number : ℕ) (name : List ℕ) → is_on (route recipe number) name ≡ true → is_trusted recipe name ≡ true }
+    ensures lines { (recipe : RecipeContents) (number : ℕ) → assumed_for recipe number ≡ filter (λ line. is_on (route recipe number) (about line)) (assumed recipe) }
 {}
 
-/// A recipe allows fewer steps than 2^64 in all, so an audit is over after one advance by 2^64 - 1: from the beginning with the bench's
-/// answer, and from any valid position with that of its continuation.
-pub fn one_advance_is_enough()
-    ensures position { (recipe : Said) (inputs : List (List ℕ)) (p : Position) → IsRecipe recipe → IsPosition recipe p
-        → forward recipe inputs p (2 ^ 64 - 1) ≡ Over (continue recipe inputs p) }
-    ensures beginning { (recipe : Said) (inputs : List (List ℕ)) → IsRecipe recipe
-        → position recipe inputs (2 ^ 64 - 1) ≡ Over (bench recipe inputs) }
-{}
-
-/// A step from a valid position gives a valid position or an answer, whose report is well formed; so does the beginning.
-pub fn steps_keep_positions_valid()
-    ensures step { (recipe : Said) (inputs : List (List ℕ)) (p : Position) → IsRecipe recipe → IsInputs recipe inputs → IsPosition recipe p
-        → IsStanding recipe (step recipe inputs p) }
-    ensures steps { (recipe : Said) (inputs : List (List ℕ)) (p : Position) (count : ℕ) → IsRecipe recipe → IsInputs recipe inputs
-        → IsPosition recipe p → IsStanding recipe (forward recipe inputs p count) }
-    ensures beginning { (recipe : Said) (inputs : List (List ℕ)) → IsRecipe recipe → IsInputs recipe inputs
-        → IsStanding recipe (beginning recipe inputs) }
-{}
-
-/// Every report of an audit is well formed, whether it comes from the beginning or from any valid position.
-pub fn reports_are_well_formed()
-    ensures bench { (recipe : Said) (inputs : List (List ℕ)) (report : Report) → IsRecipe recipe → IsInputs recipe inputs
-        → bench recipe inputs ≡ Completes report → IsReport report }
-    ensures position { (recipe : Said) (inputs : List (List ℕ)) (p : Position) (report : Report) → IsRecipe recipe → IsInputs recipe inputs
-        → IsPosition recipe p → continue recipe inputs p ≡ Completes report → IsReport report }
-{}
-
-/// The numbers of the code are the written limits.
-pub fn numbers_are_those_written()
-    ensures artefacts { MAX_ARTEFACTS ≡ 1_073_741_824 }
-    ensures input { MAX_INPUT ≡ most_content }
+/// An audit whose comparisons are all equal: where every line that is listed of its programs and of its compared stages holds, so does every
+/// line that is assumed of it, every stage follows, and its audited binary implements the source of each compared stage that has one.
+pub fn an_equal_bench_concludes<M: Meaning>()
+    ensures { (recipe : RecipeContents) (inputs : List (List ℕ)) (report : Report) → IsRecipe recipe → IsInputs recipe inputs
+        → bench recipe inputs ≡ Completes report → all_equal report.compare ≡ true → ListedHold M.prescribes M.compiles recipe inputs
+        → ConcludesListed M.prescribes M.compiles recipe inputs }
 {}

@@ -1,22 +1,29 @@
-//! What an audit is: the contents, boxes and texts of its stages, the bench that runs them, its report, and the positions on the way;
-//! and the check of an artefact against its source (`source_check`).
+//! Wheeler's argument: what sources mean, what has to be believed of an audit's programs, and what follows from its end.
 //!
-//! Its rules for people: docs/reference/audit.md. The crates that run an audit or judge its report have code of their own, which meets
-//! these definitions.
+//! Its rules for people: docs/reference/argument.md. The conclusions hold for every meaning, and the program needs none: a meaning has
+//! nothing that runs.
 #![tactic(auto)]
 
-mod answer;
-mod cause;
-mod comparison;
+mod assembly;
+mod assumption;
+mod deterministic;
 pub mod laws;
-pub mod source_check;
+mod listing;
+mod macro_assembly;
+mod meaning;
+mod of_meaning;
+mod other_languages;
+mod routing;
+mod semantics;
+pub mod semantics_laws;
+mod trusted;
 
-pub use answer::{Answer, Fault, Finished};
-pub use cause::{RunCause, StartCause};
-pub use comparison::all_equal;
-
-/// The most bytes of all artefacts together.
-pub const MAX_ARTEFACTS: u64 = 1_073_741_824;
-
-/// The most bytes of an input.
-pub const MAX_INPUT: u64 = 268_435_456;
+pub use assembly::Assembly;
+pub use assumption::{Assumption, Assumptions};
+pub use deterministic::Deterministic;
+pub use listing::{assumptions, assumptions_for, assumptions_with_compared};
+pub use macro_assembly::MacroAssembly;
+pub use meaning::Meaning;
+pub use of_meaning::OfMeaning;
+pub use other_languages::{OtherLanguages, WithMachineCode};
+pub use semantics::Semantics;

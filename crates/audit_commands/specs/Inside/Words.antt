@@ -3,7 +3,7 @@ use Rattle.std.specs.Prelude.{ℕ, Option, None, Some, List, [], ◌∷◌, if�
 use Rattle.command_plan.specs.Words.{as_steps, as_three_files, as_two_files}
 use Rattle.audit_commands.specs.declared.words.ReportWords.{ReportWords}
 use Rattle.audit_commands.specs.declared.words.PieceWords.{PieceWords}
-use Rattle.audit_commands.specs.declared.words.BesideWords.{BesideWords}
+use Rattle.audit_commands.specs.declared.words.RelativeWords.{RelativeWords}
 use Rattle.audit_commands.specs.Delta.{are_four_files}
 
 -- the words `RECIPE REPORT`
@@ -28,11 +28,11 @@ whole_words _ = None
 abbrev pub as_four_files : List ℕ → List ℕ → List ℕ → List ℕ → Option (List ℕ × List ℕ × List ℕ × List ℕ)
 as_four_files recipe base patch report = if are_four_files recipe base patch report then Some (recipe, base, patch, report) else None
 
-abbrev pub beside_of : Option (List ℕ × List ℕ × List ℕ × List ℕ) → Option ℕ → Option BesideWords
-beside_of (Some files) (Some steps) =
+abbrev pub relative_of : Option (List ℕ × List ℕ × List ℕ × List ℕ) → Option ℕ → Option RelativeWords
+relative_of (Some files) (Some steps) =
     Some (record { recipe = files.0; base = files.1; piece = record { save = files.2; report = files.3; steps = steps } })
-beside_of _ _ = None
+relative_of _ _ = None
 
-abbrev pub beside_words : List (List ℕ) → Option BesideWords
-beside_words (recipe ∷ base ∷ patch ∷ report ∷ steps ∷ []) = beside_of (as_four_files recipe base patch report) (as_steps steps)
-beside_words _ = None
+abbrev pub relative_words : List (List ℕ) → Option RelativeWords
+relative_words (recipe ∷ base ∷ patch ∷ report ∷ steps ∷ []) = relative_of (as_four_files recipe base patch report) (as_steps steps)
+relative_words _ = None

@@ -2,7 +2,7 @@
 use Rattle.std.proofs.Common.{◌≡◌, ◌≢◌, ℕ, zero, suc, ◌<◌, true, false, if◌then◌else◌, None, Some, List, [], ◌∷◌, length, get_or, min, refl, ap, ◌∙◌, arith}
 use Rattle.std.specs.Prelude.{option_map}
 use Rattle.hex_langs.specs.declared.items.item.Item.{Item}
-use Rattle.wheeler.specs.SourceCheck.Checks.{first_other_item, same_item}
+use Rattle.audit_rules.specs.SourceCheck.Checks.{first_other_item, same_item}
 
 -- the lists agree before an index
 abbrev pub SameBelow : List Item → List Item → ℕ → Type 0

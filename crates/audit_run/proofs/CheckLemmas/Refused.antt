@@ -11,9 +11,9 @@ use Rattle.hex_langs.specs.Link.Values.{linked}
 use Rattle.m1_lang.specs.declared.refusal.M1Refusal.{M1Refusal}
 use Rattle.m1_lang.specs.declared.refusal.M1Refusal.TheVariants as m1
 use Rattle.m1_lang.specs.Expansion.{Expands}
-use Rattle.wheeler.specs.declared.source_check.cause.CheckCause.{CheckCause}
-use Rattle.wheeler.specs.declared.source_check.cause.CheckCause.TheVariants as cause
-use Rattle.wheeler.specs.SourceCheck.Checks.{checked, hex_value, items_against, m1_value}
+use Rattle.audit_rules.specs.declared.source_check.cause.CheckCause.{CheckCause}
+use Rattle.audit_rules.specs.declared.source_check.cause.CheckCause.TheVariants as cause
+use Rattle.audit_rules.specs.SourceCheck.Checks.{checked, hex_value, items_against, m1_value}
 use Rattle.audit_run.specs.Check.Inside.Refusing.{RefusesHex, RefusesM1}
 
 abbrev Answer : Type 0

@@ -3,12 +3,12 @@ use Rattle.std.proofs.Common.{◌≡◌, ℕ, ◌==◌, ◌<◌, ◌^◌, Bool, 
 use Rattle.std.specs.List.{starts_with}
 use Rattle.std.proofs.lemmas.List.{length-map}
 use Rattle.std.proofs.lemmas.List.Elements.{All-cons, All-head, All-nil, All-tail}
-use Rattle.save_text.specs.declared.byte_fields.form.TextForm.TheVariants.{Second}
-use Rattle.save_text.specs.declared.parts.StagePart.{StagePart}
-use Rattle.save_text.specs.SaveText.{SaveText, save_magic}
-use Rattle.save_text.specs.Seen.{stage_view}
-use Rattle.save_text.specs.Spelled.{IsShortStage, IsStageText, IsTextOfSave, old_text_of_save, save_text_in, text_of_save}
-use Rattle.save_text.proofs.Written.{is_short}
+use Rattle.save_format.specs.declared.byte_fields.form.TextForm.TheVariants.{Second}
+use Rattle.save_format.specs.declared.parts.StagePart.{StagePart}
+use Rattle.save_format.specs.SaveText.{SaveText, save_magic}
+use Rattle.save_format.specs.Seen.{stage_view}
+use Rattle.save_format.specs.Spelled.{IsShortStage, IsStageText, IsTextOfSave, old_text_of_save, save_text_in, text_of_save}
+use Rattle.save_format.proofs.Written.{is_short}
 
 -- an old text begins with another magic
 old_begins : (save : SaveText) → starts_with ◌==◌ (old_text_of_save save) (save_magic Second) ≡ false

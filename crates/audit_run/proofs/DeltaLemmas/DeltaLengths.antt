@@ -4,42 +4,42 @@ use Rattle.std.specs.List.{flat_map}
 use Rattle.checkpoints.specs.Checkpoint.{state_of}
 use Rattle.checkpoints.proofs.PatchLengths.{patches_short}
 use Rattle.checkpoints.proofs.TextLengths.{HasAtMost, counted, itself, joined, number32}
-use Rattle.recipe.specs.declared.contents.Said.{Said}
+use Rattle.recipe.specs.declared.contents.RecipeContents.{RecipeContents}
 use Rattle.recipe.specs.Kept.{IsRecipe}
 use Rattle.report.proofs.Marks.{is_digest}
-use Rattle.save_text.specs.SaveText.{StageText}
-use Rattle.save_text.specs.Spelled.{digest_text, stage_text, text_of_save}
-use Rattle.save_text.specs.DeltaText.DeltaText.{delta_magic}
-use Rattle.save_text.specs.DeltaText.Stages.{kept_stages}
-use Rattle.save_text.specs.PatchText.Spelled.{text_of_patch}
-use Rattle.wheeler.specs.Positions.{Position}
-use Rattle.wheeler.specs.Valid.{IsInputs, IsPosition}
+use Rattle.save_format.specs.SaveText.{StageText}
+use Rattle.save_format.specs.Spelled.{digest_text, stage_text, text_of_save}
+use Rattle.save_format.specs.DeltaText.DeltaText.{delta_magic}
+use Rattle.save_format.specs.DeltaText.Stages.{kept_stages}
+use Rattle.save_format.specs.PatchText.Spelled.{text_of_patch}
+use Rattle.audit_rules.specs.Positions.{Position}
+use Rattle.audit_rules.specs.Valid.{IsInputs, IsPosition}
 use Rattle.audit_run.specs.Save.Saves.{save_of, stage_of}
 use Rattle.audit_run.specs.Delta.Deltas.{base_digest, delta_text_of}
 use Rattle.audit_run.proofs.SaveLemmas.SaveLengths.{done_most}
 use Rattle.audit_run.proofs.SaveLemmas.Written.{has_text}
 
--- stages behind some are no longer than all
-behind_most : {most : ℕ} (count : ℕ) (stages : List StageText) → HasAtMost most (flat_map stage_text stages) → HasAtMost most (flat_map stage_text (drop count stages))
-behind_most zero stages all = all
-behind_most (suc count) [] all = all
-behind_most (suc count) (stage ∷ stages) all =
-    behind_most count stages (record { long = omega (arith, all.long, length-append (stage_text stage) (flat_map stage_text stages)) })
+-- stages after some are no longer than all
+after_most : {most : ℕ} (count : ℕ) (stages : List StageText) → HasAtMost most (flat_map stage_text stages) → HasAtMost most (flat_map stage_text (drop count stages))
+after_most zero stages all = all
+after_most (suc count) [] all = all
+after_most (suc count) (stage ∷ stages) all =
+    after_most count stages (record { long = omega (arith, all.long, length-append (stage_text stage) (flat_map stage_text stages)) })
 
-patch_most : (recipe : Said) (inputs : List (List ℕ)) (b p : Position) → IsRecipe recipe → IsInputs recipe inputs → IsPosition recipe b → IsPosition recipe p
+patch_most : (recipe : RecipeContents) (inputs : List (List ℕ)) (b p : Position) → IsRecipe recipe → IsInputs recipe inputs → IsPosition recipe b → IsPosition recipe p
     → HasAtMost 1_894_752_591 (text_of_patch (state_of b.at) (state_of p.at))
 unfolding state_of
 patch_most recipe inputs b p is given base place =
     record { long = patches_short b.at p.at base.2.valid (has_text recipe inputs b is given base).state.steps place.2.valid (has_text recipe inputs p is given place).state.steps }
 
-pub short : (recipe : Said) (inputs : List (List ℕ)) (b p : Position) → IsRecipe recipe → IsInputs recipe inputs → IsPosition recipe b → IsPosition recipe p
+pub short : (recipe : RecipeContents) (inputs : List (List ℕ)) (b p : Position) → IsRecipe recipe → IsInputs recipe inputs → IsPosition recipe b → IsPosition recipe p
     → length (delta_text_of recipe inputs b p) < 4_294_967_296
 unfolding delta_text_of
 short recipe inputs b p is given base place =
     let kept = kept_stages (map stage_of b.done) (map stage_of p.done) in
     let digest : HasAtMost 32 (digest_text (base_digest (save_of recipe inputs b))) =
     record { long = (let count = (is_digest (text_of_save (save_of recipe inputs b))).count in omega arith) } in
-    let further = behind_most kept (map stage_of p.done) (done_most recipe p is place) in
+    let further = after_most kept (map stage_of p.done) (done_most recipe p is place) in
     let whole =
     joined (itself delta_magic) (joined digest (joined (joined (number32 kept) (counted stage_text (drop kept (map stage_of p.done)) further)) (patch_most recipe inputs b p is given base place))) in
     let long = whole.long in

@@ -5,29 +5,29 @@ use Rattle.std.proofs.lemmas.List.{length-drop}
 use Rattle.std.proofs.lemmas.Slice.Eq.{bytes_eq-Decides}
 use Rattle.ddc_base.specs.declared.digests.Digest.{Digest}
 use Rattle.guest_run.specs.Valid.{IsValid}
-use Rattle.recipe.specs.declared.contents.Said.{Said}
+use Rattle.recipe.specs.declared.contents.RecipeContents.{RecipeContents}
 use Rattle.recipe.specs.Kept as kept
 use Rattle.report.proofs.Marks.{is_digest}
 use Rattle.checkpoints.specs.Checkpoint.{state_of}
 use Rattle.checkpoints.proofs.PatchCounts.{counted_text, few_of, has_patch, range_few}
 use Rattle.checkpoints.proofs.SameText.{same_text}
-use Rattle.save_text.specs.SaveText.{StageText}
-use Rattle.save_text.specs.Spelled.{IsSavedDigest, digest_text, text_of_save}
-use Rattle.save_text.specs.StateText.Spelled.{IsStateText}
-use Rattle.save_text.specs.DeltaText.DeltaText.{DeltaText, IsDelta, delta_front_at, delta_magic, parsed_delta, text_of_delta}
-use Rattle.save_text.specs.DeltaText.Front.{is_of_other_base, is_other_digest}
-use Rattle.save_text.specs.DeltaText.Stages.{equal_stages, kept_stages, stages_beside_text}
-use Rattle.save_text.specs.PatchText.Spelled.{text_of_patch}
-use Rattle.save_text.specs.SaveText.{SaveText}
-use Rattle.save_text.proofs.ByteFieldsLemmas.Spells.{AreBytes, Nothing, Spells, spells, spells_begun, then}
-use Rattle.save_text.proofs.Texts.{spells_digest}
-use Rattle.save_text.proofs.DeltaTextLemmas.Texts.{parsed_again, parsed_takes}
-use Rattle.wheeler.specs.Positions.{Position}
-use Rattle.wheeler.specs.Valid.{IsInputs, IsPosition}
+use Rattle.save_format.specs.SaveText.{StageText}
+use Rattle.save_format.specs.Spelled.{IsSavedDigest, digest_text, text_of_save}
+use Rattle.save_format.specs.StateText.Spelled.{IsStateText}
+use Rattle.save_format.specs.DeltaText.DeltaText.{DeltaText, IsDelta, delta_front_at, delta_magic, parsed_delta, text_of_delta}
+use Rattle.save_format.specs.DeltaText.Front.{is_of_other_base, is_other_digest}
+use Rattle.save_format.specs.DeltaText.Stages.{equal_stages, kept_stages, stages_relative_text}
+use Rattle.save_format.specs.PatchText.Spelled.{text_of_patch}
+use Rattle.save_format.specs.SaveText.{SaveText}
+use Rattle.save_format.proofs.ByteFieldsLemmas.Spells.{AreBytes, Nothing, Spells, spells, spells_begun, then}
+use Rattle.save_format.proofs.Texts.{spells_digest}
+use Rattle.save_format.proofs.DeltaTextLemmas.Texts.{parsed_again, parsed_takes}
+use Rattle.audit_rules.specs.Positions.{Position}
+use Rattle.audit_rules.specs.Valid.{IsInputs, IsPosition}
 use Rattle.audit_run.specs.Save.Judged.{judged}
-use Rattle.audit_run.specs.Save.Saves.{IsPlace, IsResumedAs, Resumes, position_of, save_of, stage_of}
-use Rattle.audit_run.specs.Delta.Deltas.{GoesOnBeside, HasDelta, IsBaseAt, IsResumedBesideAs, NamesAnotherBase, ResumesBeside, base_digest, delta_of, delta_text_of, save_beside}
-use Rattle.audit_run.specs.Delta.Judged.{judged_beside}
+use Rattle.audit_run.specs.Save.Saves.{IsSavedPlace, IsResumedAs, Resumes, position_of, save_of, stage_of}
+use Rattle.audit_run.specs.Delta.Deltas.{GoesOnRelative, HasDelta, IsBaseAt, IsResumedRelativeAs, NamesAnotherBase, ResumesRelative, base_digest, delta_of, delta_text_of, save_relative}
+use Rattle.audit_run.specs.Delta.Judged.{judged_relative}
 use Rattle.audit_run.specs.declared.delta.reading.DeltaRefusal.{DeltaRefusal}
 use Rattle.audit_run.specs.declared.delta.reading.DeltaRefusal.TheVariants.{Base, Form, OtherBase, State, OutOfMemory}
 use Rattle.audit_run.specs.declared.save.reading.SaveRefusal.{SaveRefusal}
@@ -40,7 +40,7 @@ use Rattle.audit_run.proofs.SaveLemmas.Written.{has_text}
 
 -- ---- a base
 
-pub base_read : (recipe : Said) (inputs : List (List ℕ)) (text : List ℕ) → kept.IsRecipe recipe → IsInputs recipe inputs → (b : Position) → IsBaseAt recipe inputs b text
+pub base_read : (recipe : RecipeContents) (inputs : List (List ℕ)) (text : List ℕ) → kept.IsRecipe recipe → IsInputs recipe inputs → (b : Position) → IsBaseAt recipe inputs b text
     → judged recipe inputs text ≡ Ok b
 base_read recipe inputs text is given b at =
     by (judged recipe inputs text) (saves.is_only recipe inputs text (judged recipe inputs text) is given (answer.is_resumed recipe inputs text) b at.0 at.1)
@@ -54,7 +54,7 @@ base_read recipe inputs text is given b at =
     by (Err save.State) same settled = absurd same
 
 -- a text says one position as a base
-pub same_base : (recipe : Said) (inputs : List (List ℕ)) (text : List ℕ) → kept.IsRecipe recipe → IsInputs recipe inputs → (b c : Position) → IsBaseAt recipe inputs b text
+pub same_base : (recipe : RecipeContents) (inputs : List (List ℕ)) (text : List ℕ) → kept.IsRecipe recipe → IsInputs recipe inputs → (b c : Position) → IsBaseAt recipe inputs b text
     → IsBaseAt recipe inputs c text → b ≡ c
 same_base recipe inputs text is given b c first second =
     let both : ◌≡◌ {A = Result Position SaveRefusal} (Ok b) (Ok c) = sym (base_read recipe inputs text is given b first) ∙ base_read recipe inputs text is given c second in
@@ -75,7 +75,7 @@ named : (base : SaveText) (delta : DeltaText) (digest : Digest) (text : List ℕ
     → is_of_other_base digest text ≡ not (bytes_eq delta.base.0 digest.0)
 named base delta digest text is e =
     ap (is_of_other_base digest) e
-    ∙ ap (is_other_digest digest) (spells_front.again delta.base (stages_beside_text base.stages delta.stages ++ text_of_patch base.state delta.state) is)
+    ∙ ap (is_other_digest digest) (spells_front.again delta.base (stages_relative_text base.stages delta.stages ++ text_of_patch base.state delta.state) is)
 
 same_named : (base : SaveText) (delta : DeltaText) (digest : Digest) (text : List ℕ) → IsSavedDigest delta.base → text ≡ text_of_delta base delta
     → ¬ (is_of_other_base digest text ≡ true) → delta.base ≡ digest
@@ -97,7 +97,7 @@ few_kept (known ∷ more) (stage ∷ stages) =
       | false ↦ omega arith
     ]
 
-pub has_delta : (recipe : Said) (inputs : List (List ℕ)) (b p : Position) → kept.IsRecipe recipe → IsInputs recipe inputs → IsPosition recipe b → IsPosition recipe p
+pub has_delta : (recipe : RecipeContents) (inputs : List (List ℕ)) (b p : Position) → kept.IsRecipe recipe → IsInputs recipe inputs → IsPosition recipe b → IsPosition recipe p
     → IsDelta (save_of recipe inputs b) (delta_of recipe inputs b p)
 has_delta recipe inputs b p is given base place =
     let known = has_text recipe inputs b is given base in
@@ -117,21 +117,21 @@ has_delta recipe inputs b p is given base place =
 
 -- ---- each answer
 
-pub is_place : (recipe : Said) (inputs : List (List ℕ)) (base text : List ℕ) (result : Result Position DeltaRefusal) → IfOk result (λ p. IsValid p.at) → ResumesBeside recipe inputs base text result
+pub is_place : (recipe : RecipeContents) (inputs : List (List ℕ)) (base text : List ℕ) (result : Result Position DeltaRefusal) → IfOk result (λ p. IsValid p.at) → ResumesRelative recipe inputs base text result
     → IfOk result (λ p. IsPosition recipe p)
-is_place recipe inputs base text (Ok p) valid (b, r, (own, delta, formed, place, found)) = saves.position_is recipe (save_beside (save_of recipe inputs b) delta) p valid place found
+is_place recipe inputs base text (Ok p) valid (b, r, (own, delta, formed, place, found)) = saves.position_is recipe (save_relative (save_of recipe inputs b) delta) p valid place found
 is_place recipe inputs base text (Err refusal) valid resumes = tt
 
 -- what was read is what its delta says
-said_again : (recipe : Said) (inputs : List (List ℕ)) (b p : Position) (delta : DeltaText) → delta.base ≡ base_digest (save_of recipe inputs b) → IsStateText delta.state
-    → IsPlace recipe (save_beside (save_of recipe inputs b) delta) → p ≡ position_of (save_beside (save_of recipe inputs b) delta) → delta_of recipe inputs b p ≡ delta
+said_again : (recipe : RecipeContents) (inputs : List (List ℕ)) (b p : Position) (delta : DeltaText) → delta.base ≡ base_digest (save_of recipe inputs b) → IsStateText delta.state
+    → IsSavedPlace recipe (save_relative (save_of recipe inputs b) delta) → p ≡ position_of (save_relative (save_of recipe inputs b) delta) → delta_of recipe inputs b p ≡ delta
 said_again recipe inputs b p delta digest text (stage, stages, place) found =
     let stages_are : map stage_of p.done ≡ delta.stages = ap (λ (q : Position). map stage_of q.done) found ∙ saves.same_stages delta.stages in
     let state_is : state_of p.at ≡ delta.state = ap (λ (q : Position). state_of q.at) found ∙ same_text delta.state text place.range in
     λ i. record { base = sym digest i; stages = stages_are i; state = state_is i }
 
-pub is_found : (recipe : Said) (inputs : List (List ℕ)) (base text : List ℕ) (result : Result Position DeltaRefusal) → kept.IsRecipe recipe → IsInputs recipe inputs → AreBytes base → AreBytes text
-    → IfOk result (λ (p : Position). (b : Position) → Resumes recipe inputs base (Ok b) → IsPosition recipe b) → ResumesBeside recipe inputs base text result → IfOk result (HasDelta recipe inputs base text)
+pub is_found : (recipe : RecipeContents) (inputs : List (List ℕ)) (base text : List ℕ) (result : Result Position DeltaRefusal) → kept.IsRecipe recipe → IsInputs recipe inputs → AreBytes base → AreBytes text
+    → IfOk result (λ (p : Position). (b : Position) → Resumes recipe inputs base (Ok b) → IsPosition recipe b) → ResumesRelative recipe inputs base text result → IfOk result (HasDelta recipe inputs base text)
 unfolding delta_text_of
 is_found recipe inputs base text (Ok p) is given base_fits fits places (b, r, (own, delta, formed, place, found)) =
     let known = save_of recipe inputs b in
@@ -144,7 +144,7 @@ is_found recipe inputs base text (Err refusal) is given base_fits fits places re
 
 -- the delta of a position against its base
 
-module _ (recipe : Said) (inputs : List (List ℕ)) (text : List ℕ) (is : kept.IsRecipe recipe) (given : IsInputs recipe inputs) (b p : Position) (base : IsPosition recipe b)
+module _ (recipe : RecipeContents) (inputs : List (List ℕ)) (text : List ℕ) (is : kept.IsRecipe recipe) (given : IsInputs recipe inputs) (b p : Position) (base : IsPosition recipe b)
     (place : IsPosition recipe p) (e : text ≡ delta_text_of recipe inputs b p) where
   pub formed_so : parsed_delta (save_of recipe inputs b) text ≡ Ok (delta_of recipe inputs b p)
   unfolding delta_text_of
@@ -161,25 +161,25 @@ module _ (recipe : Said) (inputs : List (List ℕ)) (text : List ℕ) (is : kept
       ap not (sym ((bytes_eq-Decides digest.0 digest.0).1 refl)) ∙ sym (named (save_of recipe inputs b) (delta_of recipe inputs b p) digest text (has_delta recipe inputs b p is given base place).digest e) ∙ other in
       absurd cc
 
-  goes : (result : Result Position DeltaRefusal) → GoesOnBeside recipe (save_of recipe inputs b) text result → IsResumedBesideAs p result
+  goes : (result : Result Position DeltaRefusal) → GoesOnRelative recipe (save_of recipe inputs b) text result → IsResumedRelativeAs p result
   goes (Ok found) (own, delta, formed, placed, same) =
-      same ∙ ap (λ (d : DeltaText). position_of (save_beside (save_of recipe inputs b) d)) (said_so delta formed) ∙ saves.same_position recipe inputs p place.2.valid
+      same ∙ ap (λ (d : DeltaText). position_of (save_relative (save_of recipe inputs b) d)) (said_so delta formed) ∙ saves.same_position recipe inputs p place.2.valid
   goes (Err OutOfMemory) from = tt
   goes (Err OtherBase) other = not_another other
   goes (Err (Form offset)) (own, formed) =
       let both : ◌≡◌ {A = Result DeltaText ℕ} (Err offset) (Ok (delta_of recipe inputs b p)) = sym formed ∙ formed_so in
       cc
   goes (Err State) (own, delta, formed, none) =
-      none (subst (λ (d : DeltaText). IsPlace recipe (save_beside (save_of recipe inputs b) d)) (sym (said_so delta formed)) (saves.saves_a_place recipe inputs p place))
+      none (subst (λ (d : DeltaText). IsSavedPlace recipe (save_relative (save_of recipe inputs b) d)) (sym (said_so delta formed)) (saves.saves_a_place recipe inputs p place))
   goes (Err (Base refusal)) from = absurd from
 
-module _ (recipe : Said) (inputs : List (List ℕ)) (base text : List ℕ) (is : kept.IsRecipe recipe) (given : IsInputs recipe inputs) (b p : Position) (at : IsBaseAt recipe inputs b base)
+module _ (recipe : RecipeContents) (inputs : List (List ℕ)) (base text : List ℕ) (is : kept.IsRecipe recipe) (given : IsInputs recipe inputs) (b p : Position) (at : IsBaseAt recipe inputs b base)
     (place : IsPosition recipe p) (e : text ≡ delta_text_of recipe inputs b p) where
   -- beside the base's own position
-  from : (c : Position) (result : Result Position DeltaRefusal) → Resumes recipe inputs base (Ok c) → GoesOnBeside recipe (save_of recipe inputs c) text result → IsResumedBesideAs p result
+  from : (c : Position) (result : Result Position DeltaRefusal) → Resumes recipe inputs base (Ok c) → GoesOnRelative recipe (save_of recipe inputs c) text result → IsResumedRelativeAs p result
   from c result r goes_on =
       let same : c ≡ b = saves.is_only recipe inputs base (Ok c) is given r b at.0 at.1 in
-      goes recipe inputs text is given b p at.0 place e result (subst (λ (q : Position). GoesOnBeside recipe (save_of recipe inputs q) text result) same goes_on)
+      goes recipe inputs text is given b p at.0 place e result (subst (λ (q : Position). GoesOnRelative recipe (save_of recipe inputs q) text result) same goes_on)
 
   refused : (refusal : SaveRefusal) → IsResumedAs b (Err refusal) → ¬ (refusal ≡ save.OutOfMemory) → ⊥
   refused save.OutOfMemory read other = other refl
@@ -187,7 +187,7 @@ module _ (recipe : Said) (inputs : List (List ℕ)) (base text : List ℕ) (is :
   refused save.OtherRecipe read other = read
   refused save.State read other = read
 
-  pub resumed_as : (result : Result Position DeltaRefusal) → ResumesBeside recipe inputs base text result → IsResumedBesideAs p result
+  pub resumed_as : (result : Result Position DeltaRefusal) → ResumesRelative recipe inputs base text result → IsResumedRelativeAs p result
   resumed_as (Ok found) (c, r, goes_on) = from c (Ok found) r goes_on
   resumed_as (Err OtherBase) (c, r, goes_on) = from c (Err OtherBase) r goes_on
   resumed_as (Err (Form offset)) (c, r, goes_on) = from c (Err (Form offset)) r goes_on
@@ -195,23 +195,23 @@ module _ (recipe : Said) (inputs : List (List ℕ)) (base text : List ℕ) (is :
   resumed_as (Err OutOfMemory) wants = tt
   resumed_as (Err (Base refusal)) (r, other) = refused refusal (saves.is_only recipe inputs base (Err refusal) is given r b at.0 at.1) (λ same. other same)
 
-pub is_only : (recipe : Said) (inputs : List (List ℕ)) (base text : List ℕ) (result : Result Position DeltaRefusal) → kept.IsRecipe recipe → IsInputs recipe inputs → ResumesBeside recipe inputs base text result
-    → (b p : Position) → IsBaseAt recipe inputs b base → IsPosition recipe p → text ≡ delta_text_of recipe inputs b p → IsResumedBesideAs p result
+pub is_only : (recipe : RecipeContents) (inputs : List (List ℕ)) (base text : List ℕ) (result : Result Position DeltaRefusal) → kept.IsRecipe recipe → IsInputs recipe inputs → ResumesRelative recipe inputs base text result
+    → (b p : Position) → IsBaseAt recipe inputs b base → IsPosition recipe p → text ≡ delta_text_of recipe inputs b p → IsResumedRelativeAs p result
 is_only recipe inputs base text result is given resumes b p at place e = resumed_as recipe inputs base text is given b p at place e result resumes
 
 -- ---- one delta
 
-pub one_delta : (recipe : Said) (inputs : List (List ℕ)) (base first second : List ℕ) (p : Position) → kept.IsRecipe recipe → IsInputs recipe inputs → HasDelta recipe inputs base first p
+pub one_delta : (recipe : RecipeContents) (inputs : List (List ℕ)) (base first second : List ℕ) (p : Position) → kept.IsRecipe recipe → IsInputs recipe inputs → HasDelta recipe inputs base first p
     → HasDelta recipe inputs base second p → first ≡ second
 one_delta recipe inputs base first second p is given (b, at, e) (c, there, f) = e ∙ ap (λ (q : Position). delta_text_of recipe inputs q p) (same_base recipe inputs base is given b c at there) ∙ sym f
 
-pub delta_read : (recipe : Said) (inputs : List (List ℕ)) (base text : List ℕ) (p : Position) → kept.IsRecipe recipe → IsInputs recipe inputs → IsPosition recipe p → HasDelta recipe inputs base text p
-    → judged_beside recipe inputs base text ≡ Ok p
+pub delta_read : (recipe : RecipeContents) (inputs : List (List ℕ)) (base text : List ℕ) (p : Position) → kept.IsRecipe recipe → IsInputs recipe inputs → IsPosition recipe p → HasDelta recipe inputs base text p
+    → judged_relative recipe inputs base text ≡ Ok p
 delta_read recipe inputs base text p is given place (b, at, e) =
-    by (judged_beside recipe inputs base text) (is_only recipe inputs base text (judged_beside recipe inputs base text) is given (delta.is_resumed recipe inputs base text) b p at place e)
+    by (judged_relative recipe inputs base text) (is_only recipe inputs base text (judged_relative recipe inputs base text) is given (delta.is_resumed recipe inputs base text) b p at place e)
     (λ wants. delta.is_settled recipe inputs base text wants)
   where
-    by : (result : Result Position DeltaRefusal) → IsResumedBesideAs p result → ¬ (result ≡ Err OutOfMemory) → result ≡ Ok p
+    by : (result : Result Position DeltaRefusal) → IsResumedRelativeAs p result → ¬ (result ≡ Err OutOfMemory) → result ≡ Ok p
     by (Ok found) same settled = ap Ok same
     by (Err OutOfMemory) same settled = absurd (settled refl)
     by (Err (Base refusal)) same settled = absurd same

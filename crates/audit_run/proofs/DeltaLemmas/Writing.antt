@@ -5,31 +5,31 @@ use Rattle.std.specs.Int.{w32}
 use Rattle.std.proofs.lemmas.List.Elements.{All-drop}
 use Rattle.ddc_base.specs.declared.byte_list.OutOfMemory.{OutOfMemory}
 use Rattle.guest_run.specs.State.{GuestState}
-use Rattle.recipe.specs.declared.contents.Said.{Said}
+use Rattle.recipe.specs.declared.contents.RecipeContents.{RecipeContents}
 use Rattle.recipe.specs.Kept.{IsRecipe}
 use Rattle.checkpoints.specs.Checkpoint.{state_of}
 use Rattle.checkpoints.proofs.PatchCounts.{few_of}
-use Rattle.save_text.specs.ByteFields.Spelling.{list_text, number_text}
-use Rattle.save_text.specs.declared.parts.StagePart.{StagePart}
-use Rattle.save_text.specs.SaveText.{SaveText, parsed_save}
-use Rattle.save_text.specs.Seen.{stage_view}
-use Rattle.save_text.specs.Spelled.{IsShortStage, stage_text, text_of_save}
-use Rattle.save_text.specs.DeltaText.DeltaText.{text_of_delta}
-use Rattle.save_text.specs.DeltaText.Stages.{kept_stages, stages_beside_text}
-use Rattle.wheeler.specs.declared.answer.Finished.{Finished}
-use Rattle.wheeler.specs.Positions.{Position, On, at}
-use Rattle.wheeler.specs.Valid.{IsInputs, IsPosition}
-use Rattle.wheeler.proofs.Rules.{rules}
-use Rattle.audit_run.specs.Inside.Parts.{IsPlace, seen}
+use Rattle.save_format.specs.ByteFields.Spelling.{list_text, number_text}
+use Rattle.save_format.specs.declared.parts.StagePart.{StagePart}
+use Rattle.save_format.specs.SaveText.{SaveText, parsed_save}
+use Rattle.save_format.specs.Seen.{stage_view}
+use Rattle.save_format.specs.Spelled.{IsShortStage, stage_text, text_of_save}
+use Rattle.save_format.specs.DeltaText.DeltaText.{text_of_delta}
+use Rattle.save_format.specs.DeltaText.Stages.{kept_stages, stages_relative_text}
+use Rattle.audit_rules.specs.declared.answer.Finished.{Finished}
+use Rattle.audit_rules.specs.Positions.{Position, On, at}
+use Rattle.audit_rules.specs.Valid.{IsInputs, IsPosition}
+use Rattle.audit_rules.proofs.Rules.{rules}
+use Rattle.audit_run.specs.Inside.Parts.{IsSavedPlace, seen}
 use Rattle.audit_run.specs.Seen.{AuditState}
-use Rattle.audit_run.specs.declared.place.Place.{Place}
-use Rattle.audit_run.specs.declared.place.Place.TheVariants.{Running}
+use Rattle.audit_run.specs.declared.place.AuditPlace.{AuditPlace}
+use Rattle.audit_run.specs.declared.place.AuditPlace.TheVariants.{Running}
 use Rattle.audit_run.specs.Save.Saves.{save_of, stage_of}
 use Rattle.audit_run.specs.Delta.Deltas.{IsBaseAt, base_digest, delta_text_of}
 use Rattle.audit_run.proofs.SaveLemmas.Exactly.{formed_of}
 use Rattle.audit_run.proofs.SaveLemmas.Written.{few_done}
 
-module _ (recipe : Said) (inputs : List (List ℕ)) (base : List ℕ) (is : IsRecipe recipe) (given : IsInputs recipe inputs) (b : Position) (said : IsBaseAt recipe inputs b base) where
+module _ (recipe : RecipeContents) (inputs : List (List ℕ)) (base : List ℕ) (is : IsRecipe recipe) (given : IsInputs recipe inputs) (b : Position) (said : IsBaseAt recipe inputs b base) where
   pub is_read : IsOk (parsed_save base)
   is_read = rw (formed_of recipe inputs base b is given said.0 said.1) refl
 
@@ -47,10 +47,10 @@ module _ (recipe : Said) (inputs : List (List ℕ)) (base : List ℕ) (is : IsRe
   delta_is known p text read e =
       e ∙ ap (λ (save : SaveText). text_of_delta save (record { base = base_digest save; stages = map stage_of p.done; state = state_of p.at })) (known_at known read)
 
-pub few_stages : (recipe : Said) (p : Position) → IsRecipe recipe → IsPosition recipe p → length p.done < 2 ^ 32
+pub few_stages : (recipe : RecipeContents) (p : Position) → IsRecipe recipe → IsPosition recipe p → length p.done < 2 ^ 32
 few_stages recipe p is (stage, stages, ok) = let few = (rules recipe is).few_stages in omega (arith, few, few_done recipe.stages p.done ok.done.each)
 
-pub deltas_are : (recipe : Said) (inputs : List (List ℕ)) (base : List ℕ) (known : SaveText) (p : Position) (result : Result (List ℕ) OutOfMemory) → IsRecipe recipe → IsInputs recipe inputs
+pub deltas_are : (recipe : RecipeContents) (inputs : List (List ℕ)) (base : List ℕ) (known : SaveText) (p : Position) (result : Result (List ℕ) OutOfMemory) → IsRecipe recipe → IsInputs recipe inputs
     → parsed_save base ≡ Ok known
     → IfOk result (λ text. text ≡ text_of_delta known (record { base = base_digest known; stages = map stage_of p.done; state = state_of p.at }))
     → IfOk result (λ text. (b : Position) → IsBaseAt recipe inputs b base → text ≡ delta_text_of recipe inputs b p)
@@ -58,13 +58,13 @@ deltas_are recipe inputs base known p (Ok text) is given said e = λ b base_is. 
 deltas_are recipe inputs base known p (Err error) is given said e = tt
 
 -- what an audit saves is a base at its position
-pub base_saved : (audit : AuditState) (recipe : Said) (inputs given : List (List ℕ)) (done so_far : List Finished) (where_it_is : Place) (guest : GuestState) (result : Result (List ℕ) OutOfMemory)
-    → audit ≡ record { recipe = recipe; inputs = inputs; stands = seen done where_it_is } → where_it_is ≡ Running guest → IsPlace recipe done where_it_is → given ≡ inputs → so_far ≡ done
+pub base_saved : (audit : AuditState) (recipe : RecipeContents) (inputs given : List (List ℕ)) (done so_far : List Finished) (where_it_is : AuditPlace) (guest : GuestState) (result : Result (List ℕ) OutOfMemory)
+    → audit ≡ record { recipe = recipe; inputs = inputs; stands = seen done where_it_is } → where_it_is ≡ Running guest → IsSavedPlace recipe done where_it_is → given ≡ inputs → so_far ≡ done
     → IfOk result (λ text. text ≡ text_of_save (save_of recipe given (at so_far guest)))
     → IfOk result (λ text. (p : Position) × (audit.stands ≡ Some (On p)) × IsBaseAt audit.recipe audit.inputs p text)
 base_saved audit recipe inputs given done so_far where_it_is guest (Ok text) view is placed given_is done_is e =
     subst (λ (a : AuditState). (p : Position) × (a.stands ≡ Some (On p)) × IsBaseAt a.recipe a.inputs p text) (sym view)
-    (at done guest, ap (seen done) is, (subst (IsPlace recipe done) is placed, inl (e ∙ (λ i. text_of_save (save_of recipe (given_is i) (at (done_is i) guest))))))
+    (at done guest, ap (seen done) is, (subst (IsSavedPlace recipe done) is placed, inl (e ∙ (λ i. text_of_save (save_of recipe (given_is i) (at (done_is i) guest))))))
 base_saved audit recipe inputs given done so_far where_it_is guest (Err error) view is placed given_is done_is e = tt
 
 -- ---- stages
@@ -78,19 +78,19 @@ rest_is zero xs = let same : length xs - 0 ≡ length xs = omega arith in ap (λ
 rest_is (suc count) [] = let same : 0 - suc count ≡ 0 = omega arith in ap (λ n. take {A = Finished} n []) same
 rest_is (suc count) (x ∷ xs) = let same : suc (length xs) - suc count ≡ length xs - count = omega arith in ap (λ n. take n (drop count xs)) same ∙ rest_is count xs
 
-behind_map : (count : ℕ) (xs : List Finished) → map stage_of (drop count xs) ≡ drop count (map stage_of xs)
-behind_map zero xs = refl
-behind_map (suc count) [] = refl
-behind_map (suc count) (x ∷ xs) = behind_map count xs
+after_map : (count : ℕ) (xs : List Finished) → map stage_of (drop count xs) ≡ drop count (map stage_of xs)
+after_map zero xs = refl
+after_map (suc count) [] = refl
+after_map (suc count) (x ∷ xs) = after_map count xs
 
-pub short_behind : (count : ℕ) (done : List Finished) → All (λ f. IsShortStage (stage_of f)) done → All (λ f. IsShortStage (stage_of f)) (take (length done - count) (drop count done))
-short_behind count done short = subst (All (λ (f : Finished). IsShortStage (stage_of f))) (sym (rest_is count done)) (All-drop (λ (f : Finished). IsShortStage (stage_of f)) count done short)
+pub short_after : (count : ℕ) (done : List Finished) → All (λ f. IsShortStage (stage_of f)) done → All (λ f. IsShortStage (stage_of f)) (take (length done - count) (drop count done))
+short_after count done short = subst (All (λ (f : Finished). IsShortStage (stage_of f))) (sym (rest_is count done)) (All-drop (λ (f : Finished). IsShortStage (stage_of f)) count done short)
 
-pub put_behind : (old mid new : List ℕ) (known : List StagePart) (done : List Finished) (kept : ℕ) (result : Result (Unit {0}) OutOfMemory) → kept ≡ kept_stages (map stage_view known) (map stage_of done)
+pub put_after : (old mid new : List ℕ) (known : List StagePart) (done : List Finished) (kept : ℕ) (result : Result (Unit {0}) OutOfMemory) → kept ≡ kept_stages (map stage_view known) (map stage_of done)
     → mid ≡ old ++ number_text w32 kept → OnOk result (new ≡ mid ++ list_text stage_text (map stage_of (take (length done - kept) (drop kept done))))
-    → OnOk result (new ≡ old ++ stages_beside_text (map stage_view known) (map stage_of done))
-put_behind old mid new known done kept (Ok none) is mid_is e =
-    let further : map stage_of (take (length done - kept) (drop kept done)) ≡ drop kept (map stage_of done) = ap (map stage_of) (rest_is kept done) ∙ behind_map kept done in
+    → OnOk result (new ≡ old ++ stages_relative_text (map stage_view known) (map stage_of done))
+put_after old mid new known done kept (Ok none) is mid_is e =
+    let further : map stage_of (take (length done - kept) (drop kept done)) ≡ drop kept (map stage_of done) = ap (map stage_of) (rest_is kept done) ∙ after_map kept done in
     e ∙ (λ i. mid_is i ++ list_text stage_text (further i)) ∙ append_assoc old (number_text w32 kept) (list_text stage_text (drop kept (map stage_of done)))
     ∙ ap (λ n. old ++ (number_text w32 n ++ list_text stage_text (drop n (map stage_of done)))) is
-put_behind old mid new known done kept (Err error) is mid_is e = tt
+put_after old mid new known done kept (Err error) is mid_is e = tt

@@ -9,22 +9,22 @@ use Rattle.checkpoints.proofs.Decisions.{are_all, both, by_case, chosen, is_at_m
 use Rattle.checkpoints.proofs.Decided.{are_bytes, is_content, is_in_range, is_joined}
 use Rattle.ddc_base.specs.declared.digests.Digest.{Digest}
 use Rattle.mem_files.specs.Names.{is_stripped_name}
-use Rattle.recipe.specs.declared.contents.Said.{Said}
+use Rattle.recipe.specs.declared.contents.RecipeContents.{RecipeContents}
 use Rattle.recipe.specs.declared.parts.Output.{Output}
 use Rattle.recipe.specs.declared.parts.Output.TheVariants.{Stream, File}
 use Rattle.recipe.specs.declared.parts.Stage.{Stage}
 use Rattle.report.specs.declared.types.LeftLine.{LeftLine}
 use Rattle.report.specs.declared.types.Mark.{Mark}
 use Rattle.report.specs.Reports.{ascend}
-use Rattle.save_text.specs.SaveText.{SaveText, parsed_save}
-use Rattle.wheeler.specs.declared.answer.Finished.{Finished}
-use Rattle.wheeler.specs.Positions.{Position, todo}
+use Rattle.save_format.specs.SaveText.{SaveText, parsed_save}
+use Rattle.audit_rules.specs.declared.answer.Finished.{Finished}
+use Rattle.audit_rules.specs.Positions.{Position, todo}
 use Rattle.report.specs.Marks.{mark_of}
-use Rattle.wheeler.specs.Stages.{artefact_bytes}
-use Rattle.wheeler.specs.Valid.{AreDone, AreFinished, HasMark, IsFinished, IsLeftLine, IsSmallMark}
+use Rattle.audit_rules.specs.Stages.{artefact_bytes}
+use Rattle.audit_rules.specs.Valid.{AreDone, AreFinished, HasMark, IsFinished, IsLeftLine, IsSmallMark}
 use Rattle.audit_run.specs.Save.Inside.Tests as test
 use Rattle.audit_run.specs.Save.Judged.{judged, judged_as}
-use Rattle.audit_run.specs.Save.Saves.{SaveAnswer, IsOf, IsPlace, IsPlaceIn, Resumes, digest_of, done_in}
+use Rattle.audit_run.specs.Save.Saves.{SaveAnswer, IsOf, IsSavedPlace, IsSavedPlaceIn, Resumes, digest_of, done_in}
 use Rattle.audit_run.specs.declared.save.reading.SaveRefusal.{SaveRefusal}
 use Rattle.audit_run.specs.declared.save.reading.SaveRefusal.TheVariants.{Form, OtherRecipe, State, OutOfMemory}
 
@@ -80,33 +80,33 @@ are_finished stages [] = (λ t. tt, λ h. refl)
 are_finished [] (f ∷ done) = (λ t. cc, λ h. absurd h)
 are_finished (stage ∷ stages) (f ∷ done) = both (is_finished stage f) (are_finished stages done)
 
-are_done : (recipe : Said) (done : List Finished) → Decides (test.are_done recipe done) (AreDone recipe done)
+are_done : (recipe : RecipeContents) (done : List Finished) → Decides (test.are_done recipe done) (AreDone recipe done)
 unfolding test.are_done
 are_done recipe done =
     Decides-like _ (λ h. assumption) (λ h. assumption) (both (are_finished recipe.stages done) (is_at_most (artefact_bytes done) 1_073_741_824))
 
 -- saves
 
-pub is_of : (recipe : Said) (inputs : List (List ℕ)) (save : SaveText) → Decides (test.is_of recipe inputs save) (IsOf recipe inputs save)
+pub is_of : (recipe : RecipeContents) (inputs : List (List ℕ)) (save : SaveText) → Decides (test.is_of recipe inputs save) (IsOf recipe inputs save)
 unfolding test.is_of
 is_of recipe inputs save =
     Decides-like _ (λ h. assumption) (λ h. assumption) (both (same_digest save.recipe recipe.digest) (same_digests save.inputs (map digest_of inputs)))
 
-pub is_place : (recipe : Said) (save : SaveText) → Decides (test.is_place recipe save) (IsPlace recipe save)
+pub is_place : (recipe : RecipeContents) (save : SaveText) → Decides (test.is_place recipe save) (IsSavedPlace recipe save)
 unfolding test.is_place
 is_place recipe save = at (todo recipe (done_in save)) refl
   where
-    at : (left : List Stage) → todo recipe (done_in save) ≡ left → Decides (test.is_place_before recipe save left) (IsPlace recipe save)
+    at : (left : List Stage) → todo recipe (done_in save) ≡ left → Decides (test.is_place_before recipe save left) (IsSavedPlace recipe save)
     at [] is = (λ t. cc, λ h. let other = h.2.left in cc)
     at (stage ∷ stages) is =
-        Decides-like _ (λ h. (stage, stages, assumption)) (λ h. let other = h.2.left in let same : IsPlaceIn recipe save stage stages = subst₂ (IsPlaceIn recipe save) (cc) (cc) h.2 in assumption)
+        Decides-like _ (λ h. (stage, stages, assumption)) (λ h. let other = h.2.left in let same : IsSavedPlaceIn recipe save stage stages = subst₂ (IsSavedPlaceIn recipe save) (cc) (cc) h.2 in assumption)
         (both (are_done recipe (done_in save))
         (both (is_in_range save.state)
         (both (is_joined save.state) (both (Decides-ltb save.state.steps stage.steps) (Decides-eqb save.state.heap.limit stage.heap)))))
 
 -- texts
 
-module _ (recipe : Said) (inputs : List (List ℕ)) (text : List ℕ) where
+module _ (recipe : RecipeContents) (inputs : List (List ℕ)) (text : List ℕ) where
   abbrev IsAnswer : Result Position SaveRefusal → Type 0
   IsAnswer result = Resumes recipe inputs text result × (result ≢ Err OutOfMemory)
 

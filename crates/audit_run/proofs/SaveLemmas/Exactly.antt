@@ -1,24 +1,24 @@
 -- Exactly the saves of places in an audit are read, each as its place.
 use Rattle.std.proofs.Common.{◌≡◌, ℕ, List, [], ◌∷◌, map, Result, Ok, Err, refl, sym, ap, subst, ◌∙◌}
 use Rattle.std.specs.Prelude.{IfOk}
-use Rattle.save_text.proofs.ByteFieldsLemmas.Spells.{AreBytes}
+use Rattle.save_format.proofs.ByteFieldsLemmas.Spells.{AreBytes}
 use Rattle.guest_run.specs.Valid.{IsValid}
-use Rattle.recipe.specs.declared.contents.Said.{Said}
+use Rattle.recipe.specs.declared.contents.RecipeContents.{RecipeContents}
 use Rattle.recipe.specs.Kept as kept
 use Rattle.checkpoints.specs.Checkpoint.{IsInRange, guest_of, state_of}
 use Rattle.checkpoints.proofs.SameText.{same_text}
 use Rattle.checkpoints.proofs.States.{in_range, joined, same_guest}
-use Rattle.save_text.specs.declared.parts.InputPart.{InputPart}
-use Rattle.save_text.specs.SaveText.{SaveText, StageText, parsed_save}
-use Rattle.save_text.specs.Spelled.{IsSaveText, IsTextOfSave}
-use Rattle.save_text.specs.Seen.{input_view}
-use Rattle.save_text.proofs.Texts.{formed_again, spelled}
-use Rattle.wheeler.specs.declared.answer.Finished.{Finished}
-use Rattle.wheeler.specs.Positions.{Position, at, todo}
-use Rattle.wheeler.specs.Valid.{AreDone, IsInputs, IsPosition}
+use Rattle.save_format.specs.declared.parts.InputPart.{InputPart}
+use Rattle.save_format.specs.SaveText.{SaveText, StageText, parsed_save}
+use Rattle.save_format.specs.Spelled.{IsSaveText, IsTextOfSave}
+use Rattle.save_format.specs.Seen.{input_view}
+use Rattle.save_format.proofs.Texts.{formed_again, spelled}
+use Rattle.audit_rules.specs.declared.answer.Finished.{Finished}
+use Rattle.audit_rules.specs.Positions.{Position, at, todo}
+use Rattle.audit_rules.specs.Valid.{AreDone, IsInputs, IsPosition}
 use Rattle.audit_run.specs.declared.save.reading.SaveRefusal.{SaveRefusal}
 use Rattle.audit_run.specs.declared.save.reading.SaveRefusal.TheVariants.{Form, OtherRecipe, State, OutOfMemory}
-use Rattle.audit_run.specs.Save.Saves.{IsOf, IsPlace, IsResumedAs, Resumes, Stands, digest_of, finished_of, position_of, save_of, stage_of}
+use Rattle.audit_run.specs.Save.Saves.{IsOf, IsSavedPlace, IsResumedAs, Resumes, Stands, digest_of, finished_of, position_of, save_of, stage_of}
 use Rattle.audit_run.specs.Save.Inside.Seen.{AreDigests}
 use Rattle.audit_run.proofs.SaveLemmas.Written.{has_text}
 
@@ -46,7 +46,7 @@ same_done : (done : List Finished) → map finished_of (map stage_of done) ≡ d
 same_done [] = refl
 same_done (f ∷ done) = ap (λ fs. f ∷ fs) (same_done done)
 
-pub same_save : (recipe : Said) (inputs : List (List ℕ)) (save : SaveText) → IsSaveText save → IsOf recipe inputs save → IsInRange save.state → save_of recipe inputs (position_of save) ≡ save
+pub same_save : (recipe : RecipeContents) (inputs : List (List ℕ)) (save : SaveText) → IsSaveText save → IsOf recipe inputs save → IsInRange save.state → save_of recipe inputs (position_of save) ≡ save
 same_save recipe inputs save text is range =
     λ i. record {
       recipe = sym is.same_recipe i;
@@ -55,7 +55,7 @@ same_save recipe inputs save text is range =
       state = same_text save.state text.state range i;
     }
 
-pub same_position : (recipe : Said) (inputs : List (List ℕ)) (p : Position) → IsValid p.at → position_of (save_of recipe inputs p) ≡ p
+pub same_position : (recipe : RecipeContents) (inputs : List (List ℕ)) (p : Position) → IsValid p.at → position_of (save_of recipe inputs p) ≡ p
 same_position recipe inputs p valid = λ i. at (same_done p.done i) (same_guest p.at valid i)
 
 same_said : (text : List ℕ) (s t : SaveText) → parsed_save text ≡ Ok s → parsed_save text ≡ Ok t → s ≡ t
@@ -64,7 +64,7 @@ same_said text s t a b = let both : ◌≡◌ {A = Result SaveText ℕ} (Ok s) (
 -- ---- each answer
 
 -- a place whose guest is valid is a position
-pub position_is : (recipe : Said) (save : SaveText) (p : Position) → IsValid p.at → IsPlace recipe save → p ≡ position_of save → IsPosition recipe p
+pub position_is : (recipe : RecipeContents) (save : SaveText) (p : Position) → IsValid p.at → IsSavedPlace recipe save → p ≡ position_of save → IsPosition recipe p
 unfolding guest_of
 position_is recipe save p valid (stage, stages, place) found =
     subst (IsPosition recipe) (sym found) (
@@ -79,11 +79,11 @@ position_is recipe save p valid (stage, stages, place) found =
       },
     )
 
-pub is_place : (recipe : Said) (inputs : List (List ℕ)) (text : List ℕ) (result : Result Position SaveRefusal) → IfOk result (λ p. IsValid p.at) → Resumes recipe inputs text result → IfOk result (λ p. IsPosition recipe p)
+pub is_place : (recipe : RecipeContents) (inputs : List (List ℕ)) (text : List ℕ) (result : Result Position SaveRefusal) → IfOk result (λ p. IsValid p.at) → Resumes recipe inputs text result → IfOk result (λ p. IsPosition recipe p)
 is_place recipe inputs text (Ok p) valid (save, formed_is, is, place, found) = position_is recipe save p valid place found
 is_place recipe inputs text (Err refusal) valid resumes = tt
 
-pub is_found : (recipe : Said) (inputs : List (List ℕ)) (text : List ℕ) (result : Result Position SaveRefusal) → AreBytes text → Resumes recipe inputs text result
+pub is_found : (recipe : RecipeContents) (inputs : List (List ℕ)) (text : List ℕ) (result : Result Position SaveRefusal) → AreBytes text → Resumes recipe inputs text result
     → IfOk result (λ p. IsTextOfSave (save_of recipe inputs p) text)
 is_found recipe inputs text (Ok p) fits (save, formed_is, is, (stage, stages, place), found) =
     let spelt = spelled text save fits formed_is in
@@ -93,10 +93,10 @@ is_found recipe inputs text (Err refusal) fits resumes = tt
 
 -- the save of a position
 
-saves_its_recipe : (recipe : Said) (inputs : List (List ℕ)) (p : Position) → IsOf recipe inputs (save_of recipe inputs p)
+saves_its_recipe : (recipe : RecipeContents) (inputs : List (List ℕ)) (p : Position) → IsOf recipe inputs (save_of recipe inputs p)
 saves_its_recipe recipe inputs p = record { same_recipe = refl; same_inputs = refl }
 
-pub saves_a_place : (recipe : Said) (inputs : List (List ℕ)) (p : Position) → IsPosition recipe p → IsPlace recipe (save_of recipe inputs p)
+pub saves_a_place : (recipe : RecipeContents) (inputs : List (List ℕ)) (p : Position) → IsPosition recipe p → IsSavedPlace recipe (save_of recipe inputs p)
 unfolding state_of
 saves_a_place recipe inputs p (stage, stages, ok) =
     let same : map finished_of (map stage_of p.done) ≡ p.done = same_done p.done in (
@@ -112,11 +112,11 @@ saves_a_place recipe inputs p (stage, stages, ok) =
       },
     )
 
-pub formed_of : (recipe : Said) (inputs : List (List ℕ)) (text : List ℕ) (p : Position) → kept.IsRecipe recipe → IsInputs recipe inputs → IsPosition recipe p → IsTextOfSave (save_of recipe inputs p) text
+pub formed_of : (recipe : RecipeContents) (inputs : List (List ℕ)) (text : List ℕ) (p : Position) → kept.IsRecipe recipe → IsInputs recipe inputs → IsPosition recipe p → IsTextOfSave (save_of recipe inputs p) text
     → parsed_save text ≡ Ok (save_of recipe inputs p)
 formed_of recipe inputs text p is given place said = formed_again (save_of recipe inputs p) text (has_text recipe inputs p is given place) said
 
-pub is_only : (recipe : Said) (inputs : List (List ℕ)) (text : List ℕ) (result : Result Position SaveRefusal) → kept.IsRecipe recipe → IsInputs recipe inputs → Resumes recipe inputs text result
+pub is_only : (recipe : RecipeContents) (inputs : List (List ℕ)) (text : List ℕ) (result : Result Position SaveRefusal) → kept.IsRecipe recipe → IsInputs recipe inputs → Resumes recipe inputs text result
     → (p : Position) → IsPosition recipe p → IsTextOfSave (save_of recipe inputs p) text → IsResumedAs p result
 is_only recipe inputs text (Ok found) is given resumes p place said =
     let same = same_said text resumes.0 (save_of recipe inputs p) resumes.1 (formed_of recipe inputs text p is given place said) in
@@ -130,10 +130,10 @@ is_only recipe inputs text (Err OtherRecipe) is given resumes p place said =
     resumes.2 (subst (IsOf recipe inputs) (sym same) (saves_its_recipe recipe inputs p))
 is_only recipe inputs text (Err State) is given resumes p place said =
     let same = same_said text resumes.0 (save_of recipe inputs p) resumes.1 (formed_of recipe inputs text p is given place said) in
-    resumes.3 (subst (IsPlace recipe) (sym same) (saves_a_place recipe inputs p place))
+    resumes.3 (subst (IsSavedPlace recipe) (sym same) (saves_a_place recipe inputs p place))
 
 -- what becomes of what a save of this recipe and these inputs says becomes of its text
-pub stood : (recipe : Said) (inputs : List (List ℕ)) (text : List ℕ) (save : SaveText) (result : Result Position SaveRefusal)
+pub stood : (recipe : RecipeContents) (inputs : List (List ℕ)) (text : List ℕ) (save : SaveText) (result : Result Position SaveRefusal)
     → parsed_save text ≡ Ok save → IsOf recipe inputs save → Stands recipe save result → Resumes recipe inputs text result
 stood recipe inputs text save (Ok p) is of stands = (save, is, of, stands.0, stands.1)
 stood recipe inputs text save (Err State) is of stands = (save, is, of, stands)

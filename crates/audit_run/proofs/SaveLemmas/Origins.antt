@@ -3,15 +3,15 @@ use Rattle.std.proofs.Common.{◌≡◌, ◌≢◌, ◌∙◌, ◌-◌, ◌≤�
 use Rattle.std.specs.Prelude.{◌↔◌, IsOk, IsTrue, Result}
 use Rattle.std.proofs.lemmas.List.{length-map, take_all}
 use Rattle.ddc_base.specs.declared.digests.Digest.{Digest}
-use Rattle.save_text.specs.ByteFields.Reader.{Read}
-use Rattle.save_text.specs.SaveText.{SaveText, digest_at, origin_at, parsed_save, save_at}
-use Rattle.save_text.proofs.ByteFieldsLemmas.Spells.{all_taken}
-use Rattle.save_text.proofs.Origins.{OriginOf, as_many, digests_at, none_at, one_at, origin_there, wrong_at}
-use Rattle.save_text.proofs.StateTextLemmas.Mapped.{same_rest, same_value}
+use Rattle.save_format.specs.ByteFields.Reader.{Read}
+use Rattle.save_format.specs.SaveText.{SaveText, digest_at, origin_at, parsed_save, save_at}
+use Rattle.save_format.proofs.ByteFieldsLemmas.Spells.{all_taken}
+use Rattle.save_format.proofs.Origins.{OriginOf, as_many, digests_at, none_at, one_at, origin_there, wrong_at}
+use Rattle.save_format.proofs.StateTextLemmas.Mapped.{same_rest, same_value}
 use Rattle.audit_run.specs.Save.Saves.{IsOf, digest_of}
-use Rattle.recipe.specs.declared.contents.Said.{Said}
+use Rattle.recipe.specs.declared.contents.RecipeContents.{RecipeContents}
 
--- the first of a list, and what is behind it
+-- the first of a list, and what is after it
 pub split : {A : Type 0} (xs : List A) (x : A) → 1 ≤ length xs → x ≡ get_or xs 0 x → x ∷ take (length xs - 1) (drop 1 xs) ≡ xs
 split [] x some is = absurd (omega arith)
 split (y ∷ xs) x some is = λ i. is i ∷ take_all (length (y ∷ xs) - 1) xs (omega arith) i
@@ -24,14 +24,14 @@ pub no_next : (inputs : List (List ℕ)) (left : List ℕ) → length inputs ≡
 no_next [] left none = λ digests rest e. (λ t. none_at left rest digests e, λ same. refl)
 no_next (input ∷ inputs) left none = absurd (omega arith)
 
-pub other_next : (input : List ℕ) (inputs : List (List ℕ)) (left behind : List ℕ) (first : Digest) → digest_at left ≡ Ok (first, behind) → first ≢ digest_of input → Tells (input ∷ inputs) false left
-other_next input inputs left behind first read other = λ digests rest e.
-    let one = one_at (length inputs) left behind rest first digests read e in
+pub other_next : (input : List ℕ) (inputs : List (List ℕ)) (left following : List ℕ) (first : Digest) → digest_at left ≡ Ok (first, following) → first ≢ digest_of input → Tells (input ∷ inputs) false left
+other_next input inputs left following first read other = λ digests rest e.
+    let one = one_at (length inputs) left following rest first digests read e in
     (λ t. cc, λ same. let all : first ∷ one.0 ≡ digest_of input ∷ map digest_of inputs = sym one.2 ∙ same in absurd (other cc))
 
-pub same_next : (input : List ℕ) (inputs : List (List ℕ)) (left behind : List ℕ) (first : Digest) (same : Bool) → digest_at left ≡ Ok (first, behind) → first ≡ digest_of input → Tells inputs same behind → Tells (input ∷ inputs) same left
-same_next input inputs left behind first same read is tells = λ digests rest e.
-    let one = one_at (length inputs) left behind rest first digests read e in
+pub same_next : (input : List ℕ) (inputs : List (List ℕ)) (left following : List ℕ) (first : Digest) (same : Bool) → digest_at left ≡ Ok (first, following) → first ≡ digest_of input → Tells inputs same following → Tells (input ∷ inputs) same left
+same_next input inputs left following first same read is tells = λ digests rest e.
+    let one = one_at (length inputs) left following rest first digests read e in
     let later = tells one.0 rest one.1 in (
       λ t. one.2 ∙ (λ i. is i ∷ later.0 t i),
       λ all. let parts : first ∷ one.0 ≡ digest_of input ∷ map digest_of inputs = sym one.2 ∙ all in later.1 cc,
@@ -46,38 +46,38 @@ module _ (text cursor : List ℕ) (whole : cursor ≡ text) (save : SaveText) (f
   unfolding parsed_save
   there = subst (λ (t : List ℕ). OriginOf t save) (sym whole) (origin_there text save [] (all_taken (length text) (save_at text) save formed))
 
-  module _ (recipe : Digest) (count : ℕ) (behind : List ℕ) (read : origin_at cursor ≡ Ok ((recipe, count), behind)) where
-    both : ◌≡◌ {A = Read (Digest × ℕ)} (Ok ((save.recipe, there.count), there.behind)) (Ok ((recipe, count), behind))
+  module _ (recipe : Digest) (count : ℕ) (following : List ℕ) (read : origin_at cursor ≡ Ok ((recipe, count), following)) where
+    both : ◌≡◌ {A = Read (Digest × ℕ)} (Ok ((save.recipe, there.count), there.following)) (Ok ((recipe, count), following))
     both = sym there.said ∙ read
 
     pub its_recipe : save.recipe ≡ recipe
-    its_recipe = ap (λ (o : Digest × ℕ). o.0) (same_value (save.recipe, there.count) (recipe, count) there.behind behind both)
+    its_recipe = ap (λ (o : Digest × ℕ). o.0) (same_value (save.recipe, there.count) (recipe, count) there.following following both)
 
     its_count : there.count ≡ count
-    its_count = ap (λ (o : Digest × ℕ). o.1) (same_value (save.recipe, there.count) (recipe, count) there.behind behind both)
+    its_count = ap (λ (o : Digest × ℕ). o.1) (same_value (save.recipe, there.count) (recipe, count) there.following following both)
 
-    its_inputs : digests_at count behind ≡ Ok (save.inputs, there.after)
+    its_inputs : digests_at count following ≡ Ok (save.inputs, there.after)
     its_inputs =
-        subst (λ (n : ℕ). digests_at n behind ≡ Ok (save.inputs, there.after)) its_count
-        (subst (λ (l : List ℕ). digests_at there.count l ≡ Ok (save.inputs, there.after)) (same_rest (save.recipe, there.count) (recipe, count) there.behind behind both) there.inputs)
+        subst (λ (n : ℕ). digests_at n following ≡ Ok (save.inputs, there.after)) its_count
+        (subst (λ (l : List ℕ). digests_at there.count l ≡ Ok (save.inputs, there.after)) (same_rest (save.recipe, there.count) (recipe, count) there.following following both) there.inputs)
 
-    pub other_count : (said : Said) (inputs : List (List ℕ)) → count ≢ length inputs → IsTrue false ↔ IsOf said inputs save
+    pub other_count : (said : RecipeContents) (inputs : List (List ℕ)) → count ≢ length inputs → IsTrue false ↔ IsOf said inputs save
     other_count said inputs other = (
       λ t. cc,
-      λ of. absurd (other (sym (as_many count behind there.after save.inputs its_inputs) ∙ ap length of.same_inputs ∙ length-map inputs digest_of)),
+      λ of. absurd (other (sym (as_many count following there.after save.inputs its_inputs) ∙ ap length of.same_inputs ∙ length-map inputs digest_of)),
     )
 
-    pub other_recipe : (said : Said) (inputs : List (List ℕ)) → recipe ≢ said.digest → IsTrue false ↔ IsOf said inputs save
+    pub other_recipe : (said : RecipeContents) (inputs : List (List ℕ)) → recipe ≢ said.digest → IsTrue false ↔ IsOf said inputs save
     other_recipe said inputs other = (λ t. cc, λ of. absurd (other (sym its_recipe ∙ of.same_recipe)))
 
-    pub same_count : (said : Said) (inputs : List (List ℕ)) (same : Bool) → recipe ≡ said.digest → count ≡ length inputs → Tells inputs same behind → IsTrue same ↔ IsOf said inputs save
+    pub same_count : (said : RecipeContents) (inputs : List (List ℕ)) (same : Bool) → recipe ≡ said.digest → count ≡ length inputs → Tells inputs same following → IsTrue same ↔ IsOf said inputs save
     same_count said inputs same is many tells =
-        let told = tells save.inputs there.after (subst (λ (n : ℕ). digests_at n behind ≡ Ok (save.inputs, there.after)) many its_inputs) in
+        let told = tells save.inputs there.after (subst (λ (n : ℕ). digests_at n following ≡ Ok (save.inputs, there.after)) many its_inputs) in
         (λ t. record { same_recipe = its_recipe ∙ is; same_inputs = told.0 t }, λ of. told.1 of.same_inputs)
 
-  pub no_front : (at : ℕ) → origin_at cursor ≡ Err at → (same : Bool) (said : Said) (inputs : List (List ℕ)) → IsTrue same ↔ IsOf said inputs save
+  pub no_front : (at : ℕ) → origin_at cursor ≡ Err at → (same : Bool) (said : RecipeContents) (inputs : List (List ℕ)) → IsTrue same ↔ IsOf said inputs save
   no_front at wrong same said inputs =
-      let none : ◌≡◌ {A = Read (Digest × ℕ)} (Err at) (Ok ((save.recipe, there.count), there.behind)) = sym wrong ∙ there.said in
+      let none : ◌≡◌ {A = Read (Digest × ℕ)} (Err at) (Ok ((save.recipe, there.count), there.following)) = sym wrong ∙ there.said in
       absurd cc
 
 -- a text of the form says some save

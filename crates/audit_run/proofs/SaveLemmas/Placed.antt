@@ -3,15 +3,15 @@ use Rattle.std.proofs.Common.{◌≡◌, ℕ, zero, suc, ◌+◌, ◌<◌, true,
 use Rattle.std.specs.Prelude.{nat_lt as ltb}
 use Rattle.std.proofs.lemmas.Bool.{ltb-true}
 use Rattle.std.proofs.lemmas.List.Elements.{All-cons, All-head, All-nil, All-tail}
-use Rattle.save_text.specs.ByteFields.Spelling.{InTurn}
-use Rattle.recipe.specs.declared.contents.Said.{Said}
+use Rattle.save_format.specs.ByteFields.Spelling.{InTurn}
+use Rattle.recipe.specs.declared.contents.RecipeContents.{RecipeContents}
 use Rattle.recipe.specs.declared.parts.Stage.{Stage}
-use Rattle.save_text.specs.declared.parts.StagePart.{StagePart}
-use Rattle.save_text.specs.SaveText.{StageText, after_left}
-use Rattle.save_text.specs.Spelled.{IsSavedLeft, IsStageText}
-use Rattle.save_text.specs.Seen.{stage_view}
-use Rattle.wheeler.specs.declared.answer.Finished.{Finished}
-use Rattle.wheeler.specs.Positions.{todo}
+use Rattle.save_format.specs.declared.parts.StagePart.{StagePart}
+use Rattle.save_format.specs.SaveText.{StageText, after_left}
+use Rattle.save_format.specs.Spelled.{IsSavedLeft, IsStageText}
+use Rattle.save_format.specs.Seen.{stage_view}
+use Rattle.audit_rules.specs.declared.answer.Finished.{Finished}
+use Rattle.audit_rules.specs.Positions.{todo}
 use Rattle.audit_run.specs.Save.Saves.{finished_of}
 
 -- the names of each stage's left files are in order
@@ -40,7 +40,7 @@ at_index (y ∷ xs) (suc i) x less is =
     at_index xs i x (omega arith) is ∙ ap (λ n. x ∷ drop n (y ∷ xs)) (sym same)
 
 -- the stage after those that are done
-pub present : (recipe : Said) (items : List Stage) (count : ℕ) (done fs : List Finished) (stage : Stage) → items ≡ recipe.stages → count ≡ length done → done ≡ fs → true ≡ ltb count (length items)
+pub present : (recipe : RecipeContents) (items : List Stage) (count : ℕ) (done fs : List Finished) (stage : Stage) → items ≡ recipe.stages → count ≡ length done → done ≡ fs → true ≡ ltb count (length items)
     → stage ≡ get_or items count stage → todo recipe fs ≡ stage ∷ drop (length fs + 1) recipe.stages
 present recipe items count done fs stage same counted are inside there =
     let index : count ≡ length fs = counted ∙ ap length are in

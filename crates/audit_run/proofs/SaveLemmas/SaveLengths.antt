@@ -8,22 +8,22 @@ use Rattle.checkpoints.specs.Checkpoint.{state_of}
 use Rattle.checkpoints.proofs.FileTurns.{short_name}
 use Rattle.checkpoints.proofs.StateLengths as state
 use Rattle.checkpoints.proofs.TextLengths.{HasAtMost, alike, counted, items, itself, joined, number16, number32, number64, within}
-use Rattle.recipe.specs.declared.contents.Said.{Said}
+use Rattle.recipe.specs.declared.contents.RecipeContents.{RecipeContents}
 use Rattle.recipe.specs.declared.parts.Stage.{Stage}
 use Rattle.recipe.specs.Kept.{IsRecipe}
 use Rattle.report.specs.declared.types.LeftLine.{LeftLine}
 use Rattle.report.specs.declared.types.Mark.{Mark}
 use Rattle.report.proofs.Marks.{is_digest}
-use Rattle.save_text.specs.declared.byte_fields.form.TextForm.{TextForm}
-use Rattle.save_text.specs.declared.byte_fields.form.TextForm.TheVariants.{First, Second}
-use Rattle.save_text.specs.SaveText.{save_magic}
-use Rattle.save_text.specs.Spelled.{IsTextOfSave, digest_text, left_text, mark_text, save_text_in, stage_text, text_of_save}
-use Rattle.save_text.specs.StateText.Spelled as state_text
-use Rattle.wheeler.specs.declared.answer.Finished.{Finished}
-use Rattle.wheeler.specs.Positions.{Position}
-use Rattle.wheeler.specs.Stages.{artefact_bytes}
-use Rattle.wheeler.specs.Valid.{AreFinished, IsFinished, IsInputs, IsLeftLine, IsPosition, IsSmallMark}
-use Rattle.wheeler.proofs.Rules as rule
+use Rattle.save_format.specs.declared.byte_fields.form.TextForm.{TextForm}
+use Rattle.save_format.specs.declared.byte_fields.form.TextForm.TheVariants.{First, Second}
+use Rattle.save_format.specs.SaveText.{save_magic}
+use Rattle.save_format.specs.Spelled.{IsTextOfSave, digest_text, left_text, mark_text, save_text_in, stage_text, text_of_save}
+use Rattle.save_format.specs.StateText.Spelled as state_text
+use Rattle.audit_rules.specs.declared.answer.Finished.{Finished}
+use Rattle.audit_rules.specs.Positions.{Position}
+use Rattle.audit_rules.specs.Stages.{artefact_bytes}
+use Rattle.audit_rules.specs.Valid.{AreFinished, IsFinished, IsInputs, IsLeftLine, IsPosition, IsSmallMark}
+use Rattle.audit_rules.proofs.Rules as rule
 use Rattle.audit_run.specs.Save.Saves.{digest_of, save_of, stage_of}
 use Rattle.audit_run.proofs.SaveLemmas.Written.{few_done}
 
@@ -56,7 +56,7 @@ magic_long : (form : TextForm) → length (save_magic form) ≡ 8
 magic_long First = refl
 magic_long Second = refl
 
-pub done_most : (recipe : Said) (p : Position) → IsRecipe recipe → IsPosition recipe p → HasAtMost 1_380_997_120 (flat_map stage_text (map stage_of p.done))
+pub done_most : (recipe : RecipeContents) (p : Position) → IsRecipe recipe → IsPosition recipe p → HasAtMost 1_380_997_120 (flat_map stage_text (map stage_of p.done))
 done_most recipe p is (stage, stages, ok) =
     let few_stages = (rule.rules recipe is).few_stages in
     let small = ok.done.small in
@@ -65,7 +65,7 @@ done_most recipe p is (stage, stages, ok) =
     rw flat_map-map (items (λ f. stage_text (stage_of f)) (λ f. length f.made) 1_200_216 p.done (stages_most recipe.stages p.done ok.done.each)) in
     within done (omega arith)
 
-save_most : (form : TextForm) (recipe : Said) (inputs : List (List ℕ)) (p : Position) → IsRecipe recipe → IsInputs recipe inputs → IsPosition recipe p → HasAtMost 3_273_774_457 (save_text_in form (save_of recipe inputs p))
+save_most : (form : TextForm) (recipe : RecipeContents) (inputs : List (List ℕ)) (p : Position) → IsRecipe recipe → IsInputs recipe inputs → IsPosition recipe p → HasAtMost 3_273_774_457 (save_text_in form (save_of recipe inputs p))
 unfolding save_text_in
 save_most form recipe inputs p is given (stage, stages, ok) =
     let rules = rule.rules recipe is in
@@ -79,9 +79,9 @@ save_most form recipe inputs p is given (stage, stages, ok) =
     within (joined (itself (save_magic form)) (joined said (joined (counted digest_text (map digest_of inputs) given_inputs) (joined (counted stage_text (map stage_of p.done) done) at))))
     (omega (arith, magic_long form, length-map inputs digest_of))
 
-pub short : (recipe : Said) (inputs : List (List ℕ)) (p : Position) → IsRecipe recipe → IsInputs recipe inputs → IsPosition recipe p → length (text_of_save (save_of recipe inputs p)) < 4_294_967_296
+pub short : (recipe : RecipeContents) (inputs : List (List ℕ)) (p : Position) → IsRecipe recipe → IsInputs recipe inputs → IsPosition recipe p → length (text_of_save (save_of recipe inputs p)) < 4_294_967_296
 short recipe inputs p is given at = let long = (save_most Second recipe inputs p is given at).long in omega arith
 
-pub texts_short : (recipe : Said) (inputs : List (List ℕ)) (p : Position) (text : List ℕ) → IsRecipe recipe → IsInputs recipe inputs → IsPosition recipe p → IsTextOfSave (save_of recipe inputs p) text → length text < 4_294_967_296
+pub texts_short : (recipe : RecipeContents) (inputs : List (List ℕ)) (p : Position) (text : List ℕ) → IsRecipe recipe → IsInputs recipe inputs → IsPosition recipe p → IsTextOfSave (save_of recipe inputs p) text → length text < 4_294_967_296
 texts_short recipe inputs p text is given at (inl new) = rw new (short recipe inputs p is given at)
 texts_short recipe inputs p text is given at (inr old) = let long = (save_most First recipe inputs p is given at).long in rw old.1 (omega arith)

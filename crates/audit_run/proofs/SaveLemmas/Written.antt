@@ -2,24 +2,24 @@
 use Rattle.std.proofs.Common.{◌≡◌, ℕ, ◌^◌, ◌≤◌, Bool, true, false, ◌&&◌, Option, None, Some, List, [], ◌∷◌, length, map, All, IsTrue, refl, arith, append_assoc}
 use Rattle.std.proofs.lemmas.List.{length-map}
 use Rattle.std.proofs.lemmas.List.Elements.{All-cons, All-head, All-nil, All-tail}
-use Rattle.save_text.specs.ByteFields.Spelling.{InTurn}
+use Rattle.save_format.specs.ByteFields.Spelling.{InTurn}
 use Rattle.checkpoints.proofs.FileTurns.{short_name}
 use Rattle.checkpoints.proofs.States as states
-use Rattle.recipe.specs.declared.contents.Said.{Said}
+use Rattle.recipe.specs.declared.contents.RecipeContents.{RecipeContents}
 use Rattle.recipe.specs.declared.parts.Stage.{Stage}
 use Rattle.recipe.specs.Kept as kept
 use Rattle.report.specs.declared.types.LeftLine.{LeftLine}
 use Rattle.report.specs.declared.types.Mark.{Mark}
 use Rattle.report.specs.Reports.{ascend}
 use Rattle.report.proofs.Marks.{is_digest}
-use Rattle.save_text.specs.SaveText.{after_left, is_behind}
-use Rattle.save_text.specs.Spelled.{IsSavedDigest, IsSavedLeft, IsSavedMark, IsShortStage, IsStageText, IsSaveText}
-use Rattle.save_text.proofs.Written.{is_short}
-use Rattle.wheeler.specs.declared.answer.Finished.{Finished}
-use Rattle.wheeler.specs.Positions.{Position}
-use Rattle.wheeler.specs.Valid.{AreFinished, IsFinished, IsInputs, IsLeftLine, IsPosition, IsSmallMark}
-use Rattle.wheeler.proofs.Places.{present-is}
-use Rattle.wheeler.proofs.Rules as rule
+use Rattle.save_format.specs.SaveText.{after_left, comes_after}
+use Rattle.save_format.specs.Spelled.{IsSavedDigest, IsSavedLeft, IsSavedMark, IsShortStage, IsStageText, IsSaveText}
+use Rattle.save_format.proofs.Written.{is_short}
+use Rattle.audit_rules.specs.declared.answer.Finished.{Finished}
+use Rattle.audit_rules.specs.Positions.{Position}
+use Rattle.audit_rules.specs.Valid.{AreFinished, IsFinished, IsInputs, IsLeftLine, IsPosition, IsSmallMark}
+use Rattle.audit_rules.proofs.Places.{present-is}
+use Rattle.audit_rules.proofs.Rules as rule
 use Rattle.audit_run.specs.Save.Saves.{digest_of, save_of, stage_of}
 
 pub ruleset written = append_assoc
@@ -37,18 +37,18 @@ first_two a b e = (and_left a b e, and_right a b e) where
 mark_of : (mark : Mark) → IsSmallMark mark → IsSavedMark mark
 mark_of mark small = record { length = small.length; digest = record { full = small.digest.count } }
 
-left_of : (last : Option (List ℕ)) (file : LeftLine) → IsLeftLine file → is_behind last file.name ≡ true → IsSavedLeft last file
-left_of last file line behind = let most = (short_name file.name line.named).1 in record { short = omega arith; behind = behind; mark = mark_of file.mark line.mark }
+left_of : (last : Option (List ℕ)) (file : LeftLine) → IsLeftLine file → comes_after last file.name ≡ true → IsSavedLeft last file
+left_of last file line following = let most = (short_name file.name line.named).1 in record { short = omega arith; following = following; mark = mark_of file.mark line.mark }
 
 abbrev IsBegun : Option (List ℕ) → List LeftLine → Type 0
 IsBegun last [] = Unit {0}
-IsBegun last (file ∷ files) = is_behind last file.name ≡ true
+IsBegun last (file ∷ files) = comes_after last file.name ≡ true
 
 in_turn : (last : Option (List ℕ)) (files : List LeftLine) → All IsLeftLine files → IsTrue (ascend files) → IsBegun last files → InTurn IsSavedLeft after_left last files
 in_turn last [] lines up begun = tt
 in_turn last (f ∷ []) lines up begun = (left_of last f (All-head IsLeftLine f [] lines) begun, tt)
 in_turn last (f ∷ (g ∷ files)) lines up begun =
-    let both = first_two (is_behind (Some f.name) g.name) (ascend (g ∷ files)) up in
+    let both = first_two (comes_after (Some f.name) g.name) (ascend (g ∷ files)) up in
     (left_of last f (All-head IsLeftLine f (g ∷ files) lines) begun, in_turn (Some f.name) (g ∷ files) (All-tail IsLeftLine f (g ∷ files) lines) both.1 both.0)
 
 begun : (files : List LeftLine) → IsBegun None files
@@ -89,10 +89,10 @@ digests_turn : (inputs : List (List ℕ)) (any : ℕ) → InTurn (λ (any : ℕ)
 digests_turn [] any = tt
 digests_turn (input ∷ inputs) any = (record { full = (is_digest input).count }, digests_turn inputs 0)
 
-few_steps : (recipe : Said) → rule.IsRecipe recipe → All HasFew recipe.stages
+few_steps : (recipe : RecipeContents) → rule.IsRecipe recipe → All HasFew recipe.stages
 few_steps recipe is k d less = (is.stages k d less).few_steps
 
-pub has_text : (recipe : Said) (inputs : List (List ℕ)) (p : Position) → kept.IsRecipe recipe → IsInputs recipe inputs → IsPosition recipe p → IsSaveText (save_of recipe inputs p)
+pub has_text : (recipe : RecipeContents) (inputs : List (List ℕ)) (p : Position) → kept.IsRecipe recipe → IsInputs recipe inputs → IsPosition recipe p → IsSaveText (save_of recipe inputs p)
 has_text recipe inputs p is given (stage, stages, ok) =
     let rules = rule.rules recipe is in
     let few = few_steps recipe rules in
@@ -116,5 +116,5 @@ short_in (stage ∷ stages) (f ∷ done) few are =
     All-cons (λ (f : Finished). IsShortStage (stage_of f)) f done (is_short (stage_of f) (stage_is stage f (All-head HasFew stage stages few) are.0))
     (short_in stages done (All-tail HasFew stage stages few) are.1)
 
-pub short_done : (recipe : Said) (p : Position) → kept.IsRecipe recipe → IsPosition recipe p → All (λ f. IsShortStage (stage_of f)) p.done
+pub short_done : (recipe : RecipeContents) (p : Position) → kept.IsRecipe recipe → IsPosition recipe p → All (λ f. IsShortStage (stage_of f)) p.done
 short_done recipe p is (stage, stages, ok) = short_in recipe.stages p.done (few_steps recipe (rule.rules recipe is)) ok.done.each

@@ -1,8 +1,8 @@
 -- Files that are joined one by one.
 use Rattle.std.proofs.Common.{◌≡◌, ℕ, zero, suc, ◌+◌, ◌<◌, ◌≤◌, List, [], ◌∷◌, ◌++◌, length, map, take, get_or, append_assoc, sym, ap, ◌∙◌, arith}
-use Rattle.wheeler.specs.SourceCheck.Checks.{joined_files}
+use Rattle.audit_rules.specs.SourceCheck.Checks.{joined_files}
 
--- what a file more is put behind
+-- what a file more is put after
 joined-push : (files : List (List ℕ)) (file : List ℕ) → 1 ≤ length files → joined_files (files ++ file ∷ []) ≡ (joined_files files ++ 10 ∷ []) ++ file
 joined-push [] file some = absurd (omega (arith, some))
 joined-push (a ∷ []) file some = sym (append_assoc a (10 ∷ []) file)

@@ -18,14 +18,14 @@ use Rattle.mem_files.specs.Names.{bytes_cmp, begins_with_dot_slash, is_file_name
 use Rattle.mem_files.specs.Outputs.{IsContent}
 use Rattle.mem_files.proofs.Entries.{name_there}
 use Rattle.guest_run.specs.Setting.{FileMap, place_refusal}
-use Rattle.recipe.specs.declared.contents.Said.{Said}
+use Rattle.recipe.specs.declared.contents.RecipeContents.{RecipeContents}
 use Rattle.recipe.specs.declared.parts.Stage.{Stage}
 use Rattle.recipe.specs.declared.parts.StageFile.{StageFile}
 use Rattle.recipe.specs.Kept as kept
-use Rattle.wheeler.specs.declared.answer.Finished.{Finished}
-use Rattle.wheeler.specs.Contents.{Contents, check_source, content, with_stage_file}
-use Rattle.wheeler.specs.Stages.{contents}
-use Rattle.wheeler.proofs.GivenBoxes.{AreContents, content-is}
+use Rattle.audit_rules.specs.declared.answer.Finished.{Finished}
+use Rattle.audit_rules.specs.Contents.{Contents, check_source, content, with_stage_file}
+use Rattle.audit_rules.specs.Stages.{contents}
+use Rattle.audit_rules.proofs.GivenBoxes.{AreContents, content-is}
 
 -- what holds at each index holds of the element of a loop
 pub each-at : {A : Type 0} (P : A → Type 0) (xs items : List A) (index : ℕ) (x : A) → kept.Each P xs → items ≡ xs → index < length items → x ≡ get_or items index x → P x
@@ -45,7 +45,7 @@ stripped-same path is = by_path path (and_parts (is_file_name path) (not (begins
   by_path (a ∷ (b ∷ rest)) h = by_test a b rest (a == 46 && b == 47) h
 
 -- a path that no earlier file has is not held yet
-unheld : (recipe : Said) (all : Contents) (files : List StageFile) (held : FileMap) (path : List ℕ) → fin.get held path ≡ None
+unheld : (recipe : RecipeContents) (all : Contents) (files : List StageFile) (held : FileMap) (path : List ℕ) → fin.get held path ≡ None
     → ((index : ℕ) (file : StageFile) → slice_get files index ≡ Some file → path ≢ file.path) → fin.get (fold (with_stage_file recipe all) held files) path ≡ None
 unheld recipe all [] held path absent apart = absent
 unheld recipe all (file ∷ files) held path absent apart =
@@ -79,7 +79,7 @@ slice_get-take (x ∷ files) (suc count) (suc index) file at =
     let rest = slice_get-take files count index file at in
     (omega (arith, rest.0), rest.1)
 
-pub not-held : (recipe : Said) (all : Contents) (files : List StageFile) (index : ℕ) (file : StageFile)
+pub not-held : (recipe : RecipeContents) (all : Contents) (files : List StageFile) (index : ℕ) (file : StageFile)
     → IsDistinct bytes_eq (map (λ (f : StageFile). f.path) files) → slice_get files index ≡ Some file
     → fin.get (fold (with_stage_file recipe all) fin.empty (take index files)) file.path ≡ None
 not-held recipe all files index file distinct at =
@@ -89,7 +89,7 @@ not-held recipe all files index file distinct at =
     false≢true (sym (apart-at files i index other file distinct before.0 before.1 at) ∙ (bytes_eq-Decides other.path file.path).1 (sym same)))
 
 -- how many are held
-few-held : (recipe : Said) (all : Contents) (files : List StageFile) (held : FileMap) → fin.len (fold (with_stage_file recipe all) held files) ≤ fin.len held + length files
+few-held : (recipe : RecipeContents) (all : Contents) (files : List StageFile) (held : FileMap) → fin.len (fold (with_stage_file recipe all) held files) ≤ fin.len held + length files
 few-held recipe all [] held = omega arith
 few-held recipe all (file ∷ files) held =
     let rest = few-held recipe all files (with_stage_file recipe all held file) in
@@ -115,11 +115,11 @@ fits held path bytes name absent small few =
     rw (name, key, size, room) refl
 
 -- a source's base
-pub source-based : (recipe : Said) (source : Source) (name : List ℕ) → kept.IsRecipe recipe → source_named recipe.sources name ≡ Some source → source.base ≤ 2 ^ 37
+pub source-based : (recipe : RecipeContents) (source : Source) (name : List ℕ) → kept.IsRecipe recipe → source_named recipe.sources name ≡ Some source → source.base ≤ 2 ^ 37
 source-based recipe source name is found =
     (is.sources (position_or_len (λ (s : Source). bytes_eq s.name name) recipe.sources) source (sym (find_at (λ (s : Source). bytes_eq s.name name) recipe.sources) ∙ found)).base
 
-pub check-based : (recipe : Said) (stage : Stage) (source : Source) → kept.IsRecipe recipe → check_source recipe stage ≡ Some source → source.base ≤ 2 ^ 37
+pub check-based : (recipe : RecipeContents) (stage : Stage) (source : Source) → kept.IsRecipe recipe → check_source recipe stage ≡ Some source → source.base ≤ 2 ^ 37
 check-based recipe stage source is found = by_name stage.check found where
   by_name : (o : Option (List ℕ)) → option_and_then (source_named recipe.sources) o ≡ Some source → source.base ≤ 2 ^ 37
   by_name None found = absurd (none-some source found)
@@ -128,7 +128,7 @@ check-based recipe stage source is found = by_name stage.check found where
 pub are-contents : (inputs : List (List ℕ)) (done : List Finished) → All IsContent inputs → All (λ (f : Finished). IsContent f.made) done → AreContents (contents inputs done)
 are-contents inputs done small made = record { inputs = small; artefacts = All-map IsContent (λ (f : Finished). f.made) done made }
 
-pub file-fits : (recipe : Said) (inputs : List (List ℕ)) (done : List Finished) (stage : Stage) (earlier : List Stage) (items : List StageFile) (index : ℕ) (file : StageFile)
+pub file-fits : (recipe : RecipeContents) (inputs : List (List ℕ)) (done : List Finished) (stage : Stage) (earlier : List Stage) (items : List StageFile) (index : ℕ) (file : StageFile)
     → kept.IsStage recipe earlier stage → All IsContent inputs → All (λ (f : Finished). IsContent f.made) done
     → items ≡ stage.files → index < length items → file ≡ get_or items index file
     → place_refusal (fold (with_stage_file recipe (contents inputs done)) fin.empty (take index stage.files)) file.path (content recipe (contents inputs done) file.from) ≡ None

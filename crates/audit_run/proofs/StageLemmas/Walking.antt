@@ -7,7 +7,7 @@ use Rattle.mem_files.specs.Outputs.{left}
 use Rattle.mem_files.specs.World.{World}
 use Rattle.mem_files.proofs.Walks.{named_at, names-left, names-rise, walk-end, walk-turn}
 use Rattle.report.specs.declared.types.LeftLine.{LeftLine}
-use Rattle.wheeler.specs.Stages.{marked_left}
+use Rattle.audit_rules.specs.Stages.{marked_left}
 
 -- the line of what is left under a name
 abbrev pub line_at : World → List ℕ → LeftLine

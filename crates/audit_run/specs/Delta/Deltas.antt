@@ -2,15 +2,15 @@
 -- same for people.
 use Rattle.std.specs.Prelude.{◌≡◌, ◌≢◌, ℕ, IsTrue, List, map, Result, Ok, Err}
 use Rattle.ddc_base.specs.declared.digests.Digest.{Digest}
-use Rattle.recipe.specs.declared.contents.Said.{Said}
+use Rattle.recipe.specs.declared.contents.RecipeContents.{RecipeContents}
 use Rattle.checkpoints.specs.Checkpoint.{state_of}
-use Rattle.save_text.specs.SaveText.{SaveText}
-use Rattle.save_text.specs.Spelled.{IsTextOfSave, text_of_save}
-use Rattle.save_text.specs.DeltaText.DeltaText.{DeltaText, parsed_delta, text_of_delta}
-use Rattle.save_text.specs.DeltaText.Front.{is_of_other_base}
-use Rattle.wheeler.specs.Positions.{Position}
-use Rattle.wheeler.specs.Valid.{IsPosition}
-use Rattle.audit_run.specs.Save.Saves.{IsPlace, Resumes, digest_of, position_of, save_of, save_refusal_number, stage_of}
+use Rattle.save_format.specs.SaveText.{SaveText}
+use Rattle.save_format.specs.Spelled.{IsTextOfSave, text_of_save}
+use Rattle.save_format.specs.DeltaText.DeltaText.{DeltaText, parsed_delta, text_of_delta}
+use Rattle.save_format.specs.DeltaText.Front.{is_of_other_base}
+use Rattle.audit_rules.specs.Positions.{Position}
+use Rattle.audit_rules.specs.Valid.{IsPosition}
+use Rattle.audit_run.specs.Save.Saves.{IsSavedPlace, Resumes, digest_of, position_of, save_of, save_refusal_number, stage_of}
 use Rattle.audit_run.specs.declared.delta.reading.DeltaRefusal.{DeltaRefusal}
 use Rattle.audit_run.specs.declared.delta.reading.DeltaRefusal.TheVariants.{Base, Form, OtherBase, State, OutOfMemory}
 use Rattle.audit_run.specs.declared.save.reading.SaveRefusal.TheVariants as save
@@ -22,7 +22,7 @@ abbrev pub base_digest : SaveText → Digest
 base_digest base = digest_of (text_of_save base)
 
 -- what the delta of a position says against a base: of which base it is, the stages that are done, and the present guest's state
-abbrev pub delta_of : Said → List (List ℕ) → Position → Position → DeltaText
+abbrev pub delta_of : RecipeContents → List (List ℕ) → Position → Position → DeltaText
 delta_of recipe inputs base p = record {
   base = base_digest (save_of recipe inputs base);
   stages = map stage_of p.done;
@@ -30,13 +30,13 @@ delta_of recipe inputs base p = record {
 }
 
 -- its one text: the stages that are done alike in both are counted and left out, and the state is a patch of the base's
-unfoldable pub delta_text_of : Said → List (List ℕ) → Position → Position → List ℕ
+unfoldable pub delta_text_of : RecipeContents → List (List ℕ) → Position → Position → List ℕ
 delta_text_of recipe inputs base p = text_of_delta (save_of recipe inputs base) (delta_of recipe inputs base p)
 
 -- ---- what is read
 
 -- the bytes are a text of the save of this position, of either form
-abbrev pub IsBaseAt : Said → List (List ℕ) → Position → List ℕ → Type 0
+abbrev pub IsBaseAt : RecipeContents → List (List ℕ) → Position → List ℕ → Type 0
 IsBaseAt recipe inputs base text = IsPosition recipe base × IsTextOfSave (save_of recipe inputs base) text
 
 -- a text begins as a delta against another base than this save
@@ -44,49 +44,49 @@ abbrev pub NamesAnotherBase : SaveText → List ℕ → Type 0
 NamesAnotherBase base text = IsTrue (is_of_other_base (base_digest base) text)
 
 -- what a delta says is the save of a position: its stages and its state, of the base's recipe and inputs
-abbrev pub save_beside : SaveText → DeltaText → SaveText
-save_beside base delta = record { recipe = base.recipe; inputs = base.inputs; stages = delta.stages; state = delta.state }
+abbrev pub save_relative : SaveText → DeltaText → SaveText
+save_relative base delta = record { recipe = base.recipe; inputs = base.inputs; stages = delta.stages; state = delta.state }
 
 -- what becomes of a text beside the save of its base: first whether it names another base, then its form, then whether it is a place
-abbrev pub GoesOnBeside : Said → SaveText → List ℕ → Result Position DeltaRefusal → Type 0
-GoesOnBeside recipe base text (Ok p) =
+abbrev pub GoesOnRelative : RecipeContents → SaveText → List ℕ → Result Position DeltaRefusal → Type 0
+GoesOnRelative recipe base text (Ok p) =
     ¬ (NamesAnotherBase base text)
-    × (delta : DeltaText) × (parsed_delta base text ≡ Ok delta) × IsPlace recipe (save_beside base delta) × (p ≡ position_of (save_beside base delta))
-GoesOnBeside recipe base text (Err OtherBase) = NamesAnotherBase base text
-GoesOnBeside recipe base text (Err (Form offset)) = ¬ (NamesAnotherBase base text) × (parsed_delta base text ≡ Err offset)
-GoesOnBeside recipe base text (Err State) =
-    ¬ (NamesAnotherBase base text) × (delta : DeltaText) × (parsed_delta base text ≡ Ok delta) × ¬ (IsPlace recipe (save_beside base delta))
-GoesOnBeside recipe base text (Err OutOfMemory) = Unit {0}
-GoesOnBeside recipe base text (Err (Base refusal)) = ⊥
+    × (delta : DeltaText) × (parsed_delta base text ≡ Ok delta) × IsSavedPlace recipe (save_relative base delta) × (p ≡ position_of (save_relative base delta))
+GoesOnRelative recipe base text (Err OtherBase) = NamesAnotherBase base text
+GoesOnRelative recipe base text (Err (Form offset)) = ¬ (NamesAnotherBase base text) × (parsed_delta base text ≡ Err offset)
+GoesOnRelative recipe base text (Err State) =
+    ¬ (NamesAnotherBase base text) × (delta : DeltaText) × (parsed_delta base text ≡ Ok delta) × ¬ (IsSavedPlace recipe (save_relative base delta))
+GoesOnRelative recipe base text (Err OutOfMemory) = Unit {0}
+GoesOnRelative recipe base text (Err (Base refusal)) = ⊥
 
 -- what becomes of a base and a text: the base is judged first and whole, as a save is; it is never refused for want of memory, which comes only
 -- where it may come of the base as a save
-abbrev pub ResumesBeside : Said → List (List ℕ) → List ℕ → List ℕ → Result Position DeltaRefusal → Type 0
-ResumesBeside recipe inputs base text (Err (Base refusal)) = Resumes recipe inputs base (Err refusal) × (refusal ≢ save.OutOfMemory)
-ResumesBeside recipe inputs base text (Err OutOfMemory) = Resumes recipe inputs base (Err save.OutOfMemory)
-ResumesBeside recipe inputs base text result = (b : Position) × Resumes recipe inputs base (Ok b) × GoesOnBeside recipe (save_of recipe inputs b) text result
+abbrev pub ResumesRelative : RecipeContents → List (List ℕ) → List ℕ → List ℕ → Result Position DeltaRefusal → Type 0
+ResumesRelative recipe inputs base text (Err (Base refusal)) = Resumes recipe inputs base (Err refusal) × (refusal ≢ save.OutOfMemory)
+ResumesRelative recipe inputs base text (Err OutOfMemory) = Resumes recipe inputs base (Err save.OutOfMemory)
+ResumesRelative recipe inputs base text result = (b : Position) × Resumes recipe inputs base (Ok b) × GoesOnRelative recipe (save_of recipe inputs b) text result
 
 -- the answer to a base and a text: what the rules allow where memory is not wanting, of which there is exactly one
 -- (`laws::every_delta_has_one_answer`)
-pub record DeltaAnswer (recipe : Said) (inputs : List (List ℕ)) (base text : List ℕ) : Type 0 where
+pub record DeltaAnswer (recipe : RecipeContents) (inputs : List (List ℕ)) (base text : List ℕ) : Type 0 where
   pub result : Result Position DeltaRefusal
-  pub resumes : ResumesBeside recipe inputs base text result
+  pub resumes : ResumesRelative recipe inputs base text result
   pub settled : result ≢ Err OutOfMemory
 
 -- a text is the delta of a position against that of its base
-abbrev pub HasDelta : Said → List (List ℕ) → List ℕ → List ℕ → Position → Type 0
+abbrev pub HasDelta : RecipeContents → List (List ℕ) → List ℕ → List ℕ → Position → Type 0
 HasDelta recipe inputs base text p = (b : Position) × IsBaseAt recipe inputs b base × (text ≡ delta_text_of recipe inputs b p)
 
 -- a text is resumed beside its base as this position
-abbrev pub IsResumedBesideAs : Position → Result Position DeltaRefusal → Type 0
-IsResumedBesideAs p (Ok found) = found ≡ p
-IsResumedBesideAs p (Err OutOfMemory) = Unit {0}
-IsResumedBesideAs p (Err (Base refusal)) = ⊥
-IsResumedBesideAs p (Err (Form offset)) = ⊥
-IsResumedBesideAs p (Err OtherBase) = ⊥
-IsResumedBesideAs p (Err State) = ⊥
+abbrev pub IsResumedRelativeAs : Position → Result Position DeltaRefusal → Type 0
+IsResumedRelativeAs p (Ok found) = found ≡ p
+IsResumedRelativeAs p (Err OutOfMemory) = Unit {0}
+IsResumedRelativeAs p (Err (Base refusal)) = ⊥
+IsResumedRelativeAs p (Err (Form offset)) = ⊥
+IsResumedRelativeAs p (Err OtherBase) = ⊥
+IsResumedRelativeAs p (Err State) = ⊥
 
--- the number of a refusal: a base's own, or one behind those of saves
+-- the number of a refusal: a base's own, or one after those of saves
 abbrev pub delta_refusal_number : DeltaRefusal → ℕ
 delta_refusal_number (Base refusal) = save_refusal_number refusal
 delta_refusal_number (Form offset) = 5

@@ -1,31 +1,31 @@
 -- What a base and a text are judged as. docs/reference/delta.md says the same for people.
 use Rattle.std.specs.Prelude.{ℕ, List, Result, Ok, Err, if◌then◌else◌}
-use Rattle.recipe.specs.declared.contents.Said.{Said}
-use Rattle.save_text.specs.SaveText.{SaveText}
-use Rattle.save_text.specs.DeltaText.DeltaText.{DeltaText, parsed_delta}
-use Rattle.save_text.specs.DeltaText.Front.{is_of_other_base}
-use Rattle.wheeler.specs.Positions.{Position}
+use Rattle.recipe.specs.declared.contents.RecipeContents.{RecipeContents}
+use Rattle.save_format.specs.SaveText.{SaveText}
+use Rattle.save_format.specs.DeltaText.DeltaText.{DeltaText, parsed_delta}
+use Rattle.save_format.specs.DeltaText.Front.{is_of_other_base}
+use Rattle.audit_rules.specs.Positions.{Position}
 use Rattle.audit_run.specs.Save.Inside.Tests.{is_place}
 use Rattle.audit_run.specs.Save.Judged.{judged}
 use Rattle.audit_run.specs.Save.Saves.{position_of, save_of}
-use Rattle.audit_run.specs.Delta.Deltas.{base_digest, save_beside}
+use Rattle.audit_run.specs.Delta.Deltas.{base_digest, save_relative}
 use Rattle.audit_run.specs.declared.delta.reading.DeltaRefusal.{DeltaRefusal}
 use Rattle.audit_run.specs.declared.delta.reading.DeltaRefusal.TheVariants.{Base, Form, OtherBase, State}
 use Rattle.audit_run.specs.declared.save.reading.SaveRefusal.{SaveRefusal}
 
 -- what is said beside a base: a place in the audit, or none
-abbrev pub placed_beside : Said → SaveText → Result DeltaText ℕ → Result Position DeltaRefusal
-placed_beside recipe base (Err offset) = Err (Form offset)
-placed_beside recipe base (Ok delta) = if is_place recipe (save_beside base delta) then Ok (position_of (save_beside base delta)) else Err State
+abbrev pub placed_relative : RecipeContents → SaveText → Result DeltaText ℕ → Result Position DeltaRefusal
+placed_relative recipe base (Err offset) = Err (Form offset)
+placed_relative recipe base (Ok delta) = if is_place recipe (save_relative base delta) then Ok (position_of (save_relative base delta)) else Err State
 
 -- a text beside the save of its base: whether it names another base, and then what it says
-abbrev pub judged_from : Said → SaveText → List ℕ → Result Position DeltaRefusal
-judged_from recipe base text = if is_of_other_base (base_digest base) text then Err OtherBase else placed_beside recipe base (parsed_delta base text)
+abbrev pub judged_from : RecipeContents → SaveText → List ℕ → Result Position DeltaRefusal
+judged_from recipe base text = if is_of_other_base (base_digest base) text then Err OtherBase else placed_relative recipe base (parsed_delta base text)
 
 -- what becomes of the base comes first
-abbrev pub behind_base : Said → List (List ℕ) → List ℕ → Result Position SaveRefusal → Result Position DeltaRefusal
-behind_base recipe inputs text (Err refusal) = Err (Base refusal)
-behind_base recipe inputs text (Ok base) = judged_from recipe (save_of recipe inputs base) text
+abbrev pub after_base : RecipeContents → List (List ℕ) → List ℕ → Result Position SaveRefusal → Result Position DeltaRefusal
+after_base recipe inputs text (Err refusal) = Err (Base refusal)
+after_base recipe inputs text (Ok base) = judged_from recipe (save_of recipe inputs base) text
 
-unfoldable pub judged_beside : Said → List (List ℕ) → List ℕ → List ℕ → Result Position DeltaRefusal
-judged_beside recipe inputs base text = behind_base recipe inputs text (judged recipe inputs base)
+unfoldable pub judged_relative : RecipeContents → List (List ℕ) → List ℕ → List ℕ → Result Position DeltaRefusal
+judged_relative recipe inputs base text = after_base recipe inputs text (judged recipe inputs base)

@@ -2,13 +2,13 @@
 use Rattle.std.specs.Prelude.{◌≡◌, ◌≤◌, ◌+◌, ◌-◌, ℕ, Option, None, Some, Result, Ok, Err, List, [], ◌∷◌, ◌++◌, length, drop}
 use Rattle.ddc_base.specs.declared.byte_list.OutOfMemory.{OutOfMemory}
 use Rattle.guest_run.specs.State.{GuestState}
-use Rattle.recipe.specs.declared.contents.Said.{Said}
+use Rattle.recipe.specs.declared.contents.RecipeContents.{RecipeContents}
 use Rattle.recipe.specs.declared.parts.Stage.{Stage}
-use Rattle.wheeler.specs.declared.answer.Finished.{Finished}
-use Rattle.wheeler.specs.Positions.{Position, Standing, On, Over, at, beginning, stage_closed, forward}
-use Rattle.wheeler.specs.Valid.{AreDone, IsInputs, IsStanding}
-use Rattle.audit_run.specs.declared.place.Place.{Place}
-use Rattle.audit_run.specs.declared.place.Place.TheVariants as place
+use Rattle.audit_rules.specs.declared.answer.Finished.{Finished}
+use Rattle.audit_rules.specs.Positions.{Position, Standing, On, Over, at, beginning, stage_closed, forward}
+use Rattle.audit_rules.specs.Valid.{AreDone, IsInputs, IsStanding}
+use Rattle.audit_run.specs.declared.place.AuditPlace.{AuditPlace}
+use Rattle.audit_run.specs.declared.place.AuditPlace.TheVariants as place
 use Rattle.audit_run.specs.declared.place.EndedGuest.{EndedGuest}
 use Rattle.audit_run.specs.declared.place.EndedGuest.TheVariants.{Kept, GivenUp}
 use Rattle.audit_run.specs.declared.place.Moved.{Moved}
@@ -17,22 +17,22 @@ use Rattle.audit_run.specs.declared.place.Progress.{Progress}
 use Rattle.audit_run.specs.declared.place.Progress.TheVariants as progress
 use Rattle.audit_run.specs.Advances.{said_of_answer, StopsAt, Wants}
 
-abbrev pub seen : List Finished → Place → Option Standing
+abbrev pub seen : List Finished → AuditPlace → Option Standing
 seen done place.Ready = None
 seen done (place.Running guest) = Some (On (at done guest))
 seen done (place.Over answer) = Some (Over answer)
 
-abbrev pub stands : Said → List (List ℕ) → List Finished → Place → Standing
+abbrev pub stands : RecipeContents → List (List ℕ) → List Finished → AuditPlace → Standing
 stands recipe inputs done place.Ready = beginning recipe inputs
 stands recipe inputs done (place.Running guest) = On (at done guest)
 stands recipe inputs done (place.Over answer) = Over answer
 
 -- the stages after the present one
-abbrev pub later : Said → List Finished → List Stage
+abbrev pub later : RecipeContents → List Finished → List Stage
 later recipe done = drop (length done + 1) recipe.stages
 
 -- what a slice of a stage's run means
-abbrev pub SlicesBy : Said → List (List ℕ) → List Finished → List Stage → GuestState → ℕ → Moved → GuestState → Type 0
+abbrev pub SlicesBy : RecipeContents → List (List ℕ) → List Finished → List Stage → GuestState → ℕ → Moved → GuestState → Type 0
 SlicesBy recipe inputs done stages old taken moved.Goes new = forward recipe inputs (at done old) taken ≡ On (at done new)
 SlicesBy recipe inputs done stages old taken (moved.Ended (Ok f)) new =
     (forward recipe inputs (at done old) taken ≡ stage_closed recipe inputs done stages (Ok f))
@@ -40,45 +40,45 @@ SlicesBy recipe inputs done stages old taken (moved.Ended (Ok f)) new =
 SlicesBy recipe inputs done stages old taken (moved.Ended (Err fault)) new =
     forward recipe inputs (at done old) taken ≡ stage_closed recipe inputs done stages (Err fault)
 
-abbrev pub Slices : Said → List (List ℕ) → List Finished → List Stage → GuestState → ℕ → Result (ℕ × Moved) OutOfMemory → GuestState → Type 0
+abbrev pub Slices : RecipeContents → List (List ℕ) → List Finished → List Stage → GuestState → ℕ → Result (ℕ × Moved) OutOfMemory → GuestState → Type 0
 Slices recipe inputs done stages old most (Ok step) new =
     SlicesBy recipe inputs done stages old step.0 step.1 new × (1 ≤ step.0) × (step.0 ≤ most)
 Slices recipe inputs done stages old most (Err error) new = StopsAt recipe inputs (On (at done old)) most (at done new)
 
 -- what holds of the parts between two calls: before the first advance no stage is done
-abbrev pub IsPlace : Said → List Finished → Place → Type 0
-IsPlace recipe done place.Ready = done ≡ []
-IsPlace recipe done (place.Running guest) = IsStanding recipe (On (at done guest))
-IsPlace recipe done (place.Over answer) = IsStanding recipe (Over answer)
+abbrev pub IsSavedPlace : RecipeContents → List Finished → AuditPlace → Type 0
+IsSavedPlace recipe done place.Ready = done ≡ []
+IsSavedPlace recipe done (place.Running guest) = IsStanding recipe (On (at done guest))
+IsSavedPlace recipe done (place.Over answer) = IsStanding recipe (Over answer)
 
-pub record IsAtRest (recipe : Said) (inputs : List (List ℕ)) (done : List Finished) (where_it_is : Place) : Type 0 where
+pub record IsAtRest (recipe : RecipeContents) (inputs : List (List ℕ)) (done : List Finished) (where_it_is : AuditPlace) : Type 0 where
   pub given : IsInputs recipe inputs
-  pub place : IsPlace recipe done where_it_is
+  pub place : IsSavedPlace recipe done where_it_is
 
 -- an audit whose first stage has started, or was refused
-abbrev pub IsStarted : Place → Type 0
+abbrev pub IsStarted : AuditPlace → Type 0
 IsStarted place.Ready = ⊥
 IsStarted (place.Running guest) = Unit {0}
 IsStarted (place.Over answer) = Unit {0}
 
 -- what becomes of a guest whose stage is done
-abbrev pub KeepsPlace : EndedGuest → Place → Place → Type 0
+abbrev pub KeepsPlace : EndedGuest → AuditPlace → AuditPlace → Type 0
 KeepsPlace Kept old new = new ≡ old
 KeepsPlace GivenUp old new = Unit {0}
 
 -- an audit that has started stopped here for want of memory
-abbrev pub StopsIn : Said → List (List ℕ) → Standing → ℕ → Standing → Type 0
+abbrev pub StopsIn : RecipeContents → List (List ℕ) → Standing → ℕ → Standing → Type 0
 StopsIn recipe inputs from most (On p) = StopsAt recipe inputs from most p
 StopsIn recipe inputs from most (Over answer) = ⊥
 
--- what want of memory leaves behind fewer steps than were asked for: an audit that stopped there, where guests are kept
-abbrev pub WantsBehind : EndedGuest → Said → List (List ℕ) → Standing → ℕ → List Finished → Place → Type 0
-WantsBehind Kept recipe inputs from most done where_it_is =
-    IsStarted where_it_is × IsPlace recipe done where_it_is × StopsIn recipe inputs from most (stands recipe inputs done where_it_is)
-WantsBehind GivenUp recipe inputs from most done where_it_is = (p : Position) × StopsAt recipe inputs from most p
+-- what want of memory leaves after fewer steps than were asked for: an audit that stopped there, where guests are kept
+abbrev pub WantsAfter : EndedGuest → RecipeContents → List (List ℕ) → Standing → ℕ → List Finished → AuditPlace → Type 0
+WantsAfter Kept recipe inputs from most done where_it_is =
+    IsStarted where_it_is × IsSavedPlace recipe done where_it_is × StopsIn recipe inputs from most (stands recipe inputs done where_it_is)
+WantsAfter GivenUp recipe inputs from most done where_it_is = (p : Position) × StopsAt recipe inputs from most p
 
 -- what is said of an audit that stands here
-abbrev pub SaysOf : Place → Progress → Type 0
+abbrev pub SaysOf : AuditPlace → Progress → Type 0
 SaysOf place.Ready said = ⊥
 SaysOf (place.Running guest) said = said ≡ progress.Paused
 SaysOf (place.Over answer) said = said ≡ said_of_answer answer

@@ -3,14 +3,14 @@
 use Rattle.std.specs.Prelude.{◌≡◌, ◌≢◌, ◌<◌, ℕ, List, ◌∷◌, map, Result, Ok, Err}
 use Rattle.sha2.specs.Sha256.{sha256}
 use Rattle.ddc_base.specs.declared.digests.Digest.{Digest}
-use Rattle.recipe.specs.declared.contents.Said.{Said}
+use Rattle.recipe.specs.declared.contents.RecipeContents.{RecipeContents}
 use Rattle.recipe.specs.declared.parts.Stage.{Stage}
 use Rattle.checkpoints.specs.Checkpoint.{IsInRange, IsJoined, guest_of, state_of}
-use Rattle.save_text.specs.SaveText.{SaveText, StageText, parsed_save}
-use Rattle.save_text.specs.StateText.Mappable.{AreMappable}
-use Rattle.wheeler.specs.declared.answer.Finished.{Finished}
-use Rattle.wheeler.specs.Positions.{Position, at, todo}
-use Rattle.wheeler.specs.Valid.{AreDone}
+use Rattle.save_format.specs.SaveText.{SaveText, StageText, parsed_save}
+use Rattle.save_format.specs.StateText.Mappable.{AreMappable}
+use Rattle.audit_rules.specs.declared.answer.Finished.{Finished}
+use Rattle.audit_rules.specs.Positions.{Position, at, todo}
+use Rattle.audit_rules.specs.Valid.{AreDone}
 use Rattle.audit_run.specs.declared.save.reading.SaveRefusal.{SaveRefusal}
 use Rattle.audit_run.specs.declared.save.reading.SaveRefusal.TheVariants.{Form, OtherRecipe, State, OutOfMemory}
 
@@ -25,7 +25,7 @@ abbrev pub digest_of : List ℕ → Digest
 digest_of bytes = record { 0 = sha256 bytes }
 
 -- what the save of a position says: of which recipe and which inputs it is, the stages that are done, and the present guest's state
-abbrev pub save_of : Said → List (List ℕ) → Position → SaveText
+abbrev pub save_of : RecipeContents → List (List ℕ) → Position → SaveText
 save_of recipe inputs p = record {
   recipe = recipe.digest;
   inputs = map digest_of inputs;
@@ -41,13 +41,13 @@ abbrev pub position_of : SaveText → Position
 position_of save = at (done_in save) (guest_of save.state)
 
 -- a save of this recipe and of these inputs
-pub record IsOf (recipe : Said) (inputs : List (List ℕ)) (save : SaveText) : Type 0 where
+pub record IsOf (recipe : RecipeContents) (inputs : List (List ℕ)) (save : SaveText) : Type 0 where
   pub same_recipe : save.recipe ≡ recipe.digest
   pub same_inputs : save.inputs ≡ map digest_of inputs
 
 -- what makes a save of a recipe a place in its audit: fewer stages are done than it has, each as a stage of the recipe can be done; and the
 -- state is that of a guest, its steps are below the present stage's limit, and its heap may have as many bytes as that stage gives
-pub record IsPlaceIn (recipe : Said) (save : SaveText) (stage : Stage) (stages : List Stage) : Type 0 where
+pub record IsSavedPlaceIn (recipe : RecipeContents) (save : SaveText) (stage : Stage) (stages : List Stage) : Type 0 where
   pub left : todo recipe (done_in save) ≡ stage ∷ stages
   pub done : AreDone recipe (done_in save)
   pub range : IsInRange save.state
@@ -55,29 +55,29 @@ pub record IsPlaceIn (recipe : Said) (save : SaveText) (stage : Stage) (stages :
   pub within : save.state.steps < stage.steps
   pub heap : save.state.heap.limit ≡ stage.heap
 
-abbrev pub IsPlace : Said → SaveText → Type 0
-IsPlace recipe save = (stage : Stage) × (stages : List Stage) × IsPlaceIn recipe save stage stages
+abbrev pub IsSavedPlace : RecipeContents → SaveText → Type 0
+IsSavedPlace recipe save = (stage : Stage) × (stages : List Stage) × IsSavedPlaceIn recipe save stage stages
 
 -- what becomes of what a save of the recipe says; want of memory comes only where the runs of its state can be mapped
-abbrev pub Stands : Said → SaveText → Result Position SaveRefusal → Type 0
-Stands recipe save (Ok p) = IsPlace recipe save × (p ≡ position_of save)
-Stands recipe save (Err State) = ¬ (IsPlace recipe save)
+abbrev pub Stands : RecipeContents → SaveText → Result Position SaveRefusal → Type 0
+Stands recipe save (Ok p) = IsSavedPlace recipe save × (p ≡ position_of save)
+Stands recipe save (Err State) = ¬ (IsSavedPlace recipe save)
 Stands recipe save (Err OutOfMemory) = AreMappable save.state.runs
 Stands recipe save (Err (Form offset)) = ⊥
 Stands recipe save (Err OtherRecipe) = ⊥
 
 -- what becomes of a text: its form is judged first, then whether it is of this recipe and these inputs, then whether it is a place. Want of
 -- memory comes only where the form holds, the save is of this recipe and these inputs, and the runs of its state can be mapped
-abbrev pub Resumes : Said → List (List ℕ) → List ℕ → Result Position SaveRefusal → Type 0
-Resumes recipe inputs text (Ok p) = (save : SaveText) × (parsed_save text ≡ Ok save) × IsOf recipe inputs save × IsPlace recipe save × (p ≡ position_of save)
+abbrev pub Resumes : RecipeContents → List (List ℕ) → List ℕ → Result Position SaveRefusal → Type 0
+Resumes recipe inputs text (Ok p) = (save : SaveText) × (parsed_save text ≡ Ok save) × IsOf recipe inputs save × IsSavedPlace recipe save × (p ≡ position_of save)
 Resumes recipe inputs text (Err (Form offset)) = parsed_save text ≡ Err offset
 Resumes recipe inputs text (Err OtherRecipe) = (save : SaveText) × (parsed_save text ≡ Ok save) × ¬ (IsOf recipe inputs save)
-Resumes recipe inputs text (Err State) = (save : SaveText) × (parsed_save text ≡ Ok save) × IsOf recipe inputs save × ¬ (IsPlace recipe save)
+Resumes recipe inputs text (Err State) = (save : SaveText) × (parsed_save text ≡ Ok save) × IsOf recipe inputs save × ¬ (IsSavedPlace recipe save)
 Resumes recipe inputs text (Err OutOfMemory) = (save : SaveText) × (parsed_save text ≡ Ok save) × IsOf recipe inputs save × AreMappable save.state.runs
 
 -- the answer to a text: what the rules allow of it where memory is not wanting, of which there is exactly one
 -- (`laws::every_text_has_one_answer`)
-pub record SaveAnswer (recipe : Said) (inputs : List (List ℕ)) (text : List ℕ) : Type 0 where
+pub record SaveAnswer (recipe : RecipeContents) (inputs : List (List ℕ)) (text : List ℕ) : Type 0 where
   pub result : Result Position SaveRefusal
   pub resumes : Resumes recipe inputs text result
   pub settled : result ≢ Err OutOfMemory

@@ -2,8 +2,8 @@
 use Rattle.std.specs.Prelude.{◌≡◌, Result, Ok, Err}
 use Rattle.guest_run.specs.State.{GuestState}
 use Rattle.guest_run.specs.Start.{Refusal, Elf, ArgsTooLong, BoxTooLarge}
-use Rattle.wheeler.specs.declared.cause.StartCause.{StartCause}
-use Rattle.wheeler.specs.declared.cause.StartCause.TheVariants as start
+use Rattle.audit_rules.specs.declared.cause.StartCause.{StartCause}
+use Rattle.audit_rules.specs.declared.cause.StartCause.TheVariants as start
 
 abbrev pub Begins : Result GuestState Refusal → Result GuestState StartCause → Type 0
 Begins meant (Ok guest) = meant ≡ Ok guest

@@ -3,8 +3,8 @@ use Rattle.std.specs.Prelude.{◌≡◌, ◌≤◌, ◌+◌, ℕ, Some, List, le
 use Rattle.mem_files.specs.Outputs.{out}
 use Rattle.mem_files.specs.World.{World}
 use Rattle.recipe.specs.declared.parts.Stage.{Stage}
-use Rattle.wheeler.specs.declared.answer.Finished.{Finished}
-use Rattle.wheeler.specs.Stages.{artefact_bytes, output_of}
+use Rattle.audit_rules.specs.declared.answer.Finished.{Finished}
+use Rattle.audit_rules.specs.Stages.{artefact_bytes, output_of}
 
 -- the status is 0, the stage's output is there, and all artefacts together have at most 1,073,741,824 bytes
 pub record Makes (stage : Stage) (done : List Finished) (status : ℕ) (world : World) : Type 0 where

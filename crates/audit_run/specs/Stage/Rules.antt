@@ -1,13 +1,13 @@
 -- What the code of one stage rests on: the rules of the recipe for the stage, and small contents.
 use Rattle.std.specs.Prelude.{List, All}
 use Rattle.mem_files.specs.Outputs.{IsContent}
-use Rattle.recipe.specs.declared.contents.Said.{Said}
+use Rattle.recipe.specs.declared.contents.RecipeContents.{RecipeContents}
 use Rattle.recipe.specs.declared.parts.Stage.{Stage}
 use Rattle.recipe.specs.Kept as kept
-use Rattle.wheeler.specs.declared.answer.Finished.{Finished}
+use Rattle.audit_rules.specs.declared.answer.Finished.{Finished}
 
 -- a stage of a recipe that keeps its rules
-abbrev pub IsStageOf : Said → Stage → Type 0
+abbrev pub IsStageOf : RecipeContents → Stage → Type 0
 IsStageOf recipe stage = (earlier : List Stage) × kept.IsStage recipe earlier stage
 
 -- the artefacts keep the limit of contents

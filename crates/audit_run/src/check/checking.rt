@@ -3,8 +3,8 @@ ghost use Rattle.hex_langs.specs.Items.Reading.{items_of};
 ghost use Rattle.hex_langs.specs.declared.items.token.Dialect.TheVariants as dialect;
 ghost use Rattle.hex_langs.specs.Link.Link.{link_of};
 ghost use Rattle.ddc_base.specs.declared.languages.Language.TheVariants as language;
-ghost use Rattle.wheeler.specs.SourceCheck.Checks.{check as check_of, checked, differs, hex_value, items_against};
-ghost use Rattle.wheeler.specs.declared.source_check.cause.CheckCause.TheVariants as cause;
+ghost use Rattle.audit_rules.specs.SourceCheck.Checks.{check as check_of, checked, differs, hex_value, items_against};
+ghost use Rattle.audit_rules.specs.declared.source_check.cause.CheckCause.TheVariants as cause;
 ghost use Rattle.std.specs.Prelude.{◌≡◌, ◌≤◌, ◌^◌, IfOk, Some};
 
 use crate::check::items::first_other_item;
@@ -15,7 +15,7 @@ use hex_langs::items::{HexRefusal, Items, items1, items2};
 use hex_langs::link::link;
 use m1_lang::{M1Refusal, expand};
 use std::alloc::Global;
-use wheeler::source_check::{CheckCause, HexCause, M1Cause};
+use audit_rules::source_check::{CheckCause, HexCause, M1Cause};
 
 /// What is wrong with an artefact of a source in a language, from the address `base` on, which hex0 and M1 don't know; `None` where
 /// nothing is.
@@ -39,7 +39,7 @@ pub fn check(
     }
 }
 
-#[tactic(auto, unfolding(wheeler::specs::SourceCheck::Checks::check))]
+#[tactic(auto, unfolding(audit_rules::specs::SourceCheck::Checks::check))]
 fn check_hex0(
     alloc: Global,
     base: u64,
@@ -52,7 +52,7 @@ fn check_hex0(
     Ok(differs_at(first_difference(value.as_slice(), made)))
 }
 
-#[tactic(auto, unfolding(wheeler::specs::SourceCheck::Checks::check))]
+#[tactic(auto, unfolding(audit_rules::specs::SourceCheck::Checks::check))]
 fn check_hex1(
     alloc: Global,
     base: u64,
@@ -68,7 +68,7 @@ fn check_hex1(
     }
 }
 
-#[tactic(auto, unfolding(wheeler::specs::SourceCheck::Checks::check))]
+#[tactic(auto, unfolding(audit_rules::specs::SourceCheck::Checks::check))]
 fn check_hex2(
     alloc: Global,
     base: u64,
@@ -84,7 +84,7 @@ fn check_hex2(
     }
 }
 
-#[tactic(auto, unfolding(wheeler::specs::SourceCheck::Checks::check))]
+#[tactic(auto, unfolding(audit_rules::specs::SourceCheck::Checks::check))]
 fn check_m1(
     alloc: Global,
     base: u64,

@@ -1,11 +1,11 @@
 //! The first item at which two lists differ.
 
 ghost use Rattle.hex_langs.specs.declared.items.item.Item.{Item as ItemOf};
-ghost use Rattle.wheeler.specs.SourceCheck.Checks.{first_other_item, same_item};
+ghost use Rattle.audit_rules.specs.SourceCheck.Checks.{first_other_item, same_item};
 ghost use Rattle.std.specs.Prelude.{◌≡◌, ◌<◌, length, slice_index_or};
 
 use hex_langs::items::{Item, Items};
-use wheeler::source_check::{same_kind, same_name};
+use audit_rules::source_check::{same_kind, same_name};
 
 /// The number, from 0, of the first item at which two lists differ or exactly one of them has ended.
 pub(crate) fn first_other_item(ours: &Items<'_>, theirs: &Items<'_>) -> Option<u64>
@@ -37,7 +37,7 @@ fn same_at(ours: &Items<'_>, theirs: &Items<'_>, index: usize) -> bool
 }
 
 /// Whether two items are the same.
-#[tactic(auto, unfolding(wheeler::specs::SourceCheck::Checks::same_item))]
+#[tactic(auto, unfolding(audit_rules::specs::SourceCheck::Checks::same_item))]
 fn same_item(one: &Item<'_>, other: &Item<'_>) -> bool
     ensures { result ≡ same_item one.now other.now }
 {

@@ -3,26 +3,26 @@
 ghost use Rattle.std.specs.Prelude.{◌≡◌, ◌++◌, IfOk, IsOk, IsTrue, Ok, OnOk, length, map};
 ghost use Rattle.std.specs.Prelude.{◌<◌, ◌^◌, All};
 ghost use Rattle.audit_run.specs.Delta.Deltas.{base_digest};
-ghost use Rattle.save_text.specs.ByteFields.Spelling.{list_text};
-ghost use Rattle.save_text.specs.SaveText.{SaveText, parsed_save};
-ghost use Rattle.save_text.specs.Seen.{save_view, stage_view};
-ghost use Rattle.save_text.specs.Spelled.{IsSaveText, IsShortStage, IsTextOfSave, stage_text, text_of_save};
+ghost use Rattle.save_format.specs.ByteFields.Spelling.{list_text};
+ghost use Rattle.save_format.specs.SaveText.{SaveText, parsed_save};
+ghost use Rattle.save_format.specs.Seen.{save_view, stage_view};
+ghost use Rattle.save_format.specs.Spelled.{IsSaveText, IsShortStage, IsTextOfSave, stage_text, text_of_save};
 
 use ddc_base::digests::Digest;
 use ddc_base::{Bytes, OutOfMemory, digest};
-use save_text::byte_fields::{put_counted, put_u32};
-use save_text::state_text::{TextRefusal, put_parts};
-use save_text::{MAGIC, Parts, StagePart, put_stage};
+use save_format::byte_fields::{put_counted, put_u32};
+use save_format::state_text::{TextRefusal, put_parts};
+use save_format::{MAGIC, Parts, StagePart, put_stage};
 use std::alloc::Global;
 
-/// What a save says that has the form of one. Its pages are lent from the bytes.
+/// What a save says that has the form of one. Its pages are borrowed from the bytes.
 pub(crate) fn known_of(alloc: Global, base: &[u8]) -> Result<Parts<'_>, OutOfMemory>
     requires { IsOk (parsed_save base.now) }
     ensures said { IfOk result (λ known. parsed_save base.now ≡ Ok (save_view known)) }
     ensures text { IfOk result (λ known. IsSaveText (save_view known)) }
     ensures spelled { IfOk result (λ known. IsTextOfSave (save_view known) base.now) }
 {
-    match save_text::read(alloc, base) {
+    match save_format::read(alloc, base) {
         Ok(known) => Ok(known),
         Err(TextRefusal::Form(_)) => unreachable!(),
         Err(TextRefusal::OutOfMemory) => Err(OutOfMemory),
@@ -54,7 +54,7 @@ fn is_second(base: &[u8]) -> bool
 }
 
 /// The text of the second form of what a save says.
-#[tactic(auto, using(crate::proofs::SaveLemmas::Written::written), unfolding(save_text::specs::Spelled::save_text_in))]
+#[tactic(auto, using(crate::proofs::SaveLemmas::Written::written), unfolding(save_format::specs::Spelled::save_text_in))]
 fn second_text(alloc: Global, known: &Parts<'_>) -> Result<Bytes, OutOfMemory>
     requires { IsSaveText (save_view known.now) }
     ensures { IfOk result (λ text. text ≡ text_of_save (save_view known.now)) }

@@ -1,23 +1,23 @@
 //! The place in an audit that a text says beside its base.
 
 ghost use Rattle.std.specs.Prelude.{◌≡◌, IfOk, Ok};
-ghost use Rattle.audit_run.specs.Delta.Deltas.{GoesOnBeside, HasDelta, IsBaseAt, IsResumedBesideAs, ResumesBeside, delta_refusal_number, delta_text_of};
+ghost use Rattle.audit_run.specs.Delta.Deltas.{GoesOnRelative, HasDelta, IsBaseAt, IsResumedRelativeAs, ResumesRelative, delta_refusal_number, delta_text_of};
 ghost use Rattle.audit_run.specs.Delta.Inside.Judging.{JudgesBase};
 ghost use Rattle.audit_run.specs.Save.Saves.{Resumes};
 ghost use Rattle.guest_run.specs.Valid.{IsValid};
 ghost use Rattle.recipe.specs.Kept.{IsRecipe};
-ghost use Rattle.save_text.specs.Seen.{save_view};
-ghost use Rattle.save_text.specs.Spelled.{IsSaveText, IsTextOfSave};
-ghost use Rattle.wheeler.specs.Positions.{Position};
-ghost use Rattle.wheeler.specs.Valid.{IsInputs, IsPosition};
+ghost use Rattle.save_format.specs.Seen.{save_view};
+ghost use Rattle.save_format.specs.Spelled.{IsSaveText, IsTextOfSave};
+ghost use Rattle.audit_rules.specs.Positions.{Position};
+ghost use Rattle.audit_rules.specs.Valid.{IsInputs, IsPosition};
 
 use crate::delta::base::{digest_of, known_of};
 use crate::save::{Resumed, SaveRefusal, place_of};
 use ddc_base::{Bytes, OutOfMemory};
 use recipe::Recipe;
-use save_text::Parts;
-use save_text::delta_text::{self, DeltaParts, names_other_base};
-use save_text::state_text::TextRefusal;
+use save_format::Parts;
+use save_format::delta_text::{self, DeltaParts, names_other_base};
+use save_format::state_text::TextRefusal;
 use std::alloc::Global;
 
 /// Why a text is no delta of an audit against its base.
@@ -73,9 +73,9 @@ pub fn read(
     ensures found { IfOk result (λ p. HasDelta recipe.now inputs.now base.now text.now p) }
     // The delta of every place in the audit against every other one is read as that place beside each save of its base, unless memory runs out.
     ensures only { (b : Position) (p : Position) → IsBaseAt recipe.now inputs.now b base.now → IsPosition recipe.now p
-        → text.now ≡ delta_text_of recipe.now inputs.now b p → IsResumedBesideAs p result }
+        → text.now ≡ delta_text_of recipe.now inputs.now b p → IsResumedRelativeAs p result }
     // When each refusal comes.
-    ensures exact { ResumesBeside recipe.now inputs.now base.now text.now result }
+    ensures exact { ResumesRelative recipe.now inputs.now base.now text.now result }
 {
     judged(alloc, recipe, inputs, base, text)
 }
@@ -90,14 +90,14 @@ fn judged(
     requires { IsInputs recipe.now inputs.now }
     ensures kept { IsRecipe recipe.now }
     ensures base { IfOk result (λ p. (b : Position) → Resumes recipe.now inputs.now base.now (Ok b) → IsPosition recipe.now b) }
-    ensures resumes { ResumesBeside recipe.now inputs.now base.now text.now result }
+    ensures resumes { ResumesRelative recipe.now inputs.now base.now text.now result }
     ensures valid { IfOk result (λ p. IsValid p.at) }
 {
     // Every recipe keeps its rules: this call tells it.
     recipe.digest();
     judge_base(alloc, recipe, inputs, base)?;
     let known = known_of(alloc, base)?;
-    beside(alloc, recipe, known, base, text)
+    relative(alloc, recipe, known, base, text)
 }
 
 /// Judges the base as a save is judged. The guest that is made of it is let go before another is made.
@@ -120,7 +120,7 @@ fn judge_base(
 }
 
 /// The place that a text says beside what a base says.
-fn beside<'a>(
+fn relative<'a>(
     alloc: Global,
     recipe: &Recipe,
     known: Parts<'a>,
@@ -129,7 +129,7 @@ fn beside<'a>(
 ) -> Result<Resumed, DeltaRefusal>
     requires text { IsSaveText (save_view known) }
     requires spelled { IsTextOfSave (save_view known) base.now }
-    ensures goes { GoesOnBeside recipe.now (save_view known.entry) text.now result }
+    ensures goes { GoesOnRelative recipe.now (save_view known.entry) text.now result }
     ensures valid { IfOk result (λ p. IsValid p.at) }
 {
     let digest = digest_of(alloc, &known, base)?;

@@ -4,12 +4,12 @@ ghost use Rattle.std.specs.Prelude.{◌≡◌, ◌<◌, ◌≤◌, ◌^◌, ◌+
 ghost use Rattle.audit_run.specs.Delta.Deltas.{IsBaseAt, base_digest, delta_text_of};
 ghost use Rattle.audit_run.specs.Save.Saves.{stage_of};
 ghost use Rattle.checkpoints.specs.Checkpoint.{state_of};
-ghost use Rattle.save_text.specs.DeltaText.DeltaText.{text_of_delta};
-ghost use Rattle.save_text.specs.DeltaText.Stages.{equal_stages, kept_stages, stages_beside_text};
-ghost use Rattle.save_text.specs.Seen.{save_view, stage_view};
-ghost use Rattle.save_text.specs.Spelled.{IsSaveText, IsShortStage, IsTextOfSave};
-ghost use Rattle.wheeler.specs.Positions.{Position, at};
-ghost use Rattle.wheeler.specs.Valid.{IsInputs, IsPosition};
+ghost use Rattle.save_format.specs.DeltaText.DeltaText.{text_of_delta};
+ghost use Rattle.save_format.specs.DeltaText.Stages.{equal_stages, kept_stages, stages_relative_text};
+ghost use Rattle.save_format.specs.Seen.{save_view, stage_view};
+ghost use Rattle.save_format.specs.Spelled.{IsSaveText, IsShortStage, IsTextOfSave};
+ghost use Rattle.audit_rules.specs.Positions.{Position, at};
+ghost use Rattle.audit_rules.specs.Valid.{IsInputs, IsPosition};
 
 use crate::delta::base::{digest_of, known_of};
 use crate::save::put_done;
@@ -18,9 +18,9 @@ use checkpoints::put_patch_of;
 use ddc_base::{Bytes, OutOfMemory};
 use guest_run::{Guest, RunRam};
 use recipe::Recipe;
-use save_text::byte_fields::put_u32;
-use save_text::delta_text::{MAGIC, is_same_stage};
-use save_text::{Parts, StagePart};
+use save_format::byte_fields::put_u32;
+use save_format::delta_text::{MAGIC, is_same_stage};
+use save_format::{Parts, StagePart};
 use std::alloc::Global;
 
 /// The one delta of an audit that stands in a stage against a save of it, its base. The pages of the base are compared where they stand in its text.
@@ -41,12 +41,12 @@ pub fn write(
     // Every recipe keeps its rules: this call tells it.
     recipe.digest();
     let known = known_of(alloc, base)?;
-    beside(alloc, &known, base, done, guest)
+    relative(alloc, &known, base, done, guest)
 }
 
 /// The delta against what a base says.
 #[tactic(auto, using(crate::proofs::SaveLemmas::Written::written))]
-fn beside(
+fn relative(
     alloc: Global,
     known: &Parts<'_>,
     base: &[u8],
@@ -65,16 +65,16 @@ fn beside(
     let mut out = Bytes::new(alloc);
     out.extend(&MAGIC)?;
     out.extend(&digest.0)?;
-    put_beside(&mut out, &known.done, done)?;
+    put_relative(&mut out, &known.done, done)?;
     put_patch_of(alloc, &mut out, &known.state, guest)?;
     Ok(out)
 }
 
 /// Adds how many stages in front are the base's, and the further ones.
-fn put_beside(out: &mut Bytes, known: &[StagePart], done: &[Done]) -> Result<(), OutOfMemory>
+fn put_relative(out: &mut Bytes, known: &[StagePart], done: &[Done]) -> Result<(), OutOfMemory>
     requires few { length done.now < 2 ^ 32 }
     requires short { All (λ f. IsShortStage (stage_of f)) done.now }
-    ensures { OnOk result (out.new ≡ out.old ++ stages_beside_text (map stage_view known.now) (map stage_of done.now)) }
+    ensures { OnOk result (out.new ≡ out.old ++ stages_relative_text (map stage_view known.now) (map stage_of done.now)) }
 {
     let kept = kept_of(known, done);
     put_u32(out, kept as u32)?;
@@ -82,7 +82,7 @@ fn put_beside(out: &mut Bytes, known: &[StagePart], done: &[Done]) -> Result<(),
 }
 
 /// How many stages in front are done alike in both.
-#[tactic(auto, unfolding(save_text::specs::DeltaText::Stages::kept_stages))]
+#[tactic(auto, unfolding(save_format::specs::DeltaText::Stages::kept_stages))]
 fn kept_of(known: &[StagePart], done: &[Done]) -> usize
     ensures value { result ≡ kept_stages (map stage_view known.now) (map stage_of done.now) }
     ensures few { result ≤ length done.now }

@@ -1,21 +1,21 @@
 //! Whether stages that a save says to be done can be: each stands for itself, by the recipe alone.
 
 ghost use Rattle.std.specs.Prelude.{◌≡◌, ◌-◌, ◌≤◌, ◌↔◌, All, Contains, IsTrue, None, SomeIff, length};
-ghost use Rattle.save_text.specs.ByteFields.Spelling.{InTurn};
+ghost use Rattle.save_format.specs.ByteFields.Spelling.{InTurn};
 ghost use Rattle.mem_files.specs.Names.{is_stripped_name};
 ghost use Rattle.mem_files.specs.Outputs.{IsContent};
 ghost use Rattle.mem_files.specs.Sound.{AreBytes};
 ghost use Rattle.report.specs.Reports.{ascend};
-ghost use Rattle.save_text.specs.SaveText.{after_left};
-ghost use Rattle.save_text.specs.Spelled.{IsSavedLeft};
-ghost use Rattle.wheeler.specs.Stages.{artefact_bytes};
-ghost use Rattle.wheeler.specs.Valid.{AreDone, AreFinished, HasMark, IsFinished, IsLeftLine, IsSmallMark};
+ghost use Rattle.save_format.specs.SaveText.{after_left};
+ghost use Rattle.save_format.specs.Spelled.{IsSavedLeft};
+ghost use Rattle.audit_rules.specs.Stages.{artefact_bytes};
+ghost use Rattle.audit_rules.specs.Valid.{AreDone, AreFinished, HasMark, IsFinished, IsLeftLine, IsSmallMark};
 
 use crate::stage::Done;
 use mem_files::{MAX_CONTENT, MAX_NAMES, is_stripped_name};
 use recipe::{Output, Recipe, Stage};
 use report::{LeftLine, Mark};
-use wheeler::MAX_ARTEFACTS;
+use audit_rules::MAX_ARTEFACTS;
 
 /// Whether these can be the first stages of the recipe that are done.
 pub(crate) fn are_done(recipe: &Recipe, done: &[Done]) -> bool
@@ -32,7 +32,7 @@ fn are_small(done: &[Done]) -> bool
     left_after(done, MAX_ARTEFACTS).is_some()
 }
 
-/// What is left of so many bytes behind all artefacts; `None` where they have more.
+/// What is left of so many bytes after all artefacts; `None` where they have more.
 fn left_after(done: &[Done], most: u64) -> Option<u64>
     ensures { SomeIff result (artefact_bytes done.now ≤ most) (most - artefact_bytes done.now) }
 {

@@ -2,33 +2,33 @@
 
 ghost use Rattle.audit_run.specs.Save.Inside.Tests.{is_of, is_place};
 ghost use Rattle.audit_run.specs.Save.Judged.{judged};
-ghost use Rattle.audit_run.specs.Save.Saves.{SaveAnswer, IsOf, IsPlace, Resumes, save_of};
+ghost use Rattle.audit_run.specs.Save.Saves.{SaveAnswer, IsOf, IsSavedPlace, Resumes, save_of};
 ghost use Rattle.recipe.specs.Kept.{IsRecipe};
-ghost use Rattle.recipe.specs.declared.contents.Said.{Said};
-ghost use Rattle.save_text.specs.SaveText.{SaveText};
-ghost use Rattle.save_text.specs.Spelled.{IsTextOfSave};
+ghost use Rattle.recipe.specs.declared.contents.RecipeContents.{RecipeContents};
+ghost use Rattle.save_format.specs.SaveText.{SaveText};
+ghost use Rattle.save_format.specs.Spelled.{IsTextOfSave};
 ghost use Rattle.std.specs.Prelude.{◌≡◌, ◌≢◌, ◌<◌, ◌↔◌, ℕ, Err, IsTrue, List, length};
-ghost use Rattle.wheeler.specs.Positions.{Position};
-ghost use Rattle.wheeler.specs.Valid.{IsInputs, IsPosition};
+ghost use Rattle.audit_rules.specs.Positions.{Position};
+ghost use Rattle.audit_rules.specs.Valid.{IsInputs, IsPosition};
 
 use crate::save::reading::SaveRefusal;
 
 /// What a text is judged as is an answer to it, and there is no other, where memory is not wanting.
 pub fn every_text_has_one_answer()
-    ensures answer { (recipe : Said) (inputs : List (List ℕ)) (text : List ℕ) → Resumes recipe inputs text (judged recipe inputs text) }
-    ensures settled { (recipe : Said) (inputs : List (List ℕ)) (text : List ℕ) → judged recipe inputs text ≢ Err SaveRefusal.OutOfMemory }
-    ensures one { (recipe : Said) (inputs : List (List ℕ)) (text : List ℕ) (first second : SaveAnswer recipe inputs text)
+    ensures answer { (recipe : RecipeContents) (inputs : List (List ℕ)) (text : List ℕ) → Resumes recipe inputs text (judged recipe inputs text) }
+    ensures settled { (recipe : RecipeContents) (inputs : List (List ℕ)) (text : List ℕ) → judged recipe inputs text ≢ Err SaveRefusal.OutOfMemory }
+    ensures one { (recipe : RecipeContents) (inputs : List (List ℕ)) (text : List ℕ) (first second : SaveAnswer recipe inputs text)
         → first.result ≡ second.result }
 {}
 
 /// The tests by which a text is judged are the rules of saves.
 pub fn the_tests_are_the_rules()
-    ensures of { (recipe : Said) (inputs : List (List ℕ)) (save : SaveText) → IsTrue (is_of recipe inputs save) ↔ IsOf recipe inputs save }
-    ensures place { (recipe : Said) (save : SaveText) → IsTrue (is_place recipe save) ↔ IsPlace recipe save }
+    ensures of { (recipe : RecipeContents) (inputs : List (List ℕ)) (save : SaveText) → IsTrue (is_of recipe inputs save) ↔ IsOf recipe inputs save }
+    ensures place { (recipe : RecipeContents) (save : SaveText) → IsTrue (is_place recipe save) ↔ IsSavedPlace recipe save }
 {}
 
 /// The texts of the save of every position have fewer than 4,294,967,296 bytes.
 pub fn saves_are_short()
-    ensures { (recipe : Said) (inputs : List (List ℕ)) (p : Position) (text : List ℕ) → IsRecipe recipe → IsInputs recipe inputs → IsPosition recipe p
+    ensures { (recipe : RecipeContents) (inputs : List (List ℕ)) (p : Position) (text : List ℕ) → IsRecipe recipe → IsInputs recipe inputs → IsPosition recipe p
         → IsTextOfSave (save_of recipe inputs p) text → length text < 4_294_967_296 }
 {}

@@ -2,16 +2,16 @@
 
 ghost use Rattle.std.specs.Prelude.{◌≡◌, ◌↔◌, ℕ, IsTrue, List, Ok, length, map};
 ghost use Rattle.ddc_base.specs.declared.digests.Digest.{Digest as DigestText};
-ghost use Rattle.save_text.specs.ByteFields.Reader.{several};
-ghost use Rattle.save_text.specs.SaveText.{SaveText, digest_at, parsed_save};
+ghost use Rattle.save_format.specs.ByteFields.Reader.{several};
+ghost use Rattle.save_format.specs.SaveText.{SaveText, digest_at, parsed_save};
 ghost use Rattle.audit_run.specs.Save.Saves.{IsOf, digest_of};
 
 use crate::save::reading::is_digest_of;
 use ddc_base::Bytes;
 use ddc_base::digests::Digest;
 use recipe::Recipe;
-use save_text::byte_fields::Cursor;
-use save_text::{InputPart, digest_of, origin_of};
+use save_format::byte_fields::Cursor;
+use save_format::{InputPart, digest_of, origin_of};
 
 /// Whether a text is a save of this recipe and these inputs. Of a text without the form nothing is said.
 pub(crate) fn is_text_of(text: &[u8], recipe: &Recipe, inputs: &[Bytes]) -> bool

@@ -6,14 +6,14 @@ ghost use Rattle.audit_run.specs.Save.Inside.Seen.{AreDigests};
 ghost use Rattle.guest_run.specs.Valid.{IsValid};
 ghost use Rattle.recipe.specs.Kept.{IsRecipe};
 ghost use Rattle.ddc_base.specs.declared.digests.Digest.{Digest};
-ghost use Rattle.save_text.specs.PatchText.Spelled.{IsPatched};
-ghost use Rattle.save_text.specs.SaveText.{parsed_save};
-ghost use Rattle.save_text.specs.Spelled.{IsStageText, IsTextOfSave};
-ghost use Rattle.save_text.specs.Seen.{stage_view};
-ghost use Rattle.save_text.specs.StateText.Seen.{state_view};
-ghost use Rattle.save_text.specs.StateText.StateText.{StateText};
-ghost use Rattle.wheeler.specs.Positions.{Position, at};
-ghost use Rattle.wheeler.specs.Valid.{IsInputs, IsPosition};
+ghost use Rattle.save_format.specs.PatchText.Spelled.{IsPatched};
+ghost use Rattle.save_format.specs.SaveText.{parsed_save};
+ghost use Rattle.save_format.specs.Spelled.{IsStageText, IsTextOfSave};
+ghost use Rattle.save_format.specs.Seen.{stage_view};
+ghost use Rattle.save_format.specs.StateText.Seen.{state_view};
+ghost use Rattle.save_format.specs.StateText.StateText.{StateText};
+ghost use Rattle.audit_rules.specs.Positions.{Position, at};
+ghost use Rattle.audit_rules.specs.Valid.{IsInputs, IsPosition};
 
 use crate::save::judging::are_done;
 use crate::save::origin::is_text_of;
@@ -23,11 +23,11 @@ use ddc_base::digests::Digest;
 use ddc_base::{Bytes, OutOfMemory, digest};
 use guest_run::{Guest, RunRam};
 use recipe::Recipe;
-use save_text::state_text::{self, TextRefusal};
-use save_text::{InputPart, Parts, StagePart, is_mappable};
+use save_format::state_text::{self, TextRefusal};
+use save_format::{InputPart, Parts, StagePart, is_mappable};
 use std::alloc::Global;
 use std::marker::Model;
-use wheeler::Finished;
+use audit_rules::Finished;
 
 /// Why a text is no save of an audit.
 #[derive(Clone, Copy, Debug, PartialEq, Eq)]
@@ -74,7 +74,7 @@ pub struct Resumed {
 
 impl Model for Resumed {
     ghost use Rattle.audit_run.specs.Save.Inside.Seen.{position_code};
-    ghost use Rattle.wheeler.specs.Positions.{Position, at};
+    ghost use Rattle.audit_rules.specs.Positions.{Position, at};
 
     ghost Value = { Position };
 
@@ -123,7 +123,7 @@ fn judged(
     ensures valid { IfOk result (λ p. IsValid p.at) }
 {
     let digest = recipe.digest();
-    let parts = match save_text::read(alloc, text) {
+    let parts = match save_format::read(alloc, text) {
         Ok(parts) => parts,
         Err(TextRefusal::Form(offset)) => return Err(SaveRefusal::Form(offset)),
         Err(TextRefusal::OutOfMemory) => return Err(wanting(recipe, inputs, text)),
@@ -191,7 +191,7 @@ pub(crate) fn place_of(
     alloc: Global,
     recipe: &Recipe,
     parts: Vec<StagePart>,
-    state: &state_text::Parts<'_>,
+    state: &state_text::StateParts<'_>,
 ) -> Result<Resumed, SaveRefusal>
     requires stages { All IsStageText (map stage_view parts.items) }
     requires state { (base : StateText) × IsPatched base (state_view state.now) }

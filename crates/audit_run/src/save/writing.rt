@@ -2,22 +2,22 @@
 
 ghost use Rattle.std.specs.Prelude.{◌≡◌, ◌<◌, ◌^◌, ◌++◌, All, IfOk, OnOk, length, map};
 ghost use Rattle.audit_run.specs.Save.Saves.{digest_of, save_of, stage_of};
-ghost use Rattle.save_text.specs.ByteFields.Spelling.{list_text};
-ghost use Rattle.save_text.specs.Spelled.{IsShortStage, digest_text, stage_text, text_of_save};
-ghost use Rattle.wheeler.specs.Positions.{at};
-ghost use Rattle.wheeler.specs.Valid.{IsInputs, IsPosition};
+ghost use Rattle.save_format.specs.ByteFields.Spelling.{list_text};
+ghost use Rattle.save_format.specs.Spelled.{IsShortStage, digest_text, stage_text, text_of_save};
+ghost use Rattle.audit_rules.specs.Positions.{at};
+ghost use Rattle.audit_rules.specs.Valid.{IsInputs, IsPosition};
 
 use crate::stage::Done;
 use checkpoints::put_state;
 use ddc_base::{Bytes, OutOfMemory, digest};
 use guest_run::{Guest, RunRam};
 use recipe::Recipe;
-use save_text::byte_fields::put_u32;
-use save_text::{MAGIC, put_stage};
+use save_format::byte_fields::put_u32;
+use save_format::{MAGIC, put_stage};
 use std::alloc::Global;
 
 /// The one text of an audit that stands in a stage that has the second form.
-#[tactic(auto, using(crate::proofs::SaveLemmas::Written::written), unfolding(save_text::specs::Spelled::save_text_in))]
+#[tactic(auto, using(crate::proofs::SaveLemmas::Written::written), unfolding(save_format::specs::Spelled::save_text_in))]
 pub fn write(
     alloc: Global,
     recipe: &Recipe,

@@ -1,6 +1,6 @@
 ghost use Rattle.std.specs.Prelude.{◌≡◌, []};
-ghost use Rattle.wheeler.specs.Contents.{bytes_of_content, content};
-ghost use Rattle.wheeler.specs.Stages.{contents};
+ghost use Rattle.audit_rules.specs.Contents.{bytes_of_content, content};
+ghost use Rattle.audit_rules.specs.Stages.{contents};
 
 use crate::stage::done::Done;
 use ddc_base::{Bytes, Name};
@@ -8,7 +8,7 @@ use recipe::{Content, Recipe};
 
 /// The bytes that a name stands for, among the inputs and the artefacts so far; none for a name that stands for none of them, which a
 /// recipe's rules exclude.
-#[tactic(auto, unfolding(wheeler::specs::Contents::content))]
+#[tactic(auto, unfolding(audit_rules::specs::Contents::content))]
 pub fn content<'a>(recipe: &Recipe, inputs: &'a [Bytes], done: &'a [Done], name: &Name) -> &'a [u8]
     ensures { result.now ≡ content recipe.now (contents inputs.now done.now) name.now }
 {

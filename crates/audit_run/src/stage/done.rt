@@ -3,7 +3,7 @@ ghost use Rattle.report.specs.Marks.{mark_of};
 
 use report::Mark;
 use std::marker::Model;
-use wheeler::Finished;
+use audit_rules::Finished;
 
 /// A stage that is done, seen as `Finished`, with the mark of its artefact, so that this is taken once.
 #[derive(Drop)]
@@ -13,7 +13,7 @@ pub struct Done {
 }
 
 impl Model for Done {
-    ghost use Rattle.wheeler.specs.declared.answer.Finished.{Finished};
+    ghost use Rattle.audit_rules.specs.declared.answer.Finished.{Finished};
     ghost use Rattle.std.specs.Prelude.{◌≡◌};
     ghost use Rattle.report.specs.Marks.{mark_of};
 

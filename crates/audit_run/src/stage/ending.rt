@@ -6,7 +6,7 @@ ghost use Rattle.mem_files.specs.Outputs.{out};
 ghost use Rattle.recipe.specs.Kept as kept;
 ghost use Rattle.std.specs.Option.{option_copied};
 ghost use Rattle.std.specs.Prelude.{◌≡◌, ◌≤◌, IfOk, OnErr, Some};
-ghost use Rattle.wheeler.specs.Stages.{artefact_bytes, exited_with, finished, output_of};
+ghost use Rattle.audit_rules.specs.Stages.{artefact_bytes, exited_with, finished, output_of};
 
 use crate::stage::done::Done;
 use crate::stage::left::{Known, left_lines};
@@ -16,7 +16,7 @@ use mem_files::Files;
 use recipe::{Output, Recipe, Stage};
 use report::Mark;
 use std::alloc::Global;
-use wheeler::{Fault, Finished, MAX_ARTEFACTS, RunCause};
+use audit_rules::{StageFault, Finished, MAX_ARTEFACTS, RunCause};
 
 /// What a stage's run comes to whose program exited with a status at a step, counted from 1.
 ///
@@ -30,7 +30,7 @@ pub fn exited(
     files: &Files,
     status: u8,
     step: u64,
-) -> Result<Result<Done, Fault>, OutOfMemory>
+) -> Result<Result<Done, StageFault>, OutOfMemory>
     requires recipe { kept.IsRecipe recipe.now }
     requires stage { IsStageOf recipe.now stage.now }
     requires small { artefact_bytes done.now ≤ 1_073_741_824 }
@@ -38,16 +38,16 @@ pub fn exited(
     ensures want { OnErr result (Makes stage.now done.now status files.now) }
 {
     if status != 0 {
-        return Ok(Err(Fault::Runs(RunCause::Status(status), step)));
+        return Ok(Err(StageFault::Runs(RunCause::Status(status), step)));
     }
     let Some(made) = made_by(stage, files) else {
-        return Ok(Err(Fault::Runs(RunCause::NoOutput, step)));
+        return Ok(Err(StageFault::Runs(RunCause::NoOutput, step)));
     };
     if artefact_bytes(done) + made.len() as u64 > MAX_ARTEFACTS {
-        return Ok(Err(Fault::Runs(RunCause::Crowded, step)));
+        return Ok(Err(StageFault::Runs(RunCause::Crowded, step)));
     }
     match check_of(alloc, recipe, stage, inputs, done, made)? {
-        Some(cause) => Ok(Err(Fault::Checks(cause))),
+        Some(cause) => Ok(Err(StageFault::Checks(cause))),
         None => Ok(Ok(finish(alloc, stage, files, step, made)?)),
     }
 }
@@ -76,7 +76,7 @@ fn artefact_bytes(done: &[Done]) -> u64
 }
 
 /// The stage that is done: what its program left, with the marks, and a copy of the artefact, whose mark is taken once.
-#[tactic(auto, unfolding(wheeler::specs::Stages::finished))]
+#[tactic(auto, unfolding(audit_rules::specs::Stages::finished))]
 fn finish(
     alloc: Global,
     stage: &Stage,

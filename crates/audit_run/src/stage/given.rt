@@ -8,8 +8,8 @@ ghost use Rattle.mem_files.specs.Names.{stripped};
 ghost use Rattle.mem_files.specs.Outputs.{IsContent};
 ghost use Rattle.std.specs.FinMap as map;
 ghost use Rattle.std.specs.Prelude.{◌≡◌, [], All, IfOk, None, OnOk};
-ghost use Rattle.wheeler.specs.Contents.{box_of};
-ghost use Rattle.wheeler.specs.Stages.{contents, start_stage};
+ghost use Rattle.audit_rules.specs.Contents.{box_of};
+ghost use Rattle.audit_rules.specs.Stages.{contents, start_stage};
 
 use crate::stage::contents::content;
 use crate::stage::done::Done;
@@ -18,9 +18,9 @@ use guest_run::{Guest, RunBox, RunRam, StartRefusal};
 use mem_files::PlaceRefusal;
 use recipe::{Recipe, Stage};
 use std::alloc::Global;
-use wheeler::StartCause;
+use audit_rules::StartCause;
 
-/// What a stage's program is given; texts and contents are lent.
+/// What a stage's program is given; texts and contents are borrowed.
 pub fn box_of<'a>(
     alloc: Global,
     recipe: &'a Recipe,

@@ -6,7 +6,7 @@ ghost use Rattle.mem_files.specs.Names.{is_stripped_name};
 ghost use Rattle.mem_files.specs.Outputs.{left};
 ghost use Rattle.mem_files.specs.Sound.{IsSound};
 ghost use Rattle.report.specs.Marks.{mark_of};
-ghost use Rattle.wheeler.specs.Stages.{marked_left};
+ghost use Rattle.audit_rules.specs.Stages.{marked_left};
 
 use ddc_base::{Bytes, OutOfMemory};
 use mem_files::Files;

@@ -1,9 +1,9 @@
 //! The report of all stages.
 
 ghost use Rattle.std.specs.Prelude.{◌≡◌, [], IfOk, OnOk};
-ghost use Rattle.wheeler.specs.Bench.{compared, compare_line, compare_lines, input_lines, bench_report, stage_line, stage_lines};
-ghost use Rattle.wheeler.specs.Contents.{check_language};
-ghost use Rattle.wheeler.specs.Stages.{contents};
+ghost use Rattle.audit_rules.specs.Bench.{compared, compare_line, compare_lines, input_lines, bench_report, stage_line, stage_lines};
+ghost use Rattle.audit_rules.specs.Contents.{check_language};
+ghost use Rattle.audit_rules.specs.Stages.{contents};
 
 use crate::stage::contents::content;
 use crate::stage::done::Done;
@@ -18,7 +18,7 @@ use report::{
 use std::alloc::Global;
 
 /// The report of all stages, with the comparisons.
-#[tactic(auto, unfolding(wheeler::specs::Bench::bench_report))]
+#[tactic(auto, unfolding(audit_rules::specs::Bench::bench_report))]
 pub fn report_of(
     alloc: Global,
     recipe: &Recipe,
@@ -133,7 +133,7 @@ fn copied(alloc: Global, line: &LeftLine) -> Result<LeftLine, OutOfMemory>
 }
 
 /// The language in which a stage's artefact is checked.
-#[tactic(auto, unfolding(wheeler::specs::Contents::check_language))]
+#[tactic(auto, unfolding(audit_rules::specs::Contents::check_language))]
 fn check_language(recipe: &Recipe, stage: &Stage) -> Option<Language>
     ensures { result ≡ check_language recipe.now stage.now }
 {

@@ -2,9 +2,9 @@
 
 ghost use Rattle.std.specs.Prelude.{◌≡◌, ◌≤◌, ◌^◌, IfOk, map, option_map};
 ghost use Rattle.recipe.specs.Kept as kept;
-ghost use Rattle.wheeler.specs.SourceCheck.Checks.{joined_files};
-ghost use Rattle.wheeler.specs.Contents.{check_of, check_source, content, defined, text_check, text_of};
-ghost use Rattle.wheeler.specs.Stages.{contents};
+ghost use Rattle.audit_rules.specs.SourceCheck.Checks.{joined_files};
+ghost use Rattle.audit_rules.specs.Contents.{check_of, check_source, content, defined, text_check, text_of};
+ghost use Rattle.audit_rules.specs.Stages.{contents};
 
 use crate::check::check;
 use crate::stage::contents::content;
@@ -13,10 +13,10 @@ use ddc_base::languages::Language;
 use ddc_base::{Bytes, Name, OutOfMemory};
 use recipe::{Recipe, Source, SourceLanguage, Stage};
 use std::alloc::Global;
-use wheeler::source_check::CheckCause;
+use audit_rules::source_check::CheckCause;
 
 /// What is wrong with a stage's artefact; `None` where it is right, or unchecked.
-#[tactic(auto, unfolding(wheeler::specs::Contents::check_of))]
+#[tactic(auto, unfolding(audit_rules::specs::Contents::check_of))]
 pub(crate) fn check_of(
     alloc: Global,
     recipe: &Recipe,
@@ -58,7 +58,7 @@ pub(crate) fn defined(language: SourceLanguage) -> Option<Language>
 }
 
 /// The check against a source's text, which is made only where the source has not just one file.
-#[tactic(auto, unfolding(wheeler::specs::Contents::text_of))]
+#[tactic(auto, unfolding(audit_rules::specs::Contents::text_of))]
 fn check_text(
     alloc: Global,
     recipe: &Recipe,

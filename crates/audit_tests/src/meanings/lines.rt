@@ -3,7 +3,7 @@
 use crate::meanings::recipes::{CHECKED, FRONT, INPUTS, KEYS, UNCHECKED};
 use crate::meanings::with_stages;
 use ddc_base::{Name, OutOfMemory};
-use meaning::{Assembly, Assumption, assumptions, laws};
+use wheeler::{Assembly, Assumption, assumptions, laws};
 use recipe::{Recipe, read};
 use std::alloc::Global;
 use std::mem::drop;

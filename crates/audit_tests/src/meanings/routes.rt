@@ -4,7 +4,7 @@ ghost use Rattle.std.specs.Prelude.{◌≤◌, length};
 
 use crate::meanings::lines::{put_lines, recipe_text};
 use ddc_base::OutOfMemory;
-use meaning::assumptions_for;
+use wheeler::assumptions_for;
 use recipe::{Recipe, read};
 use std::alloc::Global;
 use std::mem::drop;
@@ -42,7 +42,7 @@ static ROUTES: [Row; 14] = [
         r#"{ name = "a", program = "seed", $, becomes = "other" }, { name = "b", program = "a", $, becomes = "words" }, { name = "c", program = "b", $ }"#,
         "1\nimplements seed zero\n2\nimplements seed zero\ncompiles zero a other\n3\nimplements seed zero\ncompiles zero a other\ncompiles other b words\n",
     ),
-    // a fork behind a shared program
+    // a fork after a shared program
     (
         r#"{ name = "a", program = "seed", $, becomes = "other" }, { name = "b", program = "a", $, becomes = "words" }, { name = "c", program = "a", $, becomes = "one" }, { name = "d", program = "c", $ }"#,
         "1\nimplements seed zero\n2\nimplements seed zero\ncompiles zero a other\n3\nimplements seed zero\ncompiles zero a other\n4\nimplements seed zero\ncompiles zero a other\ncompiles other c one\n",

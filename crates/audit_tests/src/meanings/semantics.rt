@@ -4,14 +4,14 @@ ghost use Rattle.std.specs.Prelude.{◌≡◌, ℕ, List, None};
 ghost use Rattle.std.proofs.Common.{sym, ◌∙◌};
 ghost use Rattle.mem_files.specs.Outputs.{OutputPlace};
 ghost use Rattle.guest_run.specs.Setting.{Setting};
-ghost use Rattle.meaning.specs.Assembly.{ValueLeaves, ValueLeavesValue};
-ghost use Rattle.meaning.specs.Largest.{AllImplement, CompilesNoMore};
-ghost use Rattle.meaning.specs.Values.{binary_of};
-ghost use Rattle.meaning.specs.WithMachineCode.{MachineCodeOr};
-ghost use Rattle.wheeler.specs.Contents.{SourceText};
-ghost use Rattle.wheeler.specs.SourceCheck.Checks.{joined_files};
+ghost use Rattle.wheeler.specs.Assembly.{ValueLeaves, ValueLeavesValue};
+ghost use Rattle.wheeler.specs.Largest.{AllImplement, CompilesNoMore};
+ghost use Rattle.wheeler.specs.Values.{binary_of};
+ghost use Rattle.wheeler.specs.WithMachineCode.{MachineCodeOr};
+ghost use Rattle.audit_rules.specs.Contents.{SourceText};
+ghost use Rattle.audit_rules.specs.SourceCheck.Checks.{joined_files};
 
-use meaning::{Assembly, MacroAssembly, OtherLanguages, semantics_laws};
+use wheeler::{Assembly, MacroAssembly, OtherLanguages, semantics_laws};
 
 /// A language whose sources prescribe their own text at every output.
 struct Quoting;

@@ -1,6 +1,6 @@
 //! Deltas of the worked recipe. What they come to is what whole saves say, or was written down from docs/reference/delta.md.
 
-use crate::saves::kept::{delta_from, delta_of_none, save_beside};
+use crate::saves::kept::{delta_from, delta_of_none, save_relative};
 use crate::saves::saves::{old_save_at, save_at};
 use crate::saves::worked::{Edit, RECIPE, edited, given};
 use audit_run::{DeltaRefusal, SaveRefusal};
@@ -8,7 +8,7 @@ use ddc_base::{Bytes, OutOfMemory};
 use std::alloc::Global;
 use std::process::Abort;
 
-/// The delta of the worked audit against a save of it, behind so many steps more.
+/// The delta of the worked audit against a save of it, after so many steps more.
 fn delta_of(alloc: Global, base: &[u8], more: u64) -> Result<Bytes, OutOfMemory> {
     if more < 1 {
         return Err(OutOfMemory);
@@ -22,7 +22,7 @@ fn delta_of(alloc: Global, base: &[u8], more: u64) -> Result<Bytes, OutOfMemory>
 /// The save of the worked audit that a base and a delta say.
 fn resumed(alloc: Global, base: &[u8], delta: &[u8]) -> Result<Bytes, DeltaRefusal> {
     match given(alloc, RECIPE, b"abc") {
-        Ok((recipe, inputs)) => save_beside(alloc, recipe, inputs, base, delta),
+        Ok((recipe, inputs)) => save_relative(alloc, recipe, inputs, base, delta),
         Err(OutOfMemory) => Err(DeltaRefusal::OutOfMemory),
     }
 }
@@ -56,7 +56,7 @@ fn saves(alloc: Global) -> Result<Vec<Bytes>, OutOfMemory> {
     Ok(saves)
 }
 
-/// Whether a later pause, so many steps behind the base, comes back beside it.
+/// Whether a later pause, so many steps after the base, comes back beside it.
 fn comes_back(alloc: Global, base: &[u8], more: u64, save: &[u8]) -> bool {
     match delta_of(alloc, base, more) {
         Ok(delta) => says(alloc, base, delta.as_slice(), save),
@@ -64,7 +64,7 @@ fn comes_back(alloc: Global, base: &[u8], more: u64, save: &[u8]) -> bool {
     }
 }
 
-/// Whether each of these later pauses, the first of them a step behind the base, comes back beside it.
+/// Whether each of these later pauses, the first of them a step after the base, comes back beside it.
 fn come_back(alloc: Global, base: &[u8], later: &[Bytes]) -> bool {
     let mut more = 0;
     for save in later {
@@ -93,17 +93,17 @@ fn all_come_back_from(alloc: Global, first: usize) -> bool {
 }
 
 #[test]
-fn pauses_come_back_beside_the_first_one(rt: HostRuntime) {
+fn pauses_come_back_relative_the_first_one(rt: HostRuntime) {
     assert!(rt; all_come_back_from(rt.alloc(), 0));
 }
 
 #[test]
-fn pauses_come_back_beside_the_last_one_of_a_stage(rt: HostRuntime) {
+fn pauses_come_back_relative_the_last_one_of_a_stage(rt: HostRuntime) {
     assert!(rt; all_come_back_from(rt.alloc(), 30));
 }
 
 #[test]
-fn pauses_come_back_beside_the_next_stages_start(rt: HostRuntime) {
+fn pauses_come_back_relative_the_next_stages_start(rt: HostRuntime) {
     assert!(rt; all_come_back_from(rt.alloc(), 31));
 }
 
@@ -115,12 +115,12 @@ fn check_pairs(rt: &impl Abort, alloc: Global, saves: &[Bytes]) {
 }
 
 #[test]
-fn each_pause_comes_back_beside_the_one_before_it(rt: HostRuntime) {
+fn each_pause_comes_back_relative_the_one_before_it(rt: HostRuntime) {
     let saves = saves(rt.alloc()).expect(&rt, "saves");
     check_pairs(&rt, rt.alloc(), saves.as_slice());
 }
 
-/// Whether this is the delta, behind 5 steps more, of the worked audit against its save after so many steps.
+/// Whether this is the delta, after 5 steps more, of the worked audit against its save after so many steps.
 fn is_delta_at(alloc: Global, steps: u64, delta: &[u8]) -> bool {
     match save_at(alloc, steps) {
         Ok(base) => is_delta(alloc, base.as_slice(), delta),
@@ -200,7 +200,7 @@ fn an_audit_has_a_delta_against_itself(rt: HostRuntime) {
     }
 }
 
-/// Whether the delta behind so many steps more is so long.
+/// Whether the delta after so many steps more is so long.
 fn is_long(alloc: Global, base: &[u8], more: u64, length: usize) -> bool {
     match delta_of(alloc, base, more) {
         Ok(delta) => delta.len() == length,
@@ -288,8 +288,8 @@ fn worked_texts(alloc: Global) -> Result<Texts, OutOfMemory> {
     }
 }
 
-/// Whether this is why a delta is refused beside a base behind these edits.
-fn is_refused_beside(
+/// Whether this is why a delta is refused beside a base after these edits.
+fn is_refused_relative(
     alloc: Global,
     base: &[u8],
     delta: &Bytes,
@@ -305,7 +305,7 @@ fn is_refused_beside(
 /// The same of a row's edits.
 fn is_refused(alloc: Global, texts: &Texts, row: &Row) -> bool {
     match edited(alloc, texts.base.as_slice(), row.0) {
-        Ok(base) => is_refused_beside(alloc, base.as_slice(), &texts.delta, row.1, row.2),
+        Ok(base) => is_refused_relative(alloc, base.as_slice(), &texts.delta, row.1, row.2),
         Err(OutOfMemory) => false,
     }
 }
@@ -332,10 +332,10 @@ fn check_kept(rt: &impl Abort, alloc: Global, texts: &Texts) {
         (40, 1, &[1]),
     ];
     let could = Some(DeltaRefusal::Form(48));
-    assert!(rt; is_refused_beside(alloc, base, &texts.delta, &edits[..2], could));
-    assert!(rt; is_refused_beside(alloc, base, &texts.delta, &edits[..3], NEITHER));
-    // It stands behind the kept one: then no stage is left to be the present one.
-    assert!(rt; is_refused_beside(alloc, base, &texts.delta, &edits, STATE));
+    assert!(rt; is_refused_relative(alloc, base, &texts.delta, &edits[..2], could));
+    assert!(rt; is_refused_relative(alloc, base, &texts.delta, &edits[..3], NEITHER));
+    // It stands after the kept one: then no stage is left to be the present one.
+    assert!(rt; is_refused_relative(alloc, base, &texts.delta, &edits, STATE));
 }
 
 /// The stage that is done, at 176 of its save, in the place of one that is kept: it could have been; with another step it could not.
@@ -349,10 +349,10 @@ fn check_ends(rt: &impl Abort, alloc: Global, texts: &Texts) {
     let base = texts.base.as_slice();
     let end = texts.delta.len();
     let longer = Some(DeltaRefusal::Form(end as u64));
-    assert!(rt; is_refused_beside(alloc, base, &texts.delta, &[(end, 0, &[0])], longer));
+    assert!(rt; is_refused_relative(alloc, base, &texts.delta, &[(end, 0, &[0])], longer));
     let last = end.saturating_sub(1);
     let shorter = Some(DeltaRefusal::Form(last as u64));
-    assert!(rt; is_refused_beside(alloc, base, &texts.delta, &[(last, 1, b"")], shorter));
+    assert!(rt; is_refused_relative(alloc, base, &texts.delta, &[(last, 1, b"")], shorter));
 }
 
 /// A delta that is longer or shorter by a byte. It ends with the bytes that say that both streams are the base's.

@@ -3,8 +3,8 @@
 ghost use Rattle.std.specs.Prelude.{◌≤◌};
 ghost use Rattle.audit_run.specs.Delta.Deltas.{IsBaseAt};
 ghost use Rattle.audit_run.specs.Saved.{IsOn};
-ghost use Rattle.wheeler.specs.Positions.{Position};
-ghost use Rattle.wheeler.specs.Valid.{IsInputs};
+ghost use Rattle.audit_rules.specs.Positions.{Position};
+ghost use Rattle.audit_rules.specs.Valid.{IsInputs};
 
 use audit_run::{Audit, DeltaRefusal, Progress};
 use ddc_base::{Bytes, OutOfMemory};
@@ -12,8 +12,8 @@ use recipe::{Inputs, Recipe};
 use std::alloc::Global;
 use std::mem::drop;
 
-/// The delta of an audit behind so many steps more, against a save of it.
-fn delta_behind(audit: &mut Audit, base: &[u8], more: u64) -> Result<Bytes, OutOfMemory>
+/// The delta of an audit after so many steps more, against a save of it.
+fn delta_after(audit: &mut Audit, base: &[u8], more: u64) -> Result<Bytes, OutOfMemory>
     requires some { 1 ≤ more }
     requires base { (b : Position) × IsBaseAt audit.old.recipe audit.old.inputs b base.now }
 {
@@ -23,7 +23,7 @@ fn delta_behind(audit: &mut Audit, base: &[u8], more: u64) -> Result<Bytes, OutO
     }
 }
 
-/// The delta of the audit that a base says, behind so many steps more.
+/// The delta of the audit that a base says, after so many steps more.
 pub fn delta_from(
     alloc: Global,
     recipe: Recipe,
@@ -36,7 +36,7 @@ pub fn delta_from(
 {
     match Audit::resume(alloc, recipe, inputs, base) {
         Ok(mut audit) => {
-            let text = delta_behind(&mut audit, base, more);
+            let text = delta_after(&mut audit, base, more);
             drop(audit);
             text
         }
@@ -52,7 +52,7 @@ fn save_of(audit: &Audit) -> Result<Bytes, DeltaRefusal>
 }
 
 /// The save of the audit that a base and a delta say.
-pub fn save_beside(
+pub fn save_relative(
     alloc: Global,
     recipe: Recipe,
     inputs: Inputs,

@@ -142,7 +142,7 @@ static PRESENT: &[Row] = &[
     ),
 ];
 
-/// Whether this is why a text is refused behind these edits.
+/// Whether this is why a text is refused after these edits.
 fn is_refused(
     alloc: Global,
     text: &[u8],
@@ -197,7 +197,7 @@ fn put_left(files: &mut Bytes, number: u16) -> Result<(), OutOfMemory> {
     files.extend(&[0; 36])
 }
 
-/// Adds so many left files, behind how many they are with the others.
+/// Adds so many left files, after how many they are with the others.
 fn put_more(files: &mut Bytes, more: u16) -> Result<(), OutOfMemory> {
     files.extend(&more.saturating_add(2).to_le_bytes())?;
     files.extend(&[0; 2])?;

@@ -1,5 +1,5 @@
 ghost use Rattle.std.specs.Prelude.{◌≤◌};
-ghost use Rattle.wheeler.specs.Valid.{IsInputs};
+ghost use Rattle.audit_rules.specs.Valid.{IsInputs};
 
 use crate::place_after;
 use crate::saves::worked::{RECIPE, REPORT, edited, given, with};
@@ -10,8 +10,8 @@ use std::alloc::Global;
 use std::mem::drop;
 use std::process::Abort;
 
-/// The save of an audit behind so many steps more.
-fn save_behind(audit: &mut Audit, steps: u64) -> Result<Bytes, OutOfMemory>
+/// The save of an audit after so many steps more.
+fn save_following(audit: &mut Audit, steps: u64) -> Result<Bytes, OutOfMemory>
     requires { 1 ≤ steps }
 {
     match audit.advance(steps) {
@@ -31,7 +31,7 @@ fn save_after(
     requires some { 1 ≤ steps }
 {
     let mut audit = Audit::new(alloc, recipe, inputs);
-    let save = save_behind(&mut audit, steps);
+    let save = save_following(&mut audit, steps);
     drop(audit);
     save
 }
@@ -170,7 +170,7 @@ fn take_piece(alloc: Global, last: &mut Came, steps: u64) -> bool
     }
 }
 
-/// Whether the report of the worked audit comes in pieces of so many steps, which is saved and resumed behind each of them.
+/// Whether the report of the worked audit comes in pieces of so many steps, which is saved and resumed after each of them.
 fn reports_by(alloc: Global, last: &mut Came, steps: u64) -> bool
     requires { 1 ≤ steps }
 {
@@ -251,7 +251,7 @@ fn an_audit_goes_on_from_what_a_save_says(rt: HostRuntime) {
 }
 
 /// The save after so many steps as the first form has it: both magics end with another byte, and nothing says what is reserved. The state
-/// begins at 176 in the first stage, and at 577 behind it.
+/// begins at 176 in the first stage, and at 577 after it.
 pub(crate) fn old_save_at(alloc: Global, steps: u64) -> Result<Bytes, OutOfMemory> {
     let (magic, reserved) = if steps < 32 { (183, 448) } else { (584, 849) };
     let text = save_at(alloc, steps)?;
@@ -276,11 +276,11 @@ fn an_old_save_has_the_undivided_report(rt: HostRuntime) {
     }
 }
 
-/// Whether an audit is saved like this behind so many steps more.
+/// Whether an audit is saved like this after so many steps more.
 fn saves_as(audit: &mut Audit, steps: u64, wanted: &[u8]) -> bool
     requires { 1 ≤ steps }
 {
-    match save_behind(audit, steps) {
+    match save_following(audit, steps) {
         Ok(save) => save.as_slice() == wanted,
         Err(OutOfMemory) => false,
     }
@@ -300,7 +300,7 @@ fn is_saved_as(alloc: Global, text: &[u8], steps: u64, wanted: &[u8]) -> bool
     }
 }
 
-/// The same of its save after so many steps, behind 5 steps more.
+/// The same of its save after so many steps, after 5 steps more.
 fn is_saved_at(alloc: Global, text: &[u8], steps: u64) -> bool {
     match save_at(alloc, steps) {
         Ok(wanted) => is_saved_as(alloc, text, 5, wanted.as_slice()),

@@ -1,7 +1,7 @@
 //! A worked recipe, its files and its report; the digests are those of `sha256sum`.
 
 ghost use Rattle.std.specs.Prelude.{IfOk};
-ghost use Rattle.wheeler.specs.Valid.{IsInputs};
+ghost use Rattle.audit_rules.specs.Valid.{IsInputs};
 
 use crate::saves::are_inputs;
 use ddc_base::{Bytes, OutOfMemory, read_hex};
@@ -191,7 +191,7 @@ fn edit_all(
     Ok(())
 }
 
-/// A text behind edits, one after the other.
+/// A text after edits, one after the other.
 pub(crate) fn edited(
     alloc: Global,
     text: &[u8],

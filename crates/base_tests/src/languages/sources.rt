@@ -140,7 +140,7 @@ fn items_of_a_source(rt: HostRuntime) {
         assert_eq!(rt; shown_of(rt.alloc(), source, index), *wanted);
     }
     laws::same_at_every_base();
-    laws::bytes_end_behind_the_last();
+    laws::bytes_end_after_the_last();
     laws::names_do_not_matter();
     laws::plain_sources();
     hex_langs::items::laws::plain_sources();

@@ -10,8 +10,8 @@ use Rattle.std.specs.FinMap.Entries.{below_all}
 use Rattle.std.proofs.lemmas.Bool.{false≢true}
 use Rattle.std.proofs.lemmas.Option.{same_Some}
 use Rattle.std.proofs.lemmas.List.Elements.{All-cons, All-nil, All-head, All-tail, All-map}
-use Rattle.mem_files.specs.declared.slot.Slot.{Slot}
-use Rattle.mem_files.specs.declared.slot.Slot.TheVariants.{Input, Stream1, Stream2, File}
+use Rattle.mem_files.specs.declared.open_file.OpenFile.{OpenFile}
+use Rattle.mem_files.specs.declared.open_file.OpenFile.TheVariants.{Input, Stream1, Stream2, File}
 use Rattle.mem_files.specs.Names.{bytes_cmp}
 use Rattle.mem_files.specs.World.{World, is_named, is_of, is_open}
 use Rattle.mem_files.specs.Sound.{IsSound}
@@ -102,7 +102,7 @@ module _ (w : World) (sound : IsSound w) where
   pub good_order : AreOrdered (lists_of w)
   good_order = record {
     files_rise = ap (λ (es : List (ℕ × List ℕ)). fin.is_sorted nat_cmp es) (contents_listed w (fin.entries w.files)) ∙ is_true _ files_sorted;
-    slots_rise = is_true _ (fin.entries_sorted w.slots);
+    open_files_rise = is_true _ (fin.entries_sorted w.open_files);
     two_streams = refl;
   }
 
@@ -123,8 +123,8 @@ module _ (w : World) (sound : IsSound w) where
             (All-cons IsContent w.stream2 [] (record { bytes = sound.within.stream2_bytes; small = sound.within.small_stream2 }) (All-nil IsContent));
         small_total = (let small = sound.within.small_total in
             omega (arith, two_sum (w.stream1 ∷ w.stream2 ∷ []) refl, values_sum (shown (fin.entries w.files)), ap (λ es. sum_by length (map (λ e. e.1) es)) (contents_listed w (fin.entries w.files))));
-        low_slots = λ k d inside. sound.within.low_slots _ _ (all_got w.slots k d inside);
-        good_slots = λ k d inside. sound.within.good_slots _ _ (all_got w.slots k d inside);
+        low_open_files = λ k d inside. sound.within.low_open_files _ _ (all_got w.open_files k d inside);
+        good_open_files = λ k d inside. sound.within.good_open_files _ _ (all_got w.open_files k d inside);
       }
 
   number_listed : (n : ℕ) (es : List (ℕ × List ℕ)) → IsSome (fin.find nat_cmp n es) → list_any (λ f. eqb f.number n) (shown es) ≡ true
@@ -134,24 +134,24 @@ module _ (w : World) (sound : IsSound w) where
     | false ↦ λ _ later. or_right (eqb e.0 n) _ (number_listed n es later)
   ] refl held
 
-  slot_listed : (fd : ℕ) (slot : Slot) → fin.get w.slots fd ≡ Some slot → is_listed (shown (fin.entries w.files)) slot ≡ true
-  slot_listed fd Input is = refl
-  slot_listed fd Stream1 is = refl
-  slot_listed fd Stream2 is = refl
-  slot_listed fd (File number cursor access) is =
-      number_listed number (fin.entries w.files) (sym (ap is_some (fin.get-entries w.files number)) ∙ sound.joined.open_held fd number cursor access is)
+  open_file_listed : (fd : ℕ) (open_file : OpenFile) → fin.get w.open_files fd ≡ Some open_file → is_listed (shown (fin.entries w.files)) open_file ≡ true
+  open_file_listed fd Input is = refl
+  open_file_listed fd Stream1 is = refl
+  open_file_listed fd Stream2 is = refl
+  open_file_listed fd (File number file_offset access) is =
+      number_listed number (fin.entries w.files) (sym (ap is_some (fin.get-entries w.files number)) ∙ sound.joined.open_held fd number file_offset access is)
 
   some_name : (o : Option (List ℕ × ℕ)) → is_some (option_map (λ e. e.0) o) ≡ is_some o
   some_name None = refl
   some_name (Some e) = refl
 
-  file_used : (n : ℕ) → IsSome (fin.get w.files n) → (is_some (name_of_file w n) || list_any (λ e. is_of n e.1) (fin.entries w.slots)) ≡ true
+  file_used : (n : ℕ) → IsSome (fin.get w.files n) → (is_some (name_of_file w n) || list_any (λ e. is_of n e.1) (fin.entries w.open_files)) ≡ true
   file_used n held = or_cases (is_named w n) (is_open w n) (sound.joined.used n held)
       (λ named. or_left (is_some (name_of_file w n)) _ (some_name (find (λ e. eqb e.1 n) (fin.entries w.names)) ∙ is_some-found n (fin.entries w.names) ∙ named))
-      (λ opened. or_right (is_some (name_of_file w n)) _ (sym (any_value n (fin.entries w.slots)) ∙ opened))
+      (λ opened. or_right (is_some (name_of_file w n)) _ (sym (any_value n (fin.entries w.open_files)) ∙ opened))
 
   pub good_join : AreJoined (lists_of w)
   good_join = record {
-    held = λ k d inside. slot_listed _ _ (all_got w.slots k d inside);
-    used = files_all (λ f. IsTrue (is_used (fin.entries w.slots) f)) (λ e is. file_used e.0 (ap is_some is));
+    held = λ k d inside. open_file_listed _ _ (all_got w.open_files k d inside);
+    used = files_all (λ f. IsTrue (is_used (fin.entries w.open_files) f)) (λ e is. file_used e.0 (ap is_some is));
   }

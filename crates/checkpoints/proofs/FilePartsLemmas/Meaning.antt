@@ -7,14 +7,14 @@ use Rattle.std.proofs.lemmas.Bool.{false≢true}
 use Rattle.std.proofs.lemmas.Bool.Decides.{nat_tests}
 use Rattle.std.proofs.lemmas.List.Elements.{All-head, All-tail, All-cons, All-nil}
 use Rattle.std.proofs.lemmas.Map.Text.{is_eq-slice_cmp}
-use Rattle.mem_files.specs.declared.slot.Slot.{Slot}
-use Rattle.mem_files.specs.declared.slot.Slot.TheVariants.{Input, Stream1, Stream2, File}
+use Rattle.mem_files.specs.declared.open_file.OpenFile.{OpenFile}
+use Rattle.mem_files.specs.declared.open_file.OpenFile.TheVariants.{Input, Stream1, Stream2, File}
 use Rattle.mem_files.specs.Names.{bytes_cmp}
 use Rattle.mem_files.specs.Limits.{most_content, most_names, most_total}
-use Rattle.mem_files.specs.Sound.{AreBytes, IsSlotAt}
+use Rattle.mem_files.specs.Sound.{AreBytes, IsOpenFileAt}
 use Rattle.mem_files.specs.Outputs.{IsContent}
 use Rattle.mem_files.specs.Lists.{ListedFile, FileLists, named, with_name, IsHeldName, is_listed, is_used, AreInRange, AreJoined}
-use Rattle.checkpoints.specs.FileParts.Inside.Judged.{is_good_name, is_good_file, is_slot_at, is_good_slot, is_called, is_taken, have_own_names, size, in_range, are_joined}
+use Rattle.checkpoints.specs.FileParts.Inside.Judged.{is_good_name, is_good_file, is_open_file_at, is_good_open_file, is_called, is_taken, have_own_names, size, in_range, are_joined}
 use Rattle.checkpoints.specs.FileParts.Inside.Views.{AreParts, HasBytes}
 
 first : (a b : Bool) → (a && b) ≡ true → a ≡ true
@@ -120,17 +120,17 @@ names_own (f ∷ files) h = let parts = at f.name h in both (not (is_taken f.nam
     at (Some name) h = (free_name name files h.0, h.1)
 
 -- descriptors
-slot_right : (fd : ℕ) (slot : Slot) → is_slot_at fd slot ≡ true → IsSlotAt fd slot
-slot_right fd Input h = eqb-true fd 0 h
-slot_right fd Stream1 h = eqb-true fd 1 h
-slot_right fd Stream2 h = eqb-true fd 2 h
-slot_right fd (File number cursor access) h = grind (arith, nat_tests)
+open_file_right : (fd : ℕ) (open_file : OpenFile) → is_open_file_at fd open_file ≡ true → IsOpenFileAt fd open_file
+open_file_right fd Input h = eqb-true fd 0 h
+open_file_right fd Stream1 h = eqb-true fd 1 h
+open_file_right fd Stream2 h = eqb-true fd 2 h
+open_file_right fd (File number file_offset access) h = grind (arith, nat_tests)
 
-right_slot : (fd : ℕ) (slot : Slot) → IsSlotAt fd slot → is_slot_at fd slot ≡ true
-right_slot fd Input h = eq-eqb fd 0 h
-right_slot fd Stream1 h = eq-eqb fd 1 h
-right_slot fd Stream2 h = eq-eqb fd 2 h
-right_slot fd (File number cursor access) h = grind (arith, nat_tests)
+right_open_file : (fd : ℕ) (open_file : OpenFile) → IsOpenFileAt fd open_file → is_open_file_at fd open_file ≡ true
+right_open_file fd Input h = eq-eqb fd 0 h
+right_open_file fd Stream1 h = eq-eqb fd 1 h
+right_open_file fd Stream2 h = eq-eqb fd 2 h
+right_open_file fd (File number file_offset access) h = grind (arith, nat_tests)
 
 at_most : (a b : ℕ) → nat_le a b ≡ true → a ≤ b
 at_most a b h = grind (arith, nat_tests)
@@ -148,8 +148,8 @@ module _ (lists : FileLists) (parts : AreParts lists) where
   abbrev files_good : Bool
   files_good = list_all is_good_file lists.files
 
-  abbrev slots_good : Bool
-  slots_good = list_all is_good_slot lists.slots
+  abbrev open_files_good : Bool
+  open_files_good = list_all is_good_open_file lists.open_files
 
   abbrev streams_good : Bool
   streams_good = list_all (λ stream. nat_le (length stream) most_content) lists.streams
@@ -179,23 +179,23 @@ module _ (lists : FileLists) (parts : AreParts lists) where
   pub in_range-says : in_range lists ≡ true → AreInRange lists
   unfolding in_range
   in_range-says h =
-      let h1 = first (files_good && slots_good && streams_good && names_few && all_small) own h in
-      let h2 = first (files_good && slots_good && streams_good && names_few) all_small h1 in
-      let h3 = first (files_good && slots_good && streams_good) names_few h2 in
-      let h4 = first (files_good && slots_good) streams_good h3 in
-      let files = passes is_good_file lists.files (first files_good slots_good h4) in
-      let slots = passes is_good_slot lists.slots (second files_good slots_good h4) in
-      let streams = passes (λ stream. nat_le (length stream) most_content) lists.streams (second (files_good && slots_good) streams_good h3) in
+      let h1 = first (files_good && open_files_good && streams_good && names_few && all_small) own h in
+      let h2 = first (files_good && open_files_good && streams_good && names_few) all_small h1 in
+      let h3 = first (files_good && open_files_good && streams_good) names_few h2 in
+      let h4 = first (files_good && open_files_good) streams_good h3 in
+      let files = passes is_good_file lists.files (first files_good open_files_good h4) in
+      let open_files = passes is_good_open_file lists.open_files (second files_good open_files_good h4) in
+      let streams = passes (λ stream. nat_le (length stream) most_content) lists.streams (second (files_good && open_files_good) streams_good h3) in
       record {
-        few_names = at_most (length (named lists.files)) most_names (second (files_good && slots_good && streams_good) names_few h2);
+        few_names = at_most (length (named lists.files)) most_names (second (files_good && open_files_good && streams_good) names_few h2);
         good_names = names_all lists.files (with_bytes (λ f. is_good_file f ≡ true) HasBytes (λ f. IfSome f.name IsHeldName) lists.files (λ f good bytes. name_good f.name (file_name f good) bytes.name) files parts.file_bytes);
-        distinct = own_names lists.files (second (files_good && slots_good && streams_good && names_few && all_small) own h);
+        distinct = own_names lists.files (second (files_good && open_files_good && streams_good && names_few && all_small) own h);
         low_numbers = alone (λ f. is_good_file f ≡ true) (λ f. f.number < 5120) lists.files file_number files;
         good_files = with_bytes (λ f. is_good_file f ≡ true) HasBytes (λ f. IsContent f.content) lists.files (λ f good bytes. record { bytes = bytes.content; small = file_content f good }) files parts.file_bytes;
         good_streams = with_bytes (λ stream. nat_le (length stream) most_content ≡ true) AreBytes IsContent lists.streams (λ stream good bytes. record { bytes = bytes; small = at_most (length stream) most_content good }) streams parts.stream_bytes;
-        small_total = at_most (size lists) most_total (second (files_good && slots_good && streams_good && names_few) all_small h1);
-        low_slots = alone (λ held. is_good_slot held ≡ true) (λ held. held.0 < 1024) lists.slots (λ held good. less held.0 1024 (first (nat_lt held.0 1024) (is_slot_at held.0 held.1) good)) slots;
-        good_slots = alone (λ held. is_good_slot held ≡ true) (λ held. IsSlotAt held.0 held.1) lists.slots (λ held good. slot_right held.0 held.1 (second (nat_lt held.0 1024) (is_slot_at held.0 held.1) good)) slots;
+        small_total = at_most (size lists) most_total (second (files_good && open_files_good && streams_good && names_few) all_small h1);
+        low_open_files = alone (λ held. is_good_open_file held ≡ true) (λ held. held.0 < 1024) lists.open_files (λ held good. less held.0 1024 (first (nat_lt held.0 1024) (is_open_file_at held.0 held.1) good)) open_files;
+        good_open_files = alone (λ held. is_good_open_file held ≡ true) (λ held. IsOpenFileAt held.0 held.1) lists.open_files (λ held good. open_file_right held.0 held.1 (second (nat_lt held.0 1024) (is_open_file_at held.0 held.1) good)) open_files;
       }
 
   pub range-passes : AreInRange lists → in_range lists ≡ true
@@ -204,30 +204,30 @@ module _ (lists : FileLists) (parts : AreParts lists) where
       let names = all_names lists.files range.good_names in
       let files : All (λ f. is_good_file f ≡ true) lists.files = λ k d inside.
       both _ _ (both _ _ (lt_true _ 5120 (range.low_numbers k d inside)) (good_name _ (names k d inside))) (le_true _ most_content (range.good_files k d inside).small) in
-      let slots : All (λ held. is_good_slot held ≡ true) lists.slots = λ k d inside. both _ _ (lt_true _ 1024 (range.low_slots k d inside)) (right_slot _ _ (range.good_slots k d inside)) in
+      let open_files : All (λ held. is_good_open_file held ≡ true) lists.open_files = λ k d inside. both _ _ (lt_true _ 1024 (range.low_open_files k d inside)) (right_open_file _ _ (range.good_open_files k d inside)) in
       let streams : All (λ stream. nat_le (length stream) most_content ≡ true) lists.streams = λ k d inside. le_true _ most_content (range.good_streams k d inside).small in
-      both (files_good && slots_good && streams_good && names_few && all_small) own
-      (both (files_good && slots_good && streams_good && names_few) all_small
-      (both (files_good && slots_good && streams_good) names_few
-      (both (files_good && slots_good) streams_good
-      (both files_good slots_good (passing is_good_file lists.files files) (passing is_good_slot lists.slots slots))
+      both (files_good && open_files_good && streams_good && names_few && all_small) own
+      (both (files_good && open_files_good && streams_good && names_few) all_small
+      (both (files_good && open_files_good && streams_good) names_few
+      (both (files_good && open_files_good) streams_good
+      (both files_good open_files_good (passing is_good_file lists.files files) (passing is_good_open_file lists.open_files open_files))
       (passing (λ stream. nat_le (length stream) most_content) lists.streams streams))
       (le_true (length (named lists.files)) most_names range.few_names)) (le_true (size lists) most_total range.small_total)) (names_own lists.files range.distinct)
 
 module _ (lists : FileLists) where
   abbrev all_listed : Bool
-  all_listed = list_all (λ held. is_listed lists.files held.1) lists.slots
+  all_listed = list_all (λ held. is_listed lists.files held.1) lists.open_files
 
   abbrev all_used : Bool
-  all_used = list_all (is_used lists.slots) lists.files
+  all_used = list_all (is_used lists.open_files) lists.files
 
   pub joined-says : are_joined lists ≡ true → AreJoined lists
   unfolding are_joined
   joined-says h = record {
-    held = passes (λ held. is_listed lists.files held.1) lists.slots (first all_listed all_used h);
-    used = passes (is_used lists.slots) lists.files (second all_listed all_used h);
+    held = passes (λ held. is_listed lists.files held.1) lists.open_files (first all_listed all_used h);
+    used = passes (is_used lists.open_files) lists.files (second all_listed all_used h);
   }
 
   pub joined-passes : AreJoined lists → are_joined lists ≡ true
   unfolding are_joined
-  joined-passes refer = both all_listed all_used (passing (λ held. is_listed lists.files held.1) lists.slots refer.held) (passing (is_used lists.slots) lists.files refer.used)
+  joined-passes refer = both all_listed all_used (passing (λ held. is_listed lists.files held.1) lists.open_files refer.held) (passing (is_used lists.open_files) lists.files refer.used)

@@ -9,7 +9,7 @@ use Rattle.std.specs.FinMap as fin
 use Rattle.std.specs.FinMap.Entries.{below_all}
 use Rattle.std.proofs.lemmas.List.{map-append}
 use Rattle.std.proofs.lemmas.List.Elements.{All-head, All-tail, All-append, All-cons, All-nil, All-map}
-use Rattle.mem_files.specs.declared.slot.Slot.{Slot}
+use Rattle.mem_files.specs.declared.open_file.OpenFile.{OpenFile}
 use Rattle.mem_files.specs.Lists.{ListedFile, FileLists, numbered_contents}
 use Rattle.checkpoints.specs.FileParts.Inside.Views.{AreParts, HasBytes}
 
@@ -54,10 +54,10 @@ files_risen f files rise low =
     low_contents : (files : List ListedFile) → All (λ file. file.number < f.number) files → All (λ e. e.0 < f.number) (numbered_contents files)
     low_contents files low = All-map (λ e. e.0 < f.number) (λ (file : ListedFile). (file.number, file.content)) files low
 
-pub slot_pushed : (fd : ℕ) (slot : Slot) (lists : FileLists) → AreParts lists → All (λ held. held.0 < fd) lists.slots → AreParts (record lists { slots = lists.slots ++ (fd, slot) ∷ [] })
-slot_pushed fd slot lists parts low = record {
+pub open_file_pushed : (fd : ℕ) (open_file : OpenFile) (lists : FileLists) → AreParts lists → All (λ held. held.0 < fd) lists.open_files → AreParts (record lists { open_files = lists.open_files ++ (fd, open_file) ∷ [] })
+open_file_pushed fd open_file lists parts low = record {
   files_rise = parts.files_rise;
-  slots_rise = risen_more fd slot lists.slots parts.slots_rise low;
+  open_files_rise = risen_more fd open_file lists.open_files parts.open_files_rise low;
   few_streams = parts.few_streams;
   file_bytes = parts.file_bytes;
   stream_bytes = parts.stream_bytes;
@@ -66,7 +66,7 @@ slot_pushed fd slot lists parts low = record {
 pub file_pushed : (file : ListedFile) (lists : FileLists) → AreParts lists → All (λ other. other.number < file.number) lists.files → HasBytes file → AreParts (record lists { files = lists.files ++ file ∷ [] })
 file_pushed file lists parts low bytes = record {
   files_rise = files_risen file lists.files parts.files_rise low;
-  slots_rise = parts.slots_rise;
+  open_files_rise = parts.open_files_rise;
   few_streams = parts.few_streams;
   file_bytes = all_more HasBytes lists.files file parts.file_bytes bytes;
   stream_bytes = parts.stream_bytes;

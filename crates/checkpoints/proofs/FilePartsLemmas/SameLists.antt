@@ -44,8 +44,8 @@ under a (x ∷ xs) ys f below = under a xs ys f (rest_above a (x.number, x.conte
 nameless : (xs ys : List ListedFile) (f : ListedFile) → T (fin.is_sorted nat_cmp (numbered_contents (xs ++ f ∷ ys))) → f.name ≡ None → (name : List ℕ) → fin.find bytes_cmp name (named (xs ++ f ∷ ys)) ≡ Some f.number → ⊥
 nameless [] ys f sorted none name found =
     let parts = both (below_all nat_cmp f.number (numbered_contents ys)) (fin.is_sorted nat_cmp (numbered_contents ys)) sorted in
-    let behind : fin.find bytes_cmp name (named ys) ≡ Some f.number = sym (ap (λ o. fin.find bytes_cmp name (with_name o f.number (named ys))) none) ∙ found in
-    false≢true (sym (ap is_some (find_low f.number f.number (numbered_contents ys) (omega arith) parts.0)) ∙ name_held ys name f.number behind)
+    let after : fin.find bytes_cmp name (named ys) ≡ Some f.number = sym (ap (λ o. fin.find bytes_cmp name (with_name o f.number (named ys))) none) ∙ found in
+    false≢true (sym (ap is_some (find_low f.number f.number (numbered_contents ys) (omega arith) parts.0)) ∙ name_held ys name f.number after)
 nameless (x ∷ xs) ys f sorted none name found = at x.name found (nameless xs ys f parts.1 none name)
   where
     parts : T (below_all nat_cmp x.number (numbered_contents (xs ++ f ∷ ys))) × T (fin.is_sorted nat_cmp (numbered_contents (xs ++ f ∷ ys)))
@@ -58,7 +58,7 @@ nameless (x ∷ xs) ys f sorted none name found = at x.name found (nameless xs y
     at None found next = next found
     at (Some n) found next = elim (eq_by_cmp bytes_cmp name n) as (λ b. cond b (Some x.number) (fin.find bytes_cmp name (named (xs ++ f ∷ ys))) ≡ Some f.number → ⊥) [
       | true ↦ λ here. apart (same_Some x.number f.number here)
-      | false ↦ λ behind. next behind
+      | false ↦ λ after. next after
     ] found
 
 module _ (lists : FileLists) (order : AreOrdered lists) (range : AreInRange lists) where
@@ -105,6 +105,6 @@ module _ (lists : FileLists) (order : AreOrdered lists) (range : AreInRange list
   same_lists =
       let files = ap (map (listed_file (world_of lists))) (entries_risen nat_cmp_total fin.nat_cmp-IsAntisymmetric (numbered_contents lists.files) order.files_rise)
       ∙ shown_again lists.files (λ k d inside. name_at k d inside (get_or lists.files k d).name refl) in
-      let slots = entries_risen nat_cmp_total fin.nat_cmp-IsAntisymmetric lists.slots order.slots_rise in
+      let open_files = entries_risen nat_cmp_total fin.nat_cmp-IsAntisymmetric lists.open_files order.open_files_rise in
       let streams = two lists.streams order.two_streams in
-      λ i. record { files = files i; slots = slots i; streams = streams i }
+      λ i. record { files = files i; open_files = open_files i; streams = streams i }

@@ -60,7 +60,7 @@ module _ (w : World) where
     present name n is [] held = absurd (false≢true held)
     present name n is (e ∷ es) held = elim (eq_by_cmp nat_cmp n e.0) as (λ b. eq_by_cmp nat_cmp n e.0 ≡ b → IsSome (cond b (Some e.1) (fin.find nat_cmp n es)) → IsSome (fin.find bytes_cmp name (with_name (name_of_file w e.0) e.0 (named (map (listed_file w) es))))) [
       | true ↦ λ tie _. first (name_of_file w e.0) (ap (name_of_file w) (sym (eqb-true n e.0 (sym (unsigned_tied n e.0) ∙ tie))) ∙ is)
-      | false ↦ λ _ later. behind (name_of_file w e.0) (present name n is es later)
+      | false ↦ λ _ later. after (name_of_file w e.0) (present name n is es later)
     ] refl held
       where
         first : (o : Option (List ℕ)) → o ≡ Some name → IsSome (fin.find bytes_cmp name (with_name o e.0 (named (map (listed_file w) es))))
@@ -69,9 +69,9 @@ module _ (w : World) where
             ap (λ k. is_some (fin.find bytes_cmp k ((other, e.0) ∷ named (map (listed_file w) es)))) (sym (same_Some other name same))
             ∙ ap (λ r. is_some (cond (is_eq r) (Some e.0) (fin.find bytes_cmp other (named (map (listed_file w) es))))) (tied_itself nat_list_cmp_total other)
 
-        behind : (o : Option (List ℕ)) → IsSome (fin.find bytes_cmp name (named (map (listed_file w) es))) → IsSome (fin.find bytes_cmp name (with_name o e.0 (named (map (listed_file w) es))))
-        behind None h = h
-        behind (Some other) h = chosen_some (eq_by_cmp bytes_cmp name other) e.0 (fin.find bytes_cmp name (named (map (listed_file w) es))) h
+        after : (o : Option (List ℕ)) → IsSome (fin.find bytes_cmp name (named (map (listed_file w) es))) → IsSome (fin.find bytes_cmp name (with_name o e.0 (named (map (listed_file w) es))))
+        after None h = h
+        after (Some other) h = chosen_some (eq_by_cmp bytes_cmp name other) e.0 (fin.find bytes_cmp name (named (map (listed_file w) es))) h
 
     pub names_same : fin.from_entries (named (map (listed_file w) (fin.entries w.files))) ≡ w.names
     names_same = same_name_map _ w.names (λ name. fin.get-from_entries nat_list_cmp_total (named (map (listed_file w) (fin.entries w.files))) name ∙ at name (fin.get w.names name) refl)
@@ -91,7 +91,7 @@ module _ (w : World) where
     same_world = λ i. record {
       names = names_same i;
       files = (ap (λ es. fin.from_entries {R = nat_cmp} es) (contents_listed w (fin.entries w.files)) ∙ from_its_entries w.files) i;
-      slots = from_its_entries w.slots i;
+      open_files = from_its_entries w.open_files i;
       stream1 = w.stream1;
       stream2 = w.stream2;
     }

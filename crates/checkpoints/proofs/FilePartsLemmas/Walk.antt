@@ -5,10 +5,10 @@ use Rattle.std.specs.FinMap as fin
 use Rattle.std.specs.FinMap.Entries.{below_all}
 use Rattle.std.proofs.lemmas.Bool.Decides.{nat_tests}
 use Rattle.std.proofs.lemmas.Option.{none-some, same_Some}
-use Rattle.mem_files.specs.declared.slot.Slot.{Slot}
+use Rattle.mem_files.specs.declared.open_file.OpenFile.{OpenFile}
 use Rattle.mem_files.specs.Sound.{IsSound}
 use Rattle.mem_files.specs.World.{World}
-use Rattle.mem_files.specs.Lists.{ListedFile, listed_file, first_from, file_from, slot_from}
+use Rattle.mem_files.specs.Lists.{ListedFile, listed_file, first_from, file_from, open_file_from}
 use Rattle.mem_files.proofs.Maps.{both, find_here, head_above, rest_above}
 use Rattle.mem_files.proofs.Entries.{some_of}
 
@@ -120,10 +120,10 @@ file_listed w n found shown sound is so_far =
     )
 
 -- a descriptor more
-pub slot_low : (w : World) (n fd : ℕ) (slot : Slot) → IsSound w → slot_from w n ≡ Some (fd, slot) → fd < 1024
-slot_low w n fd slot sound is =
-    let held = some_of (fin.get w.slots fd) (walk_finds w.slots (λ held. held) n (fd, slot) is) in
-    sound.within.low_slots fd held.0 held.1
+pub open_file_low : (w : World) (n fd : ℕ) (open_file : OpenFile) → IsSound w → open_file_from w n ≡ Some (fd, open_file) → fd < 1024
+open_file_low w n fd open_file sound is =
+    let held = some_of (fin.get w.open_files fd) (walk_finds w.open_files (λ held. held) n (fd, open_file) is) in
+    sound.within.low_open_files fd held.0 held.1
 
 pub same_map : {A : Type 0} (xs : List A) → map (λ x. x) xs ≡ xs
 same_map [] = refl

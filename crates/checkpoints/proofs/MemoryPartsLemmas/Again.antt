@@ -9,8 +9,8 @@ use Rattle.paged_mem.specs.Inside.Wholeness.{get-with_bytes, get-with_bytes_belo
 use Rattle.paged_mem.proofs.Maps.{same_memory, get_in_bytes_at, length_of_bytes_at, maps_by_each}
 use Rattle.paged_mem.proofs.Mapped.{length-zeros}
 use Rattle.paged_mem.proofs.MemoryLaws.{get-zeros, get-past}
-use Rattle.save_text.specs.declared.state_text.parts.Run.{Run}
-use Rattle.save_text.specs.StateText.StateText.{PageText, is_page}
+use Rattle.save_format.specs.declared.state_text.parts.Run.{Run}
+use Rattle.save_format.specs.StateText.StateText.{PageText, is_page}
 use Rattle.checkpoints.specs.MemoryParts.Canonical.{is_mapped, with_page, runs_from, runs_of, listed_page, page_texts_from, pages_of, with_pages}
 use Rattle.checkpoints.specs.MemoryParts.Inside.Zeros.{zero_runs, memory_from}
 
@@ -134,7 +134,7 @@ filled_same m0 m page (suc count) a same = both (cases_eq (a / 4096) page) (fill
     both (inl e) later = page_here m0 m page (bytes_at m (4096 * page) 4096) (page_texts_from m (page + 1) count) a refl e (inl later)
     both (inr ne) later = page_elsewhere m0 page (bytes_at m (4096 * page) 4096) (page_texts_from m (page + 1) count) a (length_of_bytes_at m (4096 * page) 4096) ne ∙ later
 
--- pages behind an address leave it
+-- pages after an address leave it
 filled_later : (m0 m : Memory) (page count a : ℕ) → a / 4096 < page → get (with_pages m0 (page_texts_from m page count)) a ≡ get m0 a
 unfolding page_texts_from with_pages
 filled_later m0 m page zero a lt = refl

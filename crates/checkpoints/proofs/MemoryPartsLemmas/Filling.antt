@@ -7,9 +7,9 @@ use Rattle.std.proofs.lemmas.List.{map-append, take_more}
 use Rattle.paged_mem.specs.Memory.{Memory, with_bytes}
 use Rattle.paged_mem.specs.Inside.Wholeness.{get-with_bytes, get-with_bytes_below, get-with_bytes_above}
 use Rattle.paged_mem.proofs.Maps.{same_memory}
-use Rattle.save_text.specs.declared.state_text.parts.Page.{Page}
-use Rattle.save_text.specs.StateText.StateText.{PageText, after_page}
-use Rattle.save_text.specs.StateText.Seen.{page_view}
+use Rattle.save_format.specs.declared.state_text.parts.Page.{Page}
+use Rattle.save_format.specs.StateText.StateText.{PageText, after_page}
+use Rattle.save_format.specs.StateText.Seen.{page_view}
 use Rattle.checkpoints.specs.MemoryParts.Canonical.{with_pages, AreShown}
 
 -- pages written in their order
@@ -29,7 +29,7 @@ turned m [] = refl
 turned m (page ∷ pages) =
     turned (with_bytes m (4096 * page.number) page.bytes) pages ∙ sym (ap (with_pages m) (reverse_onto pages page []) ∙ filled_first m (reverse pages) page)
 
--- bytes at two places, one behind the other
+-- bytes at two places, one after the other
 swapped : (m : Memory) (low high : ℕ) (xs ys : List ℕ) → low + length xs ≤ high → with_bytes (with_bytes m low xs) high ys ≡ with_bytes (with_bytes m high ys) low xs
 swapped m low high xs ys apart = same_memory _ _ (λ a. each a (cases_lt a low) (cases_lt a (low + length xs)) (cases_lt a high) (cases_lt a (high + length ys)))
   where

@@ -3,12 +3,12 @@ use Rattle.std.proofs.Common.{◌≡◌, ℕ, suc, ◌+◌, ◌*◌, ◌/◌, �
 use Rattle.std.specs.FinMap.{get}
 use Rattle.std.proofs.lemmas.List.{drop_all}
 use Rattle.paged_mem.specs.Memory.{Memory, IsFree, with_bytes, zeros}
-use Rattle.save_text.specs.declared.state_text.parts.Run.{Run}
-use Rattle.save_text.specs.StateText.StateText.{after_run}
+use Rattle.save_format.specs.declared.state_text.parts.Run.{Run}
+use Rattle.save_format.specs.StateText.StateText.{after_run}
 use Rattle.checkpoints.specs.MemoryParts.Canonical.{mapped_runs, IsNextRun, ArePlaced}
 use Rattle.checkpoints.proofs.MemoryPartsLemmas.Again.{zero_out}
 
--- the runs from an index on are to be mapped, behind all that is mapped
+-- the runs from an index on are to be mapped, after all that is mapped
 pub record IsReady (m whole : Memory) (runs : List Run) (i least : ℕ) : Type 0 where
   pub placed : ArePlaced least (drop i runs)
   pub free : (a : ℕ) → least ≤ a / 4096 → get m a ≡ None

@@ -6,7 +6,7 @@ use Rattle.std.proofs.lemmas.List.{append-nil}
 use Rattle.paged_mem.specs.Memory.{Memory, bytes_at, prepended, with_bytes}
 use Rattle.paged_mem.specs.Inside.Wholeness.{get-with_bytes_below, get-with_bytes_above}
 use Rattle.paged_mem.proofs.MemoryLaws.{bytes_at-with_bytes}
-use Rattle.save_text.specs.StateText.StateText.{PageText, is_page, after_page}
+use Rattle.save_format.specs.StateText.StateText.{PageText, is_page, after_page}
 use Rattle.checkpoints.specs.MemoryParts.Canonical.{listed_page, page_texts_from, with_pages, AreShown}
 use Rattle.checkpoints.proofs.MemoryPartsLemmas.PagesFound.{same_pages, pages_parts, zero_unlisted}
 
@@ -52,7 +52,7 @@ none_shown m zeroed page (suc count) = both (bytes_at m (4096 * page) 4096) refl
     both None was later = (λ i. listed_page page (was i) ++ page_texts_from m (page + 1) count) ∙ later
     both (Some bytes) was later = (λ i. (ap (listed_page page) was ∙ zero_unlisted page bytes (all_zeros m zeroed (4096 * page) 4096 bytes was)) i ++ page_texts_from m (page + 1) count) ∙ later
 
--- pages behind leave the bytes of a page
+-- pages after leave the bytes of a page
 before_all : (m : Memory) (pages : List PageText) (least q : ℕ) → AreShown least pages → q < least → bytes_at (with_pages m pages) (4096 * q) 4096 ≡ bytes_at m (4096 * q) 4096
 unfolding with_pages
 before_all m [] least q shown lt = refl

@@ -6,7 +6,7 @@ use Rattle.std.proofs.lemmas.List.{append-nil}
 use Rattle.paged_mem.specs.Memory.{Memory, bytes_at, zeros}
 use Rattle.paged_mem.specs.Ram.{IsRun, RunsFrom}
 use Rattle.paged_mem.proofs.Maps.{bytes_at-none}
-use Rattle.save_text.specs.StateText.StateText.{PageText}
+use Rattle.save_format.specs.StateText.StateText.{PageText}
 use Rattle.checkpoints.specs.MemoryParts.Canonical.{listed_page, page_texts_from}
 
 all_zero : (count : ℕ) → list_all (λ b. b == 0) (zeros count) ≡ true

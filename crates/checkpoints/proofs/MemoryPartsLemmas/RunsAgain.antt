@@ -6,8 +6,8 @@ use Rattle.std.specs.FinMap.{get, empty, get-empty}
 use Rattle.std.proofs.lemmas.Bool.{leb-true, ltb-true, ltb-false, leb-false, le-leb, lt-ltb, le-ltb}
 use Rattle.paged_mem.proofs.Maps.{same_memory}
 use Rattle.paged_mem.specs.Memory.{Memory, with_bytes, zeros}
-use Rattle.save_text.specs.declared.state_text.parts.Run.{Run}
-use Rattle.save_text.specs.StateText.StateText.{after_run}
+use Rattle.save_format.specs.declared.state_text.parts.Run.{Run}
+use Rattle.save_format.specs.StateText.StateText.{after_run}
 use Rattle.checkpoints.specs.MemoryParts.Canonical.{is_mapped, runs_from, runs_of, mapped_runs, ArePlaced}
 use Rattle.checkpoints.specs.MemoryParts.Inside.Zeros.{zero_runs}
 use Rattle.checkpoints.proofs.MemoryPartsLemmas.RunsFound.{same_runs, passed, in_one, run_of}
@@ -34,8 +34,8 @@ in_yes run p from to = let a = le-leb run.first p from in let b = lt-ltb p (run.
 in_below : (run : Run) (p : ℕ) → p < run.first → in_run run p ≡ false
 in_below run p lt = let a = leb_no run.first p lt in rw a refl
 
-in_behind : (run : Run) (p : ℕ) → run.first + run.pages ≤ p → run.first ≤ p → in_run run p ≡ false
-in_behind run p le from = let a = le-leb run.first p from in let b = le-ltb p (run.first + run.pages) le in rw (a, b) refl
+in_after : (run : Run) (p : ℕ) → run.first + run.pages ≤ p → run.first ≤ p → in_run run p ≡ false
+in_after run p le from = let a = le-leb run.first p from in let b = le-ltb p (run.first + run.pages) le in rw (a, b) refl
 
 none_below : (runs : List Run) (least p : ℕ) → ArePlaced least runs → p < least → in_runs runs p ≡ false
 unfolding in_runs
@@ -81,8 +81,8 @@ runs_again mapped (run ∷ runs) page least count placed le top is = some run.pa
         let rest : ℕ = 2 ^ 26 - (run.first + suc n) in
         let free : (k : ℕ) → k < gap → mapped (page + k) ≡ false = λ k lt. is (page + k) (omega arith) ∙ (let here = in_below run (page + k) (omega arith) in let others = none_below runs (after_run run) (page + k) placed.1 (omega arith) in rw (here, others) refl) in
         let all : (k : ℕ) → k < suc n → mapped (run.first + k) ≡ true = λ k lt. is (run.first + k) (omega arith) ∙ (let here = in_yes run (run.first + k) (omega arith) (omega arith) in rw here refl) in
-        let ends : mapped (run.first + suc n) ≡ false = is (run.first + suc n) (omega arith) ∙ (let here = in_behind run (run.first + suc n) (omega arith) (omega arith) in let others = none_below runs (after_run run) (run.first + suc n) placed.1 (omega arith) in rw (here, others) refl) in
-        let tail : runs_from mapped (run.first + suc n) rest ≡ runs = later (run.first + suc n) rest (omega arith) (omega arith) (λ p from_p. is p (omega arith) ∙ (let here = in_behind run p (omega arith) (omega arith) in rw here refl)) in
+        let ends : mapped (run.first + suc n) ≡ false = is (run.first + suc n) (omega arith) ∙ (let here = in_after run (run.first + suc n) (omega arith) (omega arith) in let others = none_below runs (after_run run) (run.first + suc n) placed.1 (omega arith) in rw (here, others) refl) in
+        let tail : runs_from mapped (run.first + suc n) rest ≡ runs = later (run.first + suc n) rest (omega arith) (omega arith) (λ p from_p. is p (omega arith) ∙ (let here = in_after run p (omega arith) (omega arith) in rw here refl)) in
         same_runs mapped page page count (gap + (suc n + rest)) refl (omega arith)
         ∙ passed mapped page gap (suc n + rest) free
         ∙ same_runs mapped (page + gap) run.first (suc n + rest) (suc n + rest) (omega arith) refl

@@ -7,10 +7,10 @@ use Rattle.std.proofs.lemmas.List.{append-nil}
 use Rattle.paged_mem.specs.Memory.{Memory}
 use Rattle.paged_mem.specs.Ram.{IsRun, RunsFrom}
 use Rattle.paged_mem.proofs.Maps.{each_by_maps}
-use Rattle.save_text.specs.declared.state_text.parts.Run.{Run}
+use Rattle.save_format.specs.declared.state_text.parts.Run.{Run}
 use Rattle.checkpoints.specs.MemoryParts.Canonical.{is_mapped, with_page, runs_from}
 
--- the first run begins at a page or behind it
+-- the first run begins at a page or after it
 abbrev IsFrom : ℕ → List Run → Type 0
 IsFrom page [] = Unit {0}
 IsFrom page (run ∷ runs) = page ≤ run.first
@@ -63,7 +63,7 @@ alone page (run ∷ runs) from =
 abbrev pub run_of : ℕ → ℕ → Run
 run_of first pages = record { first = first; pages = pages }
 
--- pages in a row with a page behind them that is not mapped are one run
+-- pages in a row with a page after them that is not mapped are one run
 pub in_one : (mapped : ℕ → Bool) (page pages count : ℕ) → ((k : ℕ) → k < suc pages → mapped (page + k) ≡ true) → mapped (page + suc pages) ≡ false
     → runs_from mapped page (suc pages + count) ≡ run_of page (suc pages) ∷ runs_from mapped (page + suc pages) count
 unfolding runs_from

@@ -3,8 +3,8 @@ use Rattle.std.specs.Prelude.{◌≡◌, ℕ, Option, Result, Ok, Err}
 use Rattle.mem_files.specs.Lists.{AreInRange, AreJoined, FileLists, world_of}
 use Rattle.mem_files.specs.World.{World}
 use Rattle.rv64_machine.specs.Hart.{IsReservation}
-use Rattle.save_text.specs.StateText.Mappable.{AreMappable}
-use Rattle.save_text.specs.StateText.StateText.{StateText}
+use Rattle.save_format.specs.StateText.Mappable.{AreMappable}
+use Rattle.save_format.specs.StateText.StateText.{StateText}
 use Rattle.checkpoints.specs.declared.file_parts.restoring.RestoreRefusal.{RestoreRefusal}
 use Rattle.checkpoints.specs.declared.file_parts.restoring.RestoreRefusal.TheVariants as restored
 use Rattle.checkpoints.specs.Checkpoint.{IsInMemory}

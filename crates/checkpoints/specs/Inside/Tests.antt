@@ -9,11 +9,11 @@ use Rattle.mem_files.specs.Lists.{FileLists, is_listed, is_used, named}
 use Rattle.mem_files.specs.Names.{bytes_cmp, is_stripped_name}
 use Rattle.linux_calls.specs.declared.Heap.{Heap}
 use Rattle.guest_run.specs.Stack.{stack_end, stack_size}
-use Rattle.guest_run.specs.Valid.{pages_beside}
-use Rattle.save_text.specs.declared.state_text.parts.Run.{Run}
-use Rattle.save_text.specs.StateText.StateText.{StateText}
+use Rattle.guest_run.specs.Valid.{pages_apart}
+use Rattle.save_format.specs.declared.state_text.parts.Run.{Run}
+use Rattle.save_format.specs.StateText.StateText.{StateText}
 use Rattle.checkpoints.specs.Checkpoint.{lists_in, mapped_of, memory_of}
-use Rattle.checkpoints.specs.FileParts.Inside.Judged.{is_slot_at}
+use Rattle.checkpoints.specs.FileParts.Inside.Judged.{is_open_file_at}
 
 -- files
 
@@ -36,7 +36,7 @@ are_files_in_range lists =
     && (list_all (λ file. is_content file.content) lists.files
     && (list_all is_content lists.streams
     && (nat_le (sum_by length lists.streams + sum_by (λ file. length file.content) lists.files) most_total
-    && (list_all (λ e. nat_lt e.0 most_descriptors) lists.slots && list_all (λ e. is_slot_at e.0 e.1) lists.slots)))))))
+    && (list_all (λ e. nat_lt e.0 most_descriptors) lists.open_files && list_all (λ e. is_open_file_at e.0 e.1) lists.open_files)))))))
 
 -- memory
 
@@ -54,7 +54,7 @@ is_heap_of m heap =
     && (maps m heap.first (page_up heap.now - heap.first) && is_free m (page_up heap.now) (page_up (heap.first + heap.limit) - page_up heap.now))))))
 
 unfoldable pub is_fit : Memory → Heap → Bool
-is_fit m heap = is_heap_of m heap && (maps m (stack_end - stack_size) stack_size && nat_le (pages_beside m heap) 67584)
+is_fit m heap = is_heap_of m heap && (maps m (stack_end - stack_size) stack_size && nat_le (pages_apart m heap) 67584)
 
 unfoldable pub are_mappable : List Run → Bool
 are_mappable runs = list_all (λ run. nat_le (run.first + run.pages) (2 ^ 26)) runs && nat_le (sum_by (λ run. run.pages) runs) 329_728

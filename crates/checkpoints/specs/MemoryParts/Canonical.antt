@@ -2,14 +2,14 @@
 use Rattle.std.specs.Prelude.{◌≡◌, ◌<◌, length, ℕ, zero, suc, ◌+◌, ◌*◌, ◌^◌, ◌≤◌, Bool, true, ◌==◌, Option, None, Some, List, [], ◌∷◌, ◌++◌, if◌then◌else◌}
 use Rattle.std.specs.FinMap.{contains_key}
 use Rattle.paged_mem.specs.Memory.{Memory, bytes_at, with_bytes, zeros}
-use Rattle.save_text.specs.declared.state_text.parts.Run.{Run}
-use Rattle.save_text.specs.StateText.StateText.{PageText, is_page, after_run, after_page}
-use Rattle.save_text.specs.ByteFields.Spelling.{InTurn}
+use Rattle.save_format.specs.declared.state_text.parts.Run.{Run}
+use Rattle.save_format.specs.StateText.StateText.{PageText, is_page, after_run, after_page}
+use Rattle.save_format.specs.ByteFields.Spelling.{InTurn}
 
 abbrev pub is_mapped : Memory → ℕ → Bool
 is_mapped m page = contains_key m (4096 * page)
 
--- a mapped page with the runs behind it: it begins the first of them where that follows at once
+-- a mapped page with the runs after it: it begins the first of them where that follows at once
 abbrev pub with_page : ℕ → List Run → List Run
 with_page page [] = record { first = page; pages = 1 } ∷ []
 with_page page (run ∷ runs) = if run.first == page + 1 then record { first = page; pages = run.pages + 1 } ∷ runs else record { first = page; pages = 1 } ∷ (run ∷ runs)
@@ -46,7 +46,7 @@ unfoldable pub with_pages : Memory → List PageText → Memory
 with_pages m [] = m
 with_pages m (page ∷ pages) = with_bytes (with_pages m pages) (4096 * page.number) page.bytes
 
--- a run behind the earlier ones, below the end of memory
+-- a run after the earlier ones, below the end of memory
 pub record IsNextRun (least : ℕ) (run : Run) : Type 0 where
   pub from : least ≤ run.first
   pub some : 1 ≤ run.pages
@@ -55,7 +55,7 @@ pub record IsNextRun (least : ℕ) (run : Run) : Type 0 where
 abbrev pub ArePlaced : ℕ → List Run → Type 0
 ArePlaced least runs = InTurn IsNextRun after_run least runs
 
--- a page behind the earlier ones, whole and not all zero
+-- a page after the earlier ones, whole and not all zero
 pub record IsShown (least : ℕ) (page : PageText) : Type 0 where
   pub from : least ≤ page.number
   pub low : page.number < 2 ^ 26

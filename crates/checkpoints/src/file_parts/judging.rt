@@ -6,11 +6,11 @@ ghost use Rattle.std.specs.Option.{option_copied};
 ghost use Rattle.mem_files.specs.Limits.{most_content, most_names, most_total};
 ghost use Rattle.mem_files.specs.Lists.{listed, is_listed, is_used};
 ghost use Rattle.mem_files.specs.World.{is_of};
-ghost use Rattle.checkpoints.specs.FileParts.Inside.Judged.{content_size, stream_size, is_good_name, is_good_file, is_good_slot, is_called, is_taken, have_own_names, in_range, are_joined};
+ghost use Rattle.checkpoints.specs.FileParts.Inside.Judged.{content_size, stream_size, is_good_name, is_good_file, is_good_open_file, is_called, is_taken, have_own_names, in_range, are_joined};
 ghost use Rattle.checkpoints.specs.FileParts.Inside.Views.{view_of};
 ghost use Rattle.std.specs.Borrow.{Bor};
 
-use mem_files::{FileView, MAX_CONTENT, MAX_NAMES, MAX_SLOTS, MAX_TOTAL, Slot, is_stripped_name};
+use mem_files::{FileView, MAX_CONTENT, MAX_NAMES, MAX_OPEN_FILES, MAX_TOTAL, OpenFile, is_stripped_name};
 
 /// A file has a name or a descriptor, so its number is below the most of both together.
 const MAX_FILES: u32 = 5_120;
@@ -37,24 +37,24 @@ fn are_good_files(files: &[FileView<'_>]) -> bool
     files.iter().all(|file| is_good_file(file))
 }
 
-fn is_good_slot(fd: u32, slot: Slot) -> bool
-    ensures { result ≡ is_good_slot (fd, slot) }
+fn is_good_open_file(fd: u32, open_file: OpenFile) -> bool
+    ensures { result ≡ is_good_open_file (fd, open_file) }
 {
-    if fd as usize >= MAX_SLOTS {
+    if fd as usize >= MAX_OPEN_FILES {
         return false;
     }
-    match slot {
-        Slot::Input => fd == 0,
-        Slot::Stream1 => fd == 1,
-        Slot::Stream2 => fd == 2,
-        Slot::File { cursor, .. } => cursor < 1 << 63,
+    match open_file {
+        OpenFile::Input => fd == 0,
+        OpenFile::Stream1 => fd == 1,
+        OpenFile::Stream2 => fd == 2,
+        OpenFile::File { file_offset, .. } => file_offset < 1 << 63,
     }
 }
 
-fn are_good_slots(slots: &[(u32, Slot)]) -> bool
-    ensures { result ≡ list_all is_good_slot slots.now }
+fn are_good_open_files(open_files: &[(u32, OpenFile)]) -> bool
+    ensures { result ≡ list_all is_good_open_file open_files.now }
 {
-    slots.iter().all(|(fd, slot)| is_good_slot(*fd, *slot))
+    open_files.iter().all(|(fd, open_file)| is_good_open_file(*fd, *open_file))
 }
 
 fn are_good_streams(streams: &[&[u8]]) -> bool
@@ -73,7 +73,7 @@ fn are_few_names(files: &[FileView<'_>]) -> bool
     names <= MAX_NAMES
 }
 
-/// What is left of so many bytes behind all contents; `None` where they are too many.
+/// What is left of so many bytes after all contents; `None` where they are too many.
 fn left_after_files(files: &[FileView<'_>], most: u64) -> Option<u64>
     ensures { SomeIff result (sum_by content_size files.now ≤ most) (most - sum_by content_size files.now) }
 {
@@ -161,62 +161,62 @@ fn is_number_listed(files: &[FileView<'_>], number: u32) -> bool
 }
 
 /// Is the file that a descriptor stands for among these?
-fn is_listed(files: &[FileView<'_>], slot: Slot) -> bool
-    ensures { result ≡ is_listed (map listed files.now) slot }
+fn is_listed(files: &[FileView<'_>], open_file: OpenFile) -> bool
+    ensures { result ≡ is_listed (map listed files.now) open_file }
 {
-    match slot {
-        Slot::Input => true,
-        Slot::Stream1 => true,
-        Slot::Stream2 => true,
-        Slot::File { number, .. } => is_number_listed(files, number),
+    match open_file {
+        OpenFile::Input => true,
+        OpenFile::Stream1 => true,
+        OpenFile::Stream2 => true,
+        OpenFile::File { number, .. } => is_number_listed(files, number),
     }
 }
 
 /// Does what a descriptor stands for have this file number?
-fn is_of(number: u32, slot: Slot) -> bool
-    ensures { result ≡ is_of number slot }
+fn is_of(number: u32, open_file: OpenFile) -> bool
+    ensures { result ≡ is_of number open_file }
 {
-    match slot {
-        Slot::Input => false,
-        Slot::Stream1 => false,
-        Slot::Stream2 => false,
-        Slot::File { number: held, .. } => held == number,
+    match open_file {
+        OpenFile::Input => false,
+        OpenFile::Stream1 => false,
+        OpenFile::Stream2 => false,
+        OpenFile::File { number: held, .. } => held == number,
     }
 }
 
 /// Does one of these descriptors stand for a file?
-fn is_open(slots: &[(u32, Slot)], number: u32) -> bool
-    ensures { result ≡ list_any (λ held. is_of number held.1) slots.now }
+fn is_open(open_files: &[(u32, OpenFile)], number: u32) -> bool
+    ensures { result ≡ list_any (λ held. is_of number held.1) open_files.now }
 {
-    slots.iter().any(|(_, slot)| is_of(number, *slot))
+    open_files.iter().any(|(_, open_file)| is_of(number, *open_file))
 }
 
 /// Does a file have a name, or one of these descriptors?
-fn is_used(slots: &[(u32, Slot)], file: &FileView<'_>) -> bool
-    ensures { result ≡ is_used slots.now (listed file.now) }
+fn is_used(open_files: &[(u32, OpenFile)], file: &FileView<'_>) -> bool
+    ensures { result ≡ is_used open_files.now (listed file.now) }
 {
-    file.name.is_some() || is_open(slots, file.number)
+    file.name.is_some() || is_open(open_files, file.number)
 }
 
-fn are_all_listed(files: &[FileView<'_>], slots: &[(u32, Slot)]) -> bool
-    ensures { result ≡ list_all (λ held. is_listed (map listed files.now) held.1) slots.now }
+fn are_all_listed(files: &[FileView<'_>], open_files: &[(u32, OpenFile)]) -> bool
+    ensures { result ≡ list_all (λ held. is_listed (map listed files.now) held.1) open_files.now }
 {
-    slots.iter().all(|(_, slot)| is_listed(files, *slot))
+    open_files.iter().all(|(_, open_file)| is_listed(files, *open_file))
 }
 
-fn are_all_used(files: &[FileView<'_>], slots: &[(u32, Slot)]) -> bool
-    ensures { result ≡ list_all (λ file. is_used slots.now (listed file)) files.now }
+fn are_all_used(files: &[FileView<'_>], open_files: &[(u32, OpenFile)]) -> bool
+    ensures { result ≡ list_all (λ file. is_used open_files.now (listed file)) files.now }
 {
-    files.iter().all(|file| is_used(slots, file))
+    files.iter().all(|file| is_used(open_files, file))
 }
 
 /// Do counts and ranges allow these?
 #[tactic(auto, using(crate::proofs::FilePartsLemmas::Tests::all_map, crate::proofs::FilePartsLemmas::Tests::sum_map, crate::proofs::FilePartsLemmas::Tests::names_count), unfolding(crate::specs::FileParts::Inside::Judged::in_range))]
-pub(crate) fn are_in_range(files: &[FileView<'_>], slots: &[(u32, Slot)], streams: &[&[u8]]) -> bool
-    ensures { result ≡ in_range (view_of files.now slots.now streams.now) }
+pub(crate) fn are_in_range(files: &[FileView<'_>], open_files: &[(u32, OpenFile)], streams: &[&[u8]]) -> bool
+    ensures { result ≡ in_range (view_of files.now open_files.now streams.now) }
 {
     are_good_files(files)
-        && are_good_slots(slots)
+        && are_good_open_files(open_files)
         && are_good_streams(streams)
         && are_few_names(files)
         && is_small(files, streams)
@@ -225,8 +225,8 @@ pub(crate) fn are_in_range(files: &[FileView<'_>], slots: &[(u32, Slot)], stream
 
 /// Do references?
 #[tactic(auto, using(crate::proofs::FilePartsLemmas::Tests::all_map), unfolding(crate::specs::FileParts::Inside::Judged::are_joined))]
-pub(crate) fn are_joined(files: &[FileView<'_>], slots: &[(u32, Slot)]) -> bool
-    ensures { (streams : List (Bor (List ℕ))) → result ≡ are_joined (view_of files.now slots.now streams) }
+pub(crate) fn are_joined(files: &[FileView<'_>], open_files: &[(u32, OpenFile)]) -> bool
+    ensures { (streams : List (Bor (List ℕ))) → result ≡ are_joined (view_of files.now open_files.now streams) }
 {
-    are_all_listed(files, slots) && are_all_used(files, slots)
+    are_all_listed(files, open_files) && are_all_used(files, open_files)
 }

@@ -8,18 +8,18 @@ ghost use Rattle.mem_files.specs.Sound.{AreBytes};
 
 use crate::file_parts::judging::{are_in_range, are_joined};
 use ddc_base::OutOfMemory;
-use mem_files::{FileView, Files, Slot};
+use mem_files::{FileView, Files, OpenFile};
 use std::alloc::Global;
 use std::marker::Model;
 
 /// The parts of which files are made: files and descriptors, ascending, and the contents of the streams. Names and contents
-/// are lent.
+/// are borrowed.
 ///
 /// Seen as three lists.
 #[derive(Drop)]
 pub struct FileParts<'a> {
     files: Vec<FileView<'a>>,
-    slots: Vec<(u32, Slot)>,
+    open_files: Vec<(u32, OpenFile)>,
     streams: Vec<&'a [u8]>,
 }
 
@@ -31,19 +31,19 @@ impl<'a> Model for FileParts<'a> {
 
     ghost coded = { lists_code };
 
-    ghost view = { λ parts. view_of parts.files.items parts.slots.items parts.streams.items };
+    ghost view = { λ parts. view_of parts.files.items parts.open_files.items parts.streams.items };
 
-    ghost invariant = { λ parts. AreParts (view_of parts.files.items parts.slots.items parts.streams.items) };
+    ghost invariant = { λ parts. AreParts (view_of parts.files.items parts.open_files.items parts.streams.items) };
 }
 
 impl<'a> FileParts<'a> {
     /// No file, no descriptor and no stream.
     pub fn new(alloc: Global) -> FileParts<'a>
-        ensures { result ≡ record { files = []; slots = []; streams = [] } }
+        ensures { result ≡ record { files = []; open_files = []; streams = [] } }
     {
         FileParts {
             files: Vec::new(alloc),
-            slots: Vec::new(alloc),
+            open_files: Vec::new(alloc),
             streams: Vec::new(alloc),
         }
     }
@@ -52,14 +52,14 @@ impl<'a> FileParts<'a> {
     pub(crate) fn is_in_range(&self) -> bool
         ensures { IsTrue result ↔ AreInRange self.now }
     {
-        are_in_range(&self.files, &self.slots, &self.streams)
+        are_in_range(&self.files, &self.open_files, &self.streams)
     }
 
     /// Whether each descriptor's file is there, and each file has a name or a descriptor.
     pub(crate) fn is_joined(&self) -> bool
         ensures { IsTrue result ↔ AreJoined self.now }
     {
-        are_joined(&self.files, &self.slots)
+        are_joined(&self.files, &self.open_files)
     }
 
     /// The files, where the parts keep the rules.
@@ -72,7 +72,7 @@ impl<'a> FileParts<'a> {
         Files::from_lists(
             alloc,
             &self.files,
-            &self.slots,
+            &self.open_files,
             self.streams[0],
             self.streams[1],
         )
@@ -99,12 +99,12 @@ impl<'a> FileParts<'a> {
     }
 
     /// Adds a descriptor, which is above all earlier ones, with what it stands for.
-    pub fn push_slot(&mut self, fd: u32, slot: Slot) -> Result<(), OutOfMemory>
-        requires { All (λ held. held.0 < fd) self.old.slots }
-        ensures ok { OnOk result (self.new ≡ record self.old { slots = self.old.slots ++ (fd, slot) ∷ [] }) }
+    pub fn push_open_file(&mut self, fd: u32, open_file: OpenFile) -> Result<(), OutOfMemory>
+        requires { All (λ held. held.0 < fd) self.old.open_files }
+        ensures ok { OnOk result (self.new ≡ record self.old { open_files = self.old.open_files ++ (fd, open_file) ∷ [] }) }
         ensures err { OnErr result (self.new ≡ self.old) }
     {
-        self.slots.push((fd, slot))?;
+        self.open_files.push((fd, open_file))?;
         Ok(())
     }
 

@@ -3,8 +3,8 @@
 ghost use Rattle.std.specs.Prelude.{◌≡◌, ◌*◌, All, IsTrue, List, reverse};
 ghost use Rattle.std.specs.FinMap as finite;
 ghost use Rattle.paged_mem.specs.Memory.{Memory, IsWhole, maps};
-ghost use Rattle.save_text.specs.declared.state_text.parts.Run.{Run};
-ghost use Rattle.save_text.specs.StateText.StateText.{PageText};
+ghost use Rattle.save_format.specs.declared.state_text.parts.Run.{Run};
+ghost use Rattle.save_format.specs.StateText.StateText.{PageText};
 ghost use Rattle.checkpoints.specs.MemoryParts.Canonical.{runs_of, with_pages, mapped_runs, ArePlaced, AreShown, pages_of};
 
 /// The runs and pages of a memory say that memory.

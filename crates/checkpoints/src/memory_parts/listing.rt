@@ -3,12 +3,12 @@
 ghost use Rattle.std.specs.Prelude.{◌≡◌, ◌≤◌, ◌+◌, ◌*◌, ◌^◌, ◌==◌, ◌++◌, ◌∷◌, [], map, IfOk, OnOk, MatchOption};
 ghost use Rattle.std.specs.List.{list_all};
 ghost use Rattle.paged_mem.specs.Memory.{bytes_at};
-ghost use Rattle.save_text.specs.StateText.Seen.{page_view};
+ghost use Rattle.save_format.specs.StateText.Seen.{page_view};
 ghost use Rattle.checkpoints.specs.MemoryParts.Canonical.{runs_of, listed_page, page_texts_from, pages_of};
 
 use ddc_base::OutOfMemory;
 use paged_mem::{PAGE, PageView, Ram};
-use save_text::state_text::{Page, Run};
+use save_format::state_text::{Page, Run};
 use std::alloc::Global;
 
 /// The runs of mapped pages, ascending, as few as there can be.
@@ -27,7 +27,7 @@ pub fn runs<R: Ram>(alloc: Global, ram: &R) -> Result<Vec<Run>, OutOfMemory>
     Ok(found)
 }
 
-/// The pages that are not all zeros, ascending. Their bytes are lent.
+/// The pages that are not all zeros, ascending. Their bytes are borrowed.
 pub fn pages<R: Ram>(alloc: Global, ram: &R) -> Result<Vec<Page<'_>>, OutOfMemory>
     ensures { IfOk result (λ v. map page_view v.items ≡ pages_of (R.bytes ram.now)) }
 {

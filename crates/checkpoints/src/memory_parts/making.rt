@@ -3,12 +3,12 @@
 ghost use Rattle.std.specs.Prelude.{◌≡◌, ◌↔◌, ◌*◌, ℕ, All, IfOk, IsTrue, OnErr, OnOk, length, map, reverse, take};
 ghost use Rattle.paged_mem.specs.Memory.{maps};
 ghost use Rattle.std.specs.FinMap as finite;
-ghost use Rattle.save_text.specs.StateText.Seen.{page_view};
+ghost use Rattle.save_format.specs.StateText.Seen.{page_view};
 ghost use Rattle.checkpoints.specs.MemoryParts.Canonical.{with_pages, mapped_runs, ArePlaced};
 
 use ddc_base::OutOfMemory;
 use paged_mem::{PAGE, Ram, StoreRefusal};
-use save_text::state_text::{Page, Run};
+use save_format::state_text::{Page, Run};
 use std::alloc::Global;
 
 /// A memory with the pages of these runs, all zeros.

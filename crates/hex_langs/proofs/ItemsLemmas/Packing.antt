@@ -18,7 +18,7 @@ item_of-byte others code small = let test : nat_lt code 256 ≡ true = grind (ar
 item_of-other : (others : List Item) (code : ℕ) → 256 ≤ code → item_of others code ≡ get_or others (code - 256) Pad
 item_of-other others code high = let test : nat_lt code 256 ≡ false = grind (arith, nat_tests) in cond-false _ _ _ test
 
--- a code that is known stands for the same item behind one more
+-- a code that is known stands for the same item after one more
 item_of-more : (others : List Item) (it : Item) (code : ℕ) → code < 256 + length others → item_of (others ++ it ∷ []) code ≡ item_of others code
 item_of-more others it code known = by (cases_lt code 256)
   where

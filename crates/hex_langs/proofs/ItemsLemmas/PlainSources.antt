@@ -74,10 +74,10 @@ unfolding gap_length
 gap-end = refl
 
 -- a gap may be passed over first
-behind-gap : (dialect : Dialect) (at : ℕ) (left : List ℕ)
+appended-gap : (dialect : Dialect) (at : ℕ) (left : List ℕ)
     → reading dialect at 0 left ≡ reading dialect (at + gap_length left) 0 (drop (gap_length left) left)
-behind-gap dialect at [] = reading-end dialect at ∙ sym (ap (λ (n : ℕ). reading dialect (at + n) 0 (drop n [])) gap-end ∙ reading-end dialect (at + 0))
-behind-gap dialect at (byte ∷ left) = by (opens_gap byte) refl
+appended-gap dialect at [] = reading-end dialect at ∙ sym (ap (λ (n : ℕ). reading dialect (at + n) 0 (drop n [])) gap-end ∙ reading-end dialect (at + 0))
+appended-gap dialect at (byte ∷ left) = by (opens_gap byte) refl
   where
     by : (opens : Bool) → opens_gap byte ≡ opens
         → reading dialect at 0 (byte ∷ left) ≡ reading dialect (at + gap_length (byte ∷ left)) 0 (drop (gap_length (byte ∷ left)) (byte ∷ left))
@@ -108,7 +108,7 @@ Even dialect in_comment left =
     IsTrue (plain_ahead in_comment left) → length (ahead in_comment left) % 2 ≡ 0 → (at : ℕ)
     → formed None (reading dialect at 0 (drop (gap_from in_comment left) left)) ≡ bytes_alone (pairs (ahead in_comment left))
 
--- with an odd number one digit stands behind the gap, and the pairs of the others follow
+-- with an odd number one digit stands after the gap, and the pairs of the others follow
 record Odd (dialect : Dialect) (in_comment : Bool) (left : List ℕ) : Type 0 where
   low : ℕ
   rest : List ℕ
@@ -142,7 +142,7 @@ both-skip dialect now next byte left gap digits plain both =
           },
     )
 
--- the pair of a digit and of the one behind the gap
+-- the pair of a digit and of the one after the gap
 token-pair : (dialect : Dialect) (byte value : ℕ) (left : List ℕ) (low : ℕ) → hex_digit_value byte ≡ Some value
     → low_digit (drop (gap_length left) left) ≡ Some low
     → token_at dialect byte left ≡ Ok (Byte (16 * value + low), gap_length left + 1)
@@ -197,7 +197,7 @@ both-digit dialect byte value left digit both =
         here = ap (λ (n : ℕ). low_digit (drop n (byte ∷ left))) size ∙ digit;
         later = λ at.
             ap (λ (n : ℕ). formed None (reading dialect at 0 (drop (n + 1) (byte ∷ left)))) size
-            ∙ ap (formed None) (behind-gap dialect at left)
+            ∙ ap (formed None) (appended-gap dialect at left)
             ∙ even-by dialect left (both.0 (subst IsTrue plain is) (even-after _ (sym (ap (λ (l : List ℕ). length l % 2) digits) ∙ odd))) (at + gap_length left);
       },
     )
@@ -295,7 +295,7 @@ whole-source : (dialect : Dialect) (source : List ℕ) → IsTrue (is_plain sour
     → formed None (reading dialect 0 0 source) ≡ bytes_alone (hex0_of source)
 unfolding hex0_of
 whole-source dialect source plain even =
-    ap (formed None) (behind-gap dialect 0 source) ∙ even-by dialect source ((both dialect false source).0 plain even) (0 + gap_length source)
+    ap (formed None) (appended-gap dialect 0 source) ∙ even-by dialect source ((both dialect false source).0 plain even) (0 + gap_length source)
 
 value-few : (source : List ℕ) → length source ≤ 67108864 → length (hex0_of source) ≤ 33554432
 unfolding hex0_of

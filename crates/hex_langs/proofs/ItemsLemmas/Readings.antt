@@ -18,7 +18,7 @@ use Rattle.hex_langs.specs.declared.items.reader.HexRefusal.TheVariants.{TooLong
 use Rattle.hex_langs.specs.Items.Tokens.{gap_from, gap_length, is_blank, opens_gap, pair_at, token_at}
 use Rattle.hex_langs.specs.Hex0.{begins_comment}
 use Rattle.hex_langs.specs.Items.Words.{Step, taken, Takes}
-use Rattle.hex_langs.specs.Items.Reading.{answer, Ending, NoToken, Faulty, Formed, fault_at, formed, behind_step, Halted, halted, items_of, limited_items, Reading, ReadsItems, reading, Then, with_front}
+use Rattle.hex_langs.specs.Items.Reading.{answer, Ending, NoToken, Faulty, Formed, fault_at, formed, after_step, Halted, halted, items_of, limited_items, Reading, ReadsItems, reading, Then, with_front}
 
 -- what is read already is passed over
 pub reading-inside : (dialect : Dialect) (at inside : ℕ) (left : List ℕ)
@@ -62,12 +62,12 @@ with_front-twice front more later = ap (λ (items : List Item). record { items =
 -- a token that has its place
 pub formed-token : {F : Type 0} (word next : Option Open) (at : ℕ) (token : Token) (later : Reading F) (more : List Item)
     → taken word at token ≡ Ok (more, next) → formed word (Then at token later) ≡ with_front more (formed next later)
-formed-token word next at token later more is = ap (λ (step : Step). behind_step step (λ then. formed then later)) is
+formed-token word next at token later more is = ap (λ (step : Step). after_step step (λ then. formed then later)) is
 
 -- a token that has none
 pub formed-halt : {F : Type 0} (word : Option Open) (at : ℕ) (token : Token) (later : Reading F) (why : Halt)
     → taken word at token ≡ Err why → formed word (Then at token later) ≡ record { items = []; end = Halted why }
-formed-halt word at token later why is = ap (λ (step : Step). behind_step step (λ then. formed then later)) is
+formed-halt word at token later why is = ap (λ (step : Step). after_step step (λ then. formed then later)) is
 
 -- a digit begins a byte
 pub token-digit : (dialect : Dialect) (byte : ℕ) (left : List ℕ) → is_hex_digit byte ≡ true → token_at dialect byte left ≡ pair_at byte left
@@ -92,7 +92,7 @@ pub gap_length-some : (byte : ℕ) (left : List ℕ) → opens_gap byte ≡ true
 unfolding gap_length
 gap_length-some byte left opens = gap-some (begins_comment byte) (is_blank byte) (gap_from true left) (gap_from false left) opens
 
--- a gap takes at least one byte, and what is read behind it is what was read before it
+-- a gap takes at least one byte, and what is read after it is what was read before it
 pub moves-gap : (dialect : Dialect) (source : List ℕ) (at size : ℕ) → at < length source → opens_gap (get_or source at 0) ≡ true
     → size ≡ gap_length (drop at source)
     → (0 < size) × (reading dialect at 0 (drop at source) ≡ reading dialect (at + size) 0 (drop (at + size) source))
@@ -139,7 +139,7 @@ judged-few whole few = let fits : nat_lt 33554432 (length whole.items) ≡ false
 judged-many : (whole : Formed TokenFault) → 33554432 < length whole.items → limited_items whole ≡ Err TooLong
 judged-many whole many = let over : nat_lt 33554432 (length whole.items) ≡ true = grind (arith, nat_tests) in cond-true _ _ _ over
 
--- the items so far are few, and nothing comes behind them
+-- the items so far are few, and nothing comes after them
 pub judged-end : (whole : Formed TokenFault) (items : List Item) (end : Ending TokenFault) → whole ≡ with_front items (record { items = []; end = end })
     → length items ≤ 33554432 → limited_items whole ≡ answer items end
 judged-end whole items end is few =

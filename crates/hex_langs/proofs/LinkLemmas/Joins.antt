@@ -8,7 +8,7 @@ use Rattle.hex_langs.specs.declared.items.item.Item.TheVariants.{Byte, Label, Wo
 use Rattle.hex_langs.specs.declared.items.reader.HexRefusal.{HexRefusal}
 use Rattle.hex_langs.specs.declared.items.reader.HexRefusal.TheVariants as refusal
 use Rattle.hex_langs.specs.declared.link.number.Miss.{Miss}
-use Rattle.hex_langs.specs.Link.Link.{address_of, behind, item_bytes, four, bytes_from, Labels, link_of, Links, onto, pad_size, refused, size_at, unless_repeat}
+use Rattle.hex_langs.specs.Link.Link.{address_of, appended, item_bytes, four, bytes_from, Labels, link_of, Links, onto, pad_size, refused, size_at, unless_repeat}
 use Rattle.hex_langs.specs.Link.Representation.Tables.{address_in, LabelMap, Puts, Tables}
 
 pub puts-ok : (meant : Result (List ℕ) Miss) (old new : List ℕ) → Puts (Ok tt) meant old new
@@ -53,7 +53,7 @@ joined-more labels base index it left old new whole is puts =
     let length_is : length new ≡ length old + length put.0 = ap length put.2 ∙ length-append old put.0 in
     let next_is : base + length old + size_at (base + length old) it ≡ base + length new = omega (arith, size, length_is) in
     let rest = bytes_from labels (base + length old + size_at (base + length old) it) (index + 1) left in (
-      is ∙ ap (λ (b : Result (List ℕ) Miss). onto old (behind b index rest)) put.1
+      is ∙ ap (λ (b : Result (List ℕ) Miss). onto old (appended b index rest)) put.1
           ∙ onto-twice old put.0 rest
           ∙ ap (λ (bytes : List ℕ). onto bytes rest) (sym put.2)
           ∙ ap (λ (n : ℕ). onto new (bytes_from labels n (index + 1) left)) next_is,
@@ -65,7 +65,7 @@ pub joined-refused : (labels : Labels) (base index : ℕ) (it : Item) (left : Li
     → whole ≡ onto old (bytes_from labels (base + length old) index (it ∷ left))
     → item_bytes labels (base + length old) it ≡ Err miss → whole ≡ Err (refused miss index)
 joined-refused labels base index it left old miss whole is none =
-    is ∙ ap (λ (b : Result (List ℕ) Miss). onto old (behind b index (bytes_from labels (base + length old + size_at (base + length old) it) (index + 1) left))) none
+    is ∙ ap (λ (b : Result (List ℕ) Miss). onto old (appended b index (bytes_from labels (base + length old + size_at (base + length old) it) (index + 1) left))) none
 
 -- ---- the whole
 

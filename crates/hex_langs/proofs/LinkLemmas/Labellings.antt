@@ -49,7 +49,7 @@ seen-by seen index (it ∷ items) = ap (λ (s : List (List ℕ)). first_repeat s
 repeat-first : (items : List Item) → first_repeat [] 0 items ≡ repeat_by (λ name. false) 0 items
 repeat-first items = seen-by [] 0 items
 
--- ---- a table behind some of the items
+-- ---- a table after some of the items
 
 -- an address that a table has, or one that later items give
 abbrev pub or_later : Option ℕ → Option ℕ → Option ℕ
@@ -122,7 +122,7 @@ more E (item.Gap one other) items left base old new index address is adds = subs
 more E (item.Abs name) items left base old new index address is adds = subst (λ (t : LabelMap). IsTableOf items base t (index + 1) (address + 4) left) (sym adds.1) (record { once = is.once; found = is.found })
 more E item.Pad items left base old new index address is adds = subst (λ (t : LabelMap). IsTableOf items base t (index + 1) (address + size_at address item.Pad) left) (sym adds.1) (record { once = is.once; found = is.found })
 
--- the table behind all items
+-- the table after all items
 pub tabled : (items : List Item) (base : ℕ) (table : LabelMap) (index address : ℕ) → base ≤ 2 ^ 37 → length items ≤ 33554432
     → IsTableOf items base table index address [] → Tables (Ok table) items base
 tabled items base table index address low few is =

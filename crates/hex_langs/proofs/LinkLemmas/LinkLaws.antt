@@ -13,9 +13,9 @@ use Rattle.hex_langs.proofs.ItemsLemmas.PlainSources.{plain-items}
 use Rattle.hex_langs.specs.declared.link.values.HexLanguage.{HexLanguage}
 use Rattle.hex_langs.specs.declared.link.values.HexLanguage.TheVariants.{Hex0, Hex1, Hex2}
 use Rattle.hex_langs.specs.Link.Values.{linked, value_of}
-use Rattle.hex_langs.specs.Link.Laws.{address_behind, is_fixed, KeepsApart, renamed}
+use Rattle.hex_langs.specs.Link.Laws.{address_after, is_fixed, KeepsApart, renamed}
 use Rattle.std.specs.Prelude.{bytes_eq}
-use Rattle.hex_langs.specs.Link.Link.{address_of, behind, item_bytes, defines, first_repeat, bytes_from, label_in, Labels, link_of, onto, repeats, size_at, unless_repeat}
+use Rattle.hex_langs.specs.Link.Link.{address_of, appended, item_bytes, defines, first_repeat, bytes_from, label_in, Labels, link_of, onto, repeats, size_at, unless_repeat}
 use Rattle.hex_langs.proofs.LinkLemmas.Joins.{bytes-size}
 
 -- ---- bases
@@ -45,16 +45,16 @@ onto-ok : (front bytes : List ℕ) (later : Result (List ℕ) HexRefusal) → on
 onto-ok front bytes (Ok rest) is = (rest, refl, let same : front ++ rest ≡ bytes = cc in sym same)
 onto-ok front bytes (Err why) is = absurd (cc)
 
-behind-ok : (bytes : List ℕ) (own : Result (List ℕ) Miss) (index : ℕ) (later : Result (List ℕ) HexRefusal) → behind own index later ≡ Ok bytes
+appended-ok : (bytes : List ℕ) (own : Result (List ℕ) Miss) (index : ℕ) (later : Result (List ℕ) HexRefusal) → appended own index later ≡ Ok bytes
     → (front : List ℕ) × (own ≡ Ok front) × (onto front later ≡ Ok bytes)
-behind-ok bytes (Ok front) index later is = (front, refl, is)
-behind-ok bytes (Err miss) index later is = absurd (cc)
+appended-ok bytes (Ok front) index later is = (front, refl, is)
+appended-ok bytes (Err miss) index later is = absurd (cc)
 
 joined-size : (labels : Labels) (address index : ℕ) (items : List Item) (bytes : List ℕ) → bytes_from labels address index items ≡ Ok bytes
-    → address + length bytes ≡ address_behind address items
+    → address + length bytes ≡ address_after address items
 joined-size labels address index [] bytes is = let same : [] ≡ bytes = cc in omega (arith, ap length same)
 joined-size labels address index (it ∷ items) bytes is =
-    let front = behind-ok bytes (item_bytes labels address it) index (bytes_from labels (address + size_at address it) (index + 1) items) is in
+    let front = appended-ok bytes (item_bytes labels address it) index (bytes_from labels (address + size_at address it) (index + 1) items) is in
     let rest = onto-ok front.0 bytes (bytes_from labels (address + size_at address it) (index + 1) items) front.2 in
     let own = bytes-size labels address it front.0 front.1 in
     let later = joined-size labels (address + size_at address it) (index + 1) items rest.0 rest.1 in
@@ -64,9 +64,9 @@ unless-ok : (repeat : Option ℕ) (later : Result (List ℕ) HexRefusal) (bytes 
 unless-ok None later bytes is = is
 unless-ok (Some index) later bytes is = absurd (cc)
 
-pub bytes-end-behind-the-last : (items : List Item) (base : ℕ) (bytes : List ℕ) → link_of items base ≡ Ok bytes → base + length bytes ≡ address_behind base items
+pub bytes-end-appended-the-last : (items : List Item) (base : ℕ) (bytes : List ℕ) → link_of items base ≡ Ok bytes → base + length bytes ≡ address_after base items
 unfolding link_of
-bytes-end-behind-the-last items base bytes is =
+bytes-end-appended-the-last items base bytes is =
     joined-size (address_of base items) base 0 items bytes (unless-ok (first_repeat [] 0 items) (bytes_from (address_of base items) base 0 items) bytes is)
 
 -- ---- names
@@ -164,10 +164,10 @@ joined-renamed : (rename : List ℕ → List ℕ) (labels others : Labels) → (
     → (address index : ℕ) (items : List Item) → bytes_from others address index (map (renamed rename) items) ≡ bytes_from labels address index items
 joined-renamed rename labels others same address index [] = refl
 joined-renamed rename labels others same address index (it ∷ items) =
-    ap (λ (own : Result (List ℕ) Miss). behind own index (bytes_from others (address + size_at address (renamed rename it)) (index + 1) (map (renamed rename) items)))
+    ap (λ (own : Result (List ℕ) Miss). appended own index (bytes_from others (address + size_at address (renamed rename it)) (index + 1) (map (renamed rename) items)))
     (bytes-renamed rename labels others same address it)
-    ∙ ap (λ (size : ℕ). behind (item_bytes labels address it) index (bytes_from others (address + size) (index + 1) (map (renamed rename) items))) (size-renamed rename address it)
-    ∙ ap (behind (item_bytes labels address it) index) (joined-renamed rename labels others same (address + size_at address it) (index + 1) items)
+    ∙ ap (λ (size : ℕ). appended (item_bytes labels address it) index (bytes_from others (address + size) (index + 1) (map (renamed rename) items))) (size-renamed rename address it)
+    ∙ ap (appended (item_bytes labels address it) index) (joined-renamed rename labels others same (address + size_at address it) (index + 1) items)
 
 pub names-do-not-matter : (rename : List ℕ → List ℕ) → KeepsApart rename → (items : List Item) (base : ℕ)
     → link_of (map (renamed rename) items) base ≡ link_of items base

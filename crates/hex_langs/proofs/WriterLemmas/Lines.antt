@@ -107,7 +107,7 @@ name_length-is (first ∷ name) left byte whole ends =
     let more : 1 + length name ≡ length (first ∷ name) = omega arith in
     rw head (ap (λ (n : ℕ). 1 + n) (name_length-is name left byte parts.1 ends) ∙ more)
 
--- behind a sign a whole name
+-- after a sign a whole name
 pub named-is : (make : List ℕ → Token) (name left : List ℕ) (byte : ℕ) → IsHexName name → ends_name byte ≡ true
     → named_by make (name_length Hex2 (name ++ byte ∷ left)) (name ++ byte ∷ left) ≡ Ok (make name, length name)
 named-is make name left byte is ends =
@@ -166,7 +166,7 @@ gap-token name other left is also =
 
 -- ---- lines
 
--- one line is one item, and the reading goes on behind it
+-- one line is one item, and the reading goes on after it
 abbrev pub ReadsLine : Item → Type 0
 ReadsLine it = (at : ℕ) (rest : List ℕ) → (next : ℕ)
     × (formed None (reading Hex2 at 0 (item_line it ++ rest)) ≡ with_front (it ∷ []) (formed None (reading Hex2 next 0 rest)))

@@ -10,7 +10,7 @@ use Rattle.hex_langs.specs.declared.items.words.Open.{Open}
 use Rattle.hex_langs.specs.declared.items.words.Begun.{Begun}
 use Rattle.hex_langs.specs.declared.items.words.Begun.TheVariants.{Nothing, One, Two, Three}
 use Rattle.hex_langs.specs.Items.Words.{byte_in, field_in, reference_in, Step, taken, word_items}
-use Rattle.hex_langs.specs.Items.Reading.{NoToken, Faulty, formed, Formed, behind_step, Reading, Then}
+use Rattle.hex_langs.specs.Items.Reading.{NoToken, Faulty, formed, Formed, after_step, Reading, Then}
 use Rattle.hex_langs.specs.Writer.Writable.{AreWritable, IsHexName, IsWritable}
 
 abbrev pub IsGood : Token → Type 0
@@ -87,7 +87,7 @@ all-append [] ys first second = second
 all-append (x ∷ xs) ys first second = (first.0, all-append xs ys first.1 second)
 
 goes-on : {F : Type 0} (step : Step) (rest : Option Open → Formed F) → StepFits step → ((next : Option Open) → OpenFits next → AreWritable (rest next).items)
-    → AreWritable (behind_step step rest).items
+    → AreWritable (after_step step rest).items
 goes-on (Ok step) rest fits later = all-append step.0 (rest step.1).items fits.0 (later step.1 fits.1)
 goes-on (Err why) rest fits later = tt
 

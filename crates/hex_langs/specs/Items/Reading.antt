@@ -51,16 +51,16 @@ abbrev pub word_end : {F : Type 0} → Option Open → Ending F
 word_end None = Whole
 word_end (Some word) = Halted (halt.Dangling word.first)
 
--- behind one step: the items that it forms and what the rest gives, or no more
-abbrev pub behind_step : {F : Type 0} → Step → (Option Open → Formed F) → Formed F
-behind_step (Ok step) rest = with_front step.0 (rest step.1)
-behind_step (Err why) rest = record { items = []; end = Halted why }
+-- after one step: the items that it forms and what the rest gives, or no more
+abbrev pub after_step : {F : Type 0} → Step → (Option Open → Formed F) → Formed F
+after_step (Ok step) rest = with_front step.0 (rest step.1)
+after_step (Err why) rest = record { items = []; end = Halted why }
 
--- the items of tokens, behind an open word or none
+-- the items of tokens, after an open word or none
 abbrev pub formed : {F : Type 0} → Option Open → Reading F → Formed F
 formed word NoToken = record { items = []; end = word_end word }
 formed word (Faulty why at) = record { items = []; end = Faulted why at }
-formed word (Then at token later) = behind_step (taken word at token) (λ next. formed next later)
+formed word (Then at token later) = after_step (taken word at token) (λ next. formed next later)
 
 -- the refusal of a token without a place, and of a place without a token
 abbrev pub halted : Halt → HexRefusal

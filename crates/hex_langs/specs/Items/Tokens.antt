@@ -74,23 +74,23 @@ abbrev pub field_of : Option ℕ → Option ℕ → Option ℕ → Option ℕ �
 field_of (Some a) (Some b) (Some c) (Some d) = Ok (Field (from_le_bytes w32 (a ∷ b ∷ c ∷ d ∷ [])), 8)
 field_of _ _ _ _ = Err BadField
 
--- behind `.` at once 8 digits
+-- after `.` at once 8 digits
 unfoldable pub field_at : List ℕ → Result (Token × ℕ) TokenFault
 field_at left =
     if nat_lt (length left) 8 then Err BadField
     else field_of (byte_at left 0) (byte_at left 2) (byte_at left 4) (byte_at left 6)
 
--- behind a sign at once a name
+-- after a sign at once a name
 abbrev pub named_by : (List ℕ → Token) → ℕ → List ℕ → Result (Token × ℕ) TokenFault
 named_by make size left = if size == 0 then Err BadField else Ok (make (take size left), size)
 
--- what a sign makes of the name behind it
+-- what a sign makes of the name after it
 abbrev pub sign_token : Sign → List ℕ → Token
 sign_token sign.Label name = Alone (item.Label name)
 sign_token sign.Absolute name = Alone (item.Abs name)
 sign_token (sign.Reference kind) name = Reference kind name
 
--- behind `%` a name, and in hex2 perhaps `>` and a second one
+-- after `%` a name, and in hex2 perhaps `>` and a second one
 abbrev pub second_name : ℕ → ℕ → List ℕ → Result (Token × ℕ) TokenFault
 second_name size more left =
     if more == 0 then Err BadField

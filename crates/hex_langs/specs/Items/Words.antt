@@ -14,7 +14,7 @@ use Rattle.hex_langs.specs.declared.items.words.Begun.TheVariants.{Nothing, One,
 use Rattle.hex_langs.specs.declared.items.words.Halt.{Halt}
 use Rattle.hex_langs.specs.declared.items.words.Halt.TheVariants.{Dangling, Second, TooLong, OutOfMemory}
 
--- what a token does: the items that it forms and the word that is open behind it, or why it has no place
+-- what a token does: the items that it forms and the word that is open after it, or why it has no place
 abbrev pub Step : Type 0
 Step = Result (List Item × Option Open) Halt
 
@@ -26,7 +26,7 @@ abbrev pub word_items : Option (Kind × List ℕ) → ℕ → List Item
 word_items None value = map item.Byte (to_le_bytes w32 value)
 word_items (Some reference) value = item.Word value reference.0 reference.1 ∷ []
 
--- a byte behind the bytes that an open word has
+-- a byte after the bytes that an open word has
 abbrev pub byte_in : Open → Begun → ℕ → Step
 byte_in word Nothing byte = still_open (record word { begun = One byte })
 byte_in word (One a) byte = still_open (record word { begun = Two a byte })
@@ -47,7 +47,7 @@ reference_in word (Some other) begun at kind name = Err (Second at)
 reference_in word None Nothing at kind name = still_open (record word { reference = Some (kind, name) })
 reference_in word None _ at kind name = Err (Dangling word.first)
 
--- a token at an offset, behind no open word or behind one
+-- a token at an offset, after no open word or after one
 abbrev pub taken : Option Open → ℕ → Token → Step
 taken None at (Byte byte) = Ok (item.Byte byte ∷ [], None)
 taken None at (Alone it) = Ok (it ∷ [], None)

@@ -10,10 +10,10 @@ is_fixed (Byte byte) = true
 is_fixed (Label name) = true
 is_fixed it = false
 
--- the address behind the last of items that stand from an address on
-abbrev pub address_behind : ℕ → List Item → ℕ
-address_behind address [] = address
-address_behind address (it ∷ items) = address_behind (address + size_at address it) items
+-- the address after the last of items that stand from an address on
+abbrev pub address_after : ℕ → List Item → ℕ
+address_after address [] = address
+address_after address (it ∷ items) = address_after (address + size_at address it) items
 
 -- an item with other names
 abbrev pub renamed : (List ℕ → List ℕ) → Item → Item

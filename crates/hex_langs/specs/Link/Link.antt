@@ -134,21 +134,21 @@ abbrev pub refused : Miss → ℕ → HexRefusal
 refused NoLabel index = refusal.NoLabel index
 refused OutOfReach index = refusal.OutOfReach index
 
--- behind bytes
+-- after bytes
 abbrev pub onto : List ℕ → Result (List ℕ) HexRefusal → Result (List ℕ) HexRefusal
 onto front (Ok bytes) = Ok (front ++ bytes)
 onto front (Err why) = Err why
 
--- behind the bytes of one item, if it has any
-abbrev pub behind : Result (List ℕ) Miss → ℕ → Result (List ℕ) HexRefusal → Result (List ℕ) HexRefusal
-behind (Ok bytes) index later = onto bytes later
-behind (Err miss) index later = Err (refused miss index)
+-- after the bytes of one item, if it has any
+abbrev pub appended : Result (List ℕ) Miss → ℕ → Result (List ℕ) HexRefusal → Result (List ℕ) HexRefusal
+appended (Ok bytes) index later = onto bytes later
+appended (Err miss) index later = Err (refused miss index)
 
 -- the bytes of items from an address on, of which the first has a number
 abbrev pub bytes_from : Labels → ℕ → ℕ → List Item → Result (List ℕ) HexRefusal
 bytes_from labels address index [] = Ok []
 bytes_from labels address index (it ∷ items) =
-    behind (item_bytes labels address it) index (bytes_from labels (address + size_at address it) (index + 1) items)
+    appended (item_bytes labels address it) index (bytes_from labels (address + size_at address it) (index + 1) items)
 
 -- a label that is defined again comes before everything else
 abbrev pub unless_repeat : Option ℕ → Result (List ℕ) HexRefusal → Result (List ℕ) HexRefusal

@@ -13,7 +13,7 @@ use std::marker::Model;
 /// (RISC-V Unprivileged ISA, "Base Instruction Formats" and "Immediate Encoding Variants").
 #[derive(Clone, Copy, PartialEq, Eq)]
 pub enum Kind {
-    /// `!name`: 12 bits, behind a `U` of the word before.
+    /// `!name`: 12 bits, after a `U` of the word before.
     I,
     /// `@name`: a branch.
     B,
@@ -25,22 +25,22 @@ pub enum Kind {
 
 /// A name, which lies in the source. Contracts see its bytes.
 #[derive(Drop)]
-pub struct Name<'s> {
+pub struct LabelName<'s> {
     bytes: &'s [u8],
 }
 
-impl<'s> Model for Name<'s> {
+impl<'s> Model for LabelName<'s> {
     ghost Value = { List ℕ };
 
     ghost view = { λ n. n.bytes.now };
 }
 
-impl<'s> Name<'s> {
+impl<'s> LabelName<'s> {
     /// The name of these bytes.
-    pub fn new(bytes: &'s [u8]) -> Name<'s>
+    pub fn new(bytes: &'s [u8]) -> LabelName<'s>
         ensures { result ≡ bytes.now }
     {
-        Name { bytes }
+        LabelName { bytes }
     }
 
     /// Its bytes.
@@ -51,7 +51,7 @@ impl<'s> Name<'s> {
     }
 }
 
-impl<'s> PartialEq for Name<'s> {
+impl<'s> PartialEq for LabelName<'s> {
     ghost eq = { λ a b. pointwise nat_eq a b };
 
     ghost laws = { on_per (λ n. n) (partial_equiv_from_equiv nat_list_eq_equiv) };
@@ -61,11 +61,11 @@ impl<'s> PartialEq for Name<'s> {
     }
 }
 
-impl<'s> Eq for Name<'s> {
+impl<'s> Eq for LabelName<'s> {
     ghost laws = { on_equiv (λ n. n) nat_list_eq_equiv };
 }
 
-impl<'s> Hash for Name<'s> {
+impl<'s> Hash for LabelName<'s> {
     ghost hash_input = { λ n. n ∷ [] };
 
     ghost respects_eq = { λ a b is. ap (λ n. n ∷ []) ((bytes_decides a b).0 is) };
@@ -80,15 +80,15 @@ impl<'s> Hash for Name<'s> {
 pub enum Item<'s> {
     Byte(u8),
     /// Defines the label at the item's address.
-    Label(Name<'s>),
+    Label(LabelName<'s>),
     /// Four bytes of an instruction, whose value gets the distance of the label by its kind.
-    Word(u32, Kind, Name<'s>),
+    Word(u32, Kind, LabelName<'s>),
     /// Four bytes: how far the label is from the end of them.
-    Rel(Name<'s>),
+    Rel(LabelName<'s>),
     /// Four bytes: how far the first label is from the second.
-    Gap(Name<'s>, Name<'s>),
+    Gap(LabelName<'s>, LabelName<'s>),
     /// Four bytes: the address of the label.
-    Abs(Name<'s>),
+    Abs(LabelName<'s>),
     /// Zero bytes up to the next address that is a multiple of 4.
     Pad,
 }

@@ -6,7 +6,7 @@ ghost use Rattle.std.specs.Option.{option_copied};
 ghost use Rattle.hex_langs.specs.Items.Representation.Packed.{items_of, ArePacked};
 ghost use Rattle.hex_langs.specs.declared.items.item.Item.TheVariants.{Byte};
 
-use crate::items::item::{Item, Name};
+use crate::items::item::{Item, LabelName};
 use ddc_base::OutOfMemory;
 use std::alloc::{AllocFailed, Global};
 use std::marker::Model;
@@ -169,11 +169,11 @@ fn copied<'s>(item: &Item<'s>) -> Item<'s>
 {
     match item {
         Item::Byte(byte) => Item::Byte(*byte),
-        Item::Label(name) => Item::Label(Name::new(name.bytes())),
-        Item::Word(value, kind, name) => Item::Word(*value, *kind, Name::new(name.bytes())),
-        Item::Rel(name) => Item::Rel(Name::new(name.bytes())),
-        Item::Gap(name, other) => Item::Gap(Name::new(name.bytes()), Name::new(other.bytes())),
-        Item::Abs(name) => Item::Abs(Name::new(name.bytes())),
+        Item::Label(name) => Item::Label(LabelName::new(name.bytes())),
+        Item::Word(value, kind, name) => Item::Word(*value, *kind, LabelName::new(name.bytes())),
+        Item::Rel(name) => Item::Rel(LabelName::new(name.bytes())),
+        Item::Gap(name, other) => Item::Gap(LabelName::new(name.bytes()), LabelName::new(other.bytes())),
+        Item::Abs(name) => Item::Abs(LabelName::new(name.bytes())),
         Item::Pad => Item::Pad,
     }
 }

@@ -7,7 +7,7 @@ ghost use Rattle.std.specs.List.{position_or_len};
 ghost use Rattle.hex_langs.specs.declared.items.token.Dialect.TheVariants.{Hex2};
 ghost use Rattle.std.specs.Prelude.{◌≡◌, ℕ, List, ◌<◌, ◌≤◌, ◌+◌, ◌-◌, length, IfOk, IfSome, Some, None, drop, true};
 
-use crate::items::item::{Item, Kind, Name};
+use crate::items::item::{Item, Kind, LabelName};
 
 /// The two languages.
 #[derive(Clone, Copy)]
@@ -28,7 +28,7 @@ pub enum TokenFault {
 pub enum Token<'s> {
     Byte(u8),
     Field(u32),
-    Reference(Kind, Name<'s>),
+    Reference(Kind, LabelName<'s>),
     Alone(Item<'s>),
 }
 
@@ -131,7 +131,7 @@ pub fn byte_of(high: u8, low: u8) -> Option<u8>
     }
 }
 
-/// The byte of a digit and of the next one past blanks and comments, and how many bytes behind the first digit it takes.
+/// The byte of a digit and of the next one past blanks and comments, and how many bytes after the first digit it takes.
 #[tactic(auto, unfolding(crate::specs::Items::Tokens::pair_at))]
 pub(crate) fn pair_at(digit: u8, rest: &[u8]) -> Result<(u8, usize), TokenFault>
     ensures value { IsPair result (pair_at digit rest.now) }
@@ -163,7 +163,7 @@ fn byte_at(rest: &[u8], place: usize) -> Option<u8>
     byte_of(rest[place], rest[place + 1])
 }
 
-/// Behind `.` at once 8 digits.
+/// After `.` at once 8 digits.
 #[tactic(auto, unfolding(crate::specs::Items::Tokens::field_at))]
 fn field_at<'s>(rest: &'s [u8]) -> Result<(Token<'s>, usize), TokenFault>
     ensures value { result ≡ field_at rest.now }
@@ -185,7 +185,7 @@ fn field_at<'s>(rest: &'s [u8]) -> Result<(Token<'s>, usize), TokenFault>
     }
 }
 
-/// What a sign makes of the name behind it.
+/// What a sign makes of the name after it.
 #[derive(Clone, Copy)]
 enum Sign {
     Label,
@@ -194,7 +194,7 @@ enum Sign {
 }
 
 /// The token of a sign and a name.
-fn signed<'s>(sign: Sign, name: Name<'s>) -> Token<'s>
+fn signed<'s>(sign: Sign, name: LabelName<'s>) -> Token<'s>
     ensures { result ≡ sign_token sign name.entry }
 {
     match sign {
@@ -204,7 +204,7 @@ fn signed<'s>(sign: Sign, name: Name<'s>) -> Token<'s>
     }
 }
 
-/// Behind a sign at once a name.
+/// After a sign at once a name.
 fn named<'s>(dialect: Dialect, sign: Sign, rest: &'s [u8]) -> Result<(Token<'s>, usize), TokenFault>
     ensures value { result ≡ named_by (sign_token sign) (name_length dialect rest.now) rest.now }
     ensures within { IfOk result (λ found. found.1 ≤ length rest.now) }
@@ -213,10 +213,10 @@ fn named<'s>(dialect: Dialect, sign: Sign, rest: &'s [u8]) -> Result<(Token<'s>,
     if size == 0 {
         return Err(TokenFault::BadField);
     }
-    Ok((signed(sign, Name::new(&rest[..size])), size))
+    Ok((signed(sign, LabelName::new(&rest[..size])), size))
 }
 
-/// Behind `%` a name, and in hex2 perhaps `>` and a second one.
+/// After `%` a name, and in hex2 perhaps `>` and a second one.
 fn relative<'s>(dialect: Dialect, rest: &'s [u8]) -> Result<(Token<'s>, usize), TokenFault>
     ensures value { result ≡ rel_at dialect rest.now }
     ensures within { IfOk result (λ found. found.1 ≤ length rest.now) }
@@ -226,19 +226,19 @@ fn relative<'s>(dialect: Dialect, rest: &'s [u8]) -> Result<(Token<'s>, usize), 
         return Err(TokenFault::BadField);
     }
     match dialect {
-        Dialect::Hex1 => Ok((Token::Alone(Item::Rel(Name::new(&rest[..size]))), size)),
+        Dialect::Hex1 => Ok((Token::Alone(Item::Rel(LabelName::new(&rest[..size]))), size)),
         Dialect::Hex2 => {
             if size < rest.len() && rest[size] == b'>' {
-                gap_behind(size, rest)
+                gap_after(size, rest)
             } else {
-                Ok((Token::Alone(Item::Rel(Name::new(&rest[..size]))), size))
+                Ok((Token::Alone(Item::Rel(LabelName::new(&rest[..size]))), size))
             }
         }
     }
 }
 
-/// The second name behind the first one's `>`.
-fn gap_behind<'s>(size: usize, rest: &'s [u8]) -> Result<(Token<'s>, usize), TokenFault>
+/// The second name after the first one's `>`.
+fn gap_after<'s>(size: usize, rest: &'s [u8]) -> Result<(Token<'s>, usize), TokenFault>
     requires { size < length rest.now }
     ensures value { result ≡ second_name size (name_length Hex2 (drop (size + 1) rest.now)) rest.now }
     ensures within { IfOk result (λ found. found.1 ≤ length rest.now) }
@@ -248,7 +248,7 @@ fn gap_behind<'s>(size: usize, rest: &'s [u8]) -> Result<(Token<'s>, usize), Tok
     if more == 0 {
         return Err(TokenFault::BadField);
     }
-    let gap = Item::Gap(Name::new(&rest[..size]), Name::new(&second[..more]));
+    let gap = Item::Gap(LabelName::new(&rest[..size]), LabelName::new(&second[..more]));
     Ok((Token::Alone(gap), size + 1 + more))
 }
 

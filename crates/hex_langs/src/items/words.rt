@@ -7,7 +7,7 @@ ghost use Rattle.std.specs.Prelude.{ℕ, bit_xor};
 ghost use Rattle.std.specs.Int.{w32, from_le_bytes, to_le_bytes};
 ghost use Rattle.std.specs.Prelude.{◌≡◌, [], ◌∷◌, ◌≤◌, ◌<◌, length, map, OnErr};
 
-use crate::items::item::{Item, Kind, Name};
+use crate::items::item::{Item, Kind, LabelName};
 use crate::items::items::{Items, MOST_ITEMS};
 use crate::items::token::Token;
 use ddc_base::OutOfMemory;
@@ -28,7 +28,7 @@ pub struct Open<'s> {
     pub first: usize,
     /// Its fields, XORed.
     pub mask: u32,
-    pub reference: Option<(Kind, Name<'s>)>,
+    pub reference: Option<(Kind, LabelName<'s>)>,
     pub begun: Begun,
 }
 
@@ -54,7 +54,7 @@ impl From<OutOfMemory> for Halt {
     }
 }
 
-/// Takes one token behind an open word, or behind none. An error leaves the items as they were.
+/// Takes one token after an open word, or after none. An error leaves the items as they were.
 pub fn take<'s>(
     items: &mut Items<'s>,
     word: Option<Open<'s>>,
@@ -111,7 +111,7 @@ pub fn take<'s>(
     }
 }
 
-/// Takes a byte behind an open word, or behind none. An error leaves the items as they were.
+/// Takes a byte after an open word, or after none. An error leaves the items as they were.
 pub fn take_byte<'s>(
     items: &mut Items<'s>,
     word: Option<Open<'s>>,

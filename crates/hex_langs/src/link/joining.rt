@@ -4,7 +4,7 @@ ghost use Rattle.std.specs.Prelude.{◌≡◌, ◌<◌, ◌≤◌, ◌^◌, ◌+
 ghost use Rattle.hex_langs.specs.Link.Link.{bytes_from, Links, link_of, item_bytes};
 ghost use Rattle.hex_langs.specs.Link.Representation.Tables.{address_in, AreSmall, Puts};
 
-use crate::items::{HexRefusal, Item, Items, Name};
+use crate::items::{HexRefusal, Item, Items, LabelName};
 use crate::link::labels::{LabelTable, item_at, labels_of};
 use crate::link::number::{Miss, number_of};
 use ddc_base::{Bytes, OutOfMemory};
@@ -20,18 +20,18 @@ pub fn link(alloc: Global, items: &Items<'_>, base: u64) -> Result<Bytes, HexRef
 }
 
 /// Why an item is not put.
-pub(crate) enum PutFail {
+pub(crate) enum JoinFail {
     Miss(Miss),
     OutOfMemory,
 }
 
-impl From<OutOfMemory> for PutFail {
-    ghost use Rattle.hex_langs.specs.declared.link.joining.PutFail.TheVariants.{OutOfMemory};
+impl From<OutOfMemory> for JoinFail {
+    ghost use Rattle.hex_langs.specs.declared.link.joining.JoinFail.TheVariants.{OutOfMemory};
 
     ghost from_gives = { λ _ e. e ≡ OutOfMemory };
 
-    fn from(_error: OutOfMemory) -> PutFail {
-        PutFail::OutOfMemory
+    fn from(_error: OutOfMemory) -> JoinFail {
+        JoinFail::OutOfMemory
     }
 }
 
@@ -41,7 +41,7 @@ fn put<'s>(
     table: &LabelTable<'s>,
     place: u64,
     item: &Item<'s>,
-) -> Result<(), PutFail>
+) -> Result<(), JoinFail>
     requires place { place < 2 ^ 40 }
     requires small { AreSmall (address_in table.now) }
     ensures { Puts result (item_bytes (address_in table.now) place item.now) out.old out.new }
@@ -51,7 +51,7 @@ fn put<'s>(
         Item::Label(_) => {}
         Item::Pad => put_zeros(out, (4 - place % 4) % 4)?,
         _ => match number_of(table, place, item) {
-            Err(miss) => return Err(PutFail::Miss(miss)),
+            Err(miss) => return Err(JoinFail::Miss(miss)),
             Ok(number) => out.extend(&number.to_le_bytes())?,
         },
     }
@@ -84,11 +84,11 @@ fn joined<'s>(
         let place = base + out.len() as u64;
         let item = item_at(items, index);
         match put(&mut out, table, place, &item) {
-            Err(PutFail::Miss(Miss::NoLabel)) => return Err(HexRefusal::NoLabel(index as u64)),
-            Err(PutFail::Miss(Miss::OutOfReach)) => {
+            Err(JoinFail::Miss(Miss::NoLabel)) => return Err(HexRefusal::NoLabel(index as u64)),
+            Err(JoinFail::Miss(Miss::OutOfReach)) => {
                 return Err(HexRefusal::OutOfReach(index as u64));
             }
-            Err(PutFail::OutOfMemory) => return Err(HexRefusal::OutOfMemory),
+            Err(JoinFail::OutOfMemory) => return Err(HexRefusal::OutOfMemory),
             Ok(()) => {}
         }
     }

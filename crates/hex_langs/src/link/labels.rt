@@ -5,16 +5,16 @@ ghost use Rattle.indexmap.specs.IndexMap.{IsEmpty};
 ghost use Rattle.hex_langs.specs.Link.Link.{size_at};
 ghost use Rattle.hex_langs.specs.Link.Representation.Tables.{Adds, Tables, address_in};
 
-use crate::items::{HexRefusal, Item, Items, Name};
+use crate::items::{HexRefusal, Item, Items, LabelName};
 use ddc_base::{NamesDigest, NamesKey, OutOfMemory};
 use indexmap::IndexMap;
 use std::alloc::Global;
 
 /// The address of each label.
-pub(crate) type LabelTable<'s> = IndexMap<Name<'s>, u64, NamesKey>;
+pub(crate) type LabelTable<'s> = IndexMap<LabelName<'s>, u64, NamesKey>;
 
 /// The address of a label.
-pub(crate) fn address_in<'s>(table: &LabelTable<'s>, name: &Name<'s>) -> Option<u64>
+pub(crate) fn address_in<'s>(table: &LabelTable<'s>, name: &LabelName<'s>) -> Option<u64>
     ensures { result ≡ address_in table.now name.now }
 {
     table.get(name).copied()
@@ -74,7 +74,7 @@ fn add_label<'s>(
     ensures { Adds result item.now address table.old table.new }
 {
     match item {
-        Item::Label(name) => Ok(table.insert(Name::new(name.bytes()), address)?.is_some()),
+        Item::Label(name) => Ok(table.insert(LabelName::new(name.bytes()), address)?.is_some()),
         _ => Ok(false),
     }
 }

@@ -6,7 +6,7 @@ ghost use Rattle.hex_langs.specs.declared.items.item.Item.{Item};
 ghost use Rattle.hex_langs.specs.Hex0.{hex0_of, HasEvenDigits};
 ghost use Rattle.hex_langs.specs.Items.Plain.{is_plain};
 ghost use Rattle.hex_langs.specs.declared.link.values.HexLanguage.{HexLanguage};
-ghost use Rattle.hex_langs.specs.Link.Laws.{is_fixed, address_behind, renamed, KeepsApart};
+ghost use Rattle.hex_langs.specs.Link.Laws.{is_fixed, address_after, renamed, KeepsApart};
 ghost use Rattle.hex_langs.specs.Link.Link.{link_of};
 ghost use Rattle.hex_langs.specs.Link.Values.{value_of};
 
@@ -15,9 +15,9 @@ pub fn same_at_every_base()
     ensures { (items : List Item) → IsTrue (list_all is_fixed items) → (base other : ℕ) → link_of items base ≡ link_of items other }
 {}
 
-/// The bytes of items are as many as their sizes say: they end where the address behind the last item is.
-pub fn bytes_end_behind_the_last()
-    ensures { (items : List Item) → (base : ℕ) → (bytes : List ℕ) → link_of items base ≡ Ok bytes → base + length bytes ≡ address_behind base items }
+/// The bytes of items are as many as their sizes say: they end where the address after the last item is.
+pub fn bytes_end_after_the_last()
+    ensures { (items : List Item) → (base : ℕ) → (bytes : List ℕ) → link_of items base ≡ Ok bytes → base + length bytes ≡ address_after base items }
 {}
 
 /// Linking looks at labels by name alone: other names that keep names apart change nothing.

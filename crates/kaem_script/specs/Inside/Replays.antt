@@ -1,7 +1,7 @@
 -- What the steps of a replay answer. No promise rests on its being read.
 use Rattle.std.specs.Prelude.{◌≡◌, Option, None, Some, Result, Ok, Err}
-use Rattle.kaem_script.specs.declared.replay.Stop.{Stop}
-use Rattle.kaem_script.specs.declared.replay.Stop.TheVariants.{Refuted, OutOfMemory}
+use Rattle.kaem_script.specs.declared.replay.ReplayStop.{ReplayStop}
+use Rattle.kaem_script.specs.declared.replay.ReplayStop.TheVariants.{Refuted, OutOfMemory}
 use Rattle.kaem_script.specs.declared.verdict.ScriptPart.{ScriptPart}
 use Rattle.kaem_script.specs.declared.verdict.ScriptPart.TheVariants as part
 
@@ -11,7 +11,7 @@ or_no_run None = Err part.Run
 or_no_run (Some found) = Ok found
 
 -- what a step of a replay answers, by what it is to come to
-abbrev pub Judged : {A B : Type 0} → (B → A) → Result A ScriptPart → Result B Stop → Type 0
+abbrev pub Judged : {A B : Type 0} → (B → A) → Result A ScriptPart → Result B ReplayStop → Type 0
 Judged view meant (Ok found) = meant ≡ Ok (view found)
 Judged view meant (Err (Refuted part)) = meant ≡ Err part
 Judged view meant (Err OutOfMemory) = Unit {0}

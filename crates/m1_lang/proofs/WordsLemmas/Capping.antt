@@ -4,17 +4,17 @@ use Rattle.std.specs.Int.{w32, to_le_bytes}
 use Rattle.std.proofs.lemmas.Bool.Decides.{nat_tests}
 use Rattle.hex_langs.specs.declared.items.token.Token.TheVariants.{Byte, Field}
 use Rattle.m1_lang.specs.declared.words.meaning.WordFault.TheVariants.{NumberRange}
-use Rattle.m1_lang.specs.declared.words.meaning.Meaning.{Meaning}
+use Rattle.m1_lang.specs.declared.words.meaning.WordMeaning.{WordMeaning}
 use Rattle.m1_lang.specs.declared.words.meaning.WordFault.{WordFault}
 use Rattle.m1_lang.specs.Words.Meanings.{MeansResult}
 use Rattle.m1_lang.specs.Words.Representation.Meanings.{MeansForm}
 use Rattle.hex_langs.specs.Link.Link.{i_field, modulo_word}
-use Rattle.m1_lang.specs.Words.Forms.{Tokens, ranged_tokens, is_within, number_behind, number_tokens, store_field, rounded_field}
+use Rattle.m1_lang.specs.Words.Forms.{Tokens, ranged_tokens, is_within, number_after, number_tokens, store_field, rounded_field}
 use Rattle.std.proofs.Common.{Bool, true, false, cond, ◌==◌, map, Result, Ok, Err, zero, ◌≡◌, ℕ, suc, ◌+◌, ◌*◌, ◌-◌, ◌<◌, ◌≤◌, List, [], ◌∷◌, Option, Some, None, refl, sym, ap, subst, ◌∙◌, arith, drop, ◌⊎◌, inl, inr}
 use Rattle.std.proofs.lemmas.Bool.{cases_lt}
 use Rattle.std.proofs.Math.Nat.{add-mul}
 use Rattle.hex.specs.Hex.{hex_digit_value}
-use Rattle.m1_lang.specs.Words.Numbers.{behind_digit, digit_below, magnitude, more_digits, number_in, signed_by}
+use Rattle.m1_lang.specs.Words.Numbers.{after_digit, digit_below, magnitude, more_digits, number_in, signed_by}
 use Rattle.m1_lang.specs.Words.Representation.Capped.{capped, capped_number, capped_value}
 
 grown : (k v : ℕ) → v ≤ (1 + k) * v
@@ -34,8 +34,8 @@ capped-more k v w (byte ∷ text) same =
     by (digit_below (1 + k) (hex_digit_value byte)) (λ digit. capped-more k ((1 + k) * v + digit) ((1 + k) * w + digit) text (capped-step k v w digit same))
   where
     by : (o : Option ℕ) → ((digit : ℕ) → capped_value (more_digits (1 + k) ((1 + k) * v + digit) text) ≡ capped_value (more_digits (1 + k) ((1 + k) * w + digit) text))
-        → capped_value (behind_digit o (λ digit. more_digits (1 + k) ((1 + k) * v + digit) text))
-        ≡ capped_value (behind_digit o (λ digit. more_digits (1 + k) ((1 + k) * w + digit) text))
+        → capped_value (after_digit o (λ digit. more_digits (1 + k) ((1 + k) * v + digit) text))
+        ≡ capped_value (after_digit o (λ digit. more_digits (1 + k) ((1 + k) * w + digit) text))
     by None later = refl
     by (Some digit) later = later digit
 
@@ -45,7 +45,7 @@ pub digit-more : (base value digit next byte : ℕ) (left : List ℕ) → 1 ≤ 
 digit-more base value digit next byte left low is next_is =
     let k_is : 1 + (base - 1) ≡ base = omega arith in
     let twice : capped (base * value + digit) ≡ capped next = omega arith in
-    ap (λ (o : Option ℕ). capped_value (behind_digit o (λ (d : ℕ). more_digits base (base * value + d) left))) (sym is)
+    ap (λ (o : Option ℕ). capped_value (after_digit o (λ (d : ℕ). more_digits base (base * value + d) left))) (sym is)
     ∙ subst (λ (b : ℕ). capped_value (more_digits b (base * value + digit) left) ≡ capped_value (more_digits b next left)) k_is
     (capped-more (base - 1) (base * value + digit) next left twice)
 
@@ -85,18 +85,18 @@ capped-neg sign n = by (cases_lt n 1099511627776)
     by (inl near) = let same : capped n ≡ n = omega arith in ap (λ (m : ℕ). number_tokens sign (neg_ℤ (pos m))) same
     by (inr far) = far-neg sign (capped n) (omega arith) ∙ sym (far-neg sign n far)
 
-pub number_behind-capped : (sign : ℕ) (text : List ℕ) → number_behind sign (capped_number text) ≡ number_behind sign (number_in text)
+pub number_after-capped : (sign : ℕ) (text : List ℕ) → number_after sign (capped_number text) ≡ number_after sign (number_in text)
 unfolding capped_number number_in
-number_behind-capped sign text = by (slice_index text 0 == 45) (magnitude (drop 1 text)) (magnitude text)
+number_after-capped sign text = by (slice_index text 0 == 45) (magnitude (drop 1 text)) (magnitude text)
   where
-    by : (minus : Bool) (behind whole : Option ℕ)
-        → number_behind sign (cond minus (signed_by true (capped_value behind)) (signed_by false (capped_value whole)))
-        ≡ number_behind sign (cond minus (signed_by true behind) (signed_by false whole))
+    by : (minus : Bool) (following whole : Option ℕ)
+        → number_after sign (cond minus (signed_by true (capped_value following)) (signed_by false (capped_value whole)))
+        ≡ number_after sign (cond minus (signed_by true following) (signed_by false whole))
     by true None whole = refl
     by true (Some n) whole = ap Some (capped-neg sign n)
-    by false behind None = refl
-    by false behind (Some n) = ap Some (capped-pos sign n)
+    by false following None = refl
+    by false following (Some n) = ap Some (capped-pos sign n)
 
-pub fits-given : (result : Result Meaning WordFault) (tokens : Tokens) → MeansResult result tokens → MeansForm (Some result) (Some tokens)
+pub fits-given : (result : Result WordMeaning WordFault) (tokens : Tokens) → MeansResult result tokens → MeansForm (Some result) (Some tokens)
 fits-given (Ok meaning) tokens is = ap Some is
 fits-given (Err why) tokens is = ap Some is

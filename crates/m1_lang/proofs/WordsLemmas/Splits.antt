@@ -45,7 +45,7 @@ past-gap source at gap is =
     sym (passed at (drop at source)) ∙ ap (λ (n : ℕ). words_from at n (drop at source)) (sym is)
     ∙ split-inside at gap (drop at source) ∙ ap (words_from (at + gap) 0) (drop-drop gap at source)
 
--- behind it stands no gap
+-- after it stands no gap
 stops : (comment : Bool) (list : List ℕ) (byte : ℕ) (left : List ℕ) → drop (gap_from comment list) list ≡ byte ∷ left → opens_gap byte ≡ false
 stops comment [] byte left is = absurd (cc)
 stops true (first ∷ list) byte left is = stops (not (first == 10)) list byte left is
@@ -62,9 +62,9 @@ stops false (first ∷ list) byte left is =
         let same : first ≡ byte = cc in
         ap opens_gap (sym same) ∙ ap (λ (b : Bool). b || begins_comment first) is ∙ code
 
-pub no-gap-behind : (source : List ℕ) (at gap : ℕ) → gap ≡ gap_length (drop at source) → at + gap < length source → opens_gap (get_or source (at + gap) 0) ≡ false
+pub no-gap-following : (source : List ℕ) (at gap : ℕ) → gap ≡ gap_length (drop at source) → at + gap < length source → opens_gap (get_or source (at + gap) 0) ≡ false
 unfolding gap_length
-no-gap-behind source at gap is within =
+no-gap-following source at gap is within =
     stops false (drop at source) (get_or source (at + gap) 0) (drop (at + gap + 1) source)
     (ap (λ (n : ℕ). drop n (drop at source)) (sym is) ∙ drop-drop gap at source ∙ front_is source (at + gap) within)
 

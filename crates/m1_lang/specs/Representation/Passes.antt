@@ -58,7 +58,7 @@ abbrev pub with_values : Result Values M1Refusal → (Values → Result Values M
 with_values (Ok values) rest = rest values
 with_values (Err why) rest = Err why
 
--- what the definitions give words that are among parts, behind those so far, or the first that is refused
+-- what the definitions give words that are among parts, after those so far, or the first that is refused
 abbrev pub valued : Values → List SourcePart → Result Values M1Refusal
 valued values [] = Ok values
 valued values (Defines at name value ∷ rest) = with_values (valued_with values at name value) (λ more. valued more rest)
@@ -81,35 +81,35 @@ Tabulates (Ok table) meant = looked_up meant ≡ Ok (values_in table)
 Tabulates (Err refusal.OutOfMemory) meant = Unit {0}
 Tabulates (Err why) meant = looked_up meant ≡ Err why
 
--- the definitions behind a `DEFINE` at an offset
-abbrev pub behind_define : Values → ℕ → List Word → Result Values M1Refusal
-behind_define values at [] = Err (refusal.BadDefine at)
-behind_define values at (name ∷ []) = Err (refusal.BadDefine at)
-behind_define values at (name ∷ value ∷ rest) = with_values (valued_with values at name.text value.text) (λ more. valued more (parts rest))
+-- the definitions after a `DEFINE` at an offset
+abbrev pub after_define : Values → ℕ → List Word → Result Values M1Refusal
+after_define values at [] = Err (refusal.BadDefine at)
+after_define values at (name ∷ []) = Err (refusal.BadDefine at)
+after_define values at (name ∷ value ∷ rest) = with_values (valued_with values at name.text value.text) (λ more. valued more (parts rest))
 
 -- what one definition does: `DEFINE` stood at start, and its name and value stand from at on
 abbrev pub DefinesOne : Result ℕ M1Refusal → ℕ → List ℕ → ℕ → Definitions → Definitions → Type 0
 DefinesOne (Ok after) start source at old new =
-    (behind_define (values_in old) start (word_list (words_at source at)) ≡ valued (values_in new) (parts_at source after))
+    (after_define (values_in old) start (word_list (words_at source at)) ≡ valued (values_in new) (parts_at source after))
     × (open_at source at ≡ open_at source after) × (at < after) × (after ≤ length source)
 DefinesOne (Err refusal.OutOfMemory) start source at old new = Unit {0}
-DefinesOne (Err why) start source at old new = behind_define (values_in old) start (word_list (words_at source at)) ≡ Err why
+DefinesOne (Err why) start source at old new = after_define (values_in old) start (word_list (words_at source at)) ≡ Err why
 
 -- a refusal of a definition, unless a quote is open
 abbrev pub quote_or : Option ℕ → M1Refusal → M1Refusal
 quote_or (Some place) why = refusal.OpenString place
 quote_or None why = why
 
--- the plain words behind a `DEFINE`
-abbrev pub plain_behind : List Word → List Word
-plain_behind [] = []
-plain_behind (name ∷ []) = []
-plain_behind (name ∷ value ∷ rest) = plain_words (parts rest)
+-- the plain words after a `DEFINE`
+abbrev pub plain_after : List Word → List Word
+plain_after [] = []
+plain_after (name ∷ []) = []
+plain_after (name ∷ value ∷ rest) = plain_words (parts rest)
 
--- the words behind a definition are left
+-- the words after a definition are left
 abbrev pub SkipsOne : ℕ → List ℕ → ℕ → Type 0
 SkipsOne after source at =
-    (plain_behind (word_list (words_at source at)) ≡ plain_words (parts_at source after)) × (at ≤ after) × (after ≤ length source)
+    (plain_after (word_list (words_at source at)) ≡ plain_words (parts_at source after)) × (at ≤ after) × (after ≤ length source)
 
 -- what the words from an offset on read, by what definitions give words
 abbrev pub reading_at : Values → List ℕ → ℕ → Reading WordFault

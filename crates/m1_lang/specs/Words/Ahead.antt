@@ -10,7 +10,7 @@ use Rattle.m1_lang.specs.declared.words.splitting.Ahead.TheVariants as next
 abbrev pub words_at : List ℕ → ℕ → Words
 words_at source at = words_from at 0 (drop at source)
 
--- the next word from an offset on; the offset behind it is that of its last byte and 1
+-- the next word from an offset on; the offset after it is that of its last byte and 1
 abbrev pub FindsAhead : Ahead → List ℕ → ℕ → Type 0
 FindsAhead next.End source at = words_at source at ≡ NoWord
 FindsAhead (next.Open place) source at = words_at source at ≡ Unclosed place

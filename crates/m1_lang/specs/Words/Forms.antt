@@ -48,7 +48,7 @@ abbrev pub begins_with : ℕ → List ℕ → Bool
 begins_with byte [] = false
 begins_with byte (first ∷ rest) = first == byte
 
--- behind `.` stands a field, as in hex2
+-- after `.` stands a field, as in hex2
 unfoldable pub value_tokens : List ℕ → Option (List Token)
 value_tokens text = if begins_with 46 text then one_token (whole_token text) else byte_tokens (digit_bytes text)
 
@@ -70,7 +70,7 @@ quoted_tokens (quote ∷ rest) =
     else if quote == 39 then byte_tokens (digit_bytes (between rest))
     else None
 
--- ---- numbers behind a sign
+-- ---- numbers after a sign
 
 -- bits 11..5 of a number in bits 31..25, and bits 4..0 in 11..7
 abbrev pub store_field : ℕ → ℕ
@@ -107,13 +107,13 @@ number_tokens sign n =
 abbrev pub takes_number : ℕ → Bool
 takes_number sign = sign == 33 || sign == 64 || sign == 126 || sign == 37
 
-abbrev pub number_behind : ℕ → Option ℤ → FormTokens
-number_behind sign (Some n) = Some (number_tokens sign n)
-number_behind sign None = None
+abbrev pub number_after : ℕ → Option ℤ → FormTokens
+number_after sign (Some n) = Some (number_tokens sign n)
+number_after sign None = None
 
 unfoldable pub numbered_tokens : List ℕ → FormTokens
 numbered_tokens [] = None
-numbered_tokens (sign ∷ rest) = if takes_number sign then number_behind sign (number_in rest) else None
+numbered_tokens (sign ∷ rest) = if takes_number sign then number_after sign (number_in rest) else None
 
 -- ---- the table
 
@@ -127,7 +127,7 @@ abbrev pub numbered_or : FormTokens → Tokens → Tokens
 numbered_or (Some tokens) later = tokens
 numbered_or None later = later
 
--- the first form that fits a word which no definition names: `"text"` and `'digits'`, digits alone and `.` with 8 digits, a number behind
+-- the first form that fits a word which no definition names: `"text"` and `'digits'`, digits alone and `.` with 8 digits, a number after
 -- `!`, `@`, `~` or `%`, or else one token of hex2: `!x` `@x` `$x` `~x` `%x` `%x>y` `&x` `:x` `<`
 unfoldable pub form_tokens : List ℕ → Tokens
 form_tokens text =

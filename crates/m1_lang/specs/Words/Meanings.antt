@@ -6,8 +6,8 @@ use Rattle.hex.specs.Hex.{hex_digit_value}
 use Rattle.hex_langs.specs.Items.Tokens.{byte_of}
 use Rattle.hex_langs.specs.declared.items.token.Token.{Token}
 use Rattle.hex_langs.specs.declared.items.token.Token.TheVariants.{Byte}
-use Rattle.m1_lang.specs.declared.words.meaning.Meaning.{Meaning}
-use Rattle.m1_lang.specs.declared.words.meaning.Meaning.TheVariants.{Digits, Text, Number, One}
+use Rattle.m1_lang.specs.declared.words.meaning.WordMeaning.{WordMeaning}
+use Rattle.m1_lang.specs.declared.words.meaning.WordMeaning.TheVariants.{Digits, Text, Number, One}
 use Rattle.m1_lang.specs.declared.words.meaning.WordFault.{WordFault}
 use Rattle.m1_lang.specs.Words.Forms.{Tokens, padded}
 
@@ -23,18 +23,18 @@ front_bytes (alone ∷ []) = []
 front_bytes (high ∷ low ∷ rest) = before_bytes (byte_of (hex_digit_value high) (hex_digit_value low)) (front_bytes rest)
 
 -- what a meaning stands for
-abbrev pub meaning_tokens : Meaning → List Token
+abbrev pub meaning_tokens : WordMeaning → List Token
 meaning_tokens (Digits digits) = map Byte (front_bytes digits.now)
 meaning_tokens (Text text) = map Byte (padded text.now)
 meaning_tokens (Number n) = map Byte (to_le_bytes w32 n)
 meaning_tokens (One token) = token ∷ []
 
 -- a meaning of these tokens, or none
-abbrev pub MeansTokens : Option Meaning → Option (List Token) → Type 0
+abbrev pub MeansTokens : Option WordMeaning → Option (List Token) → Type 0
 MeansTokens (Some meaning) tokens = tokens ≡ Some (meaning_tokens meaning)
 MeansTokens None tokens = tokens ≡ None
 
 -- a meaning of these tokens, or the same refusal
-abbrev pub MeansResult : Result Meaning WordFault → Tokens → Type 0
+abbrev pub MeansResult : Result WordMeaning WordFault → Tokens → Type 0
 MeansResult (Ok meaning) tokens = tokens ≡ Ok (meaning_tokens meaning)
 MeansResult (Err why) tokens = tokens ≡ Err why

@@ -8,15 +8,15 @@ abbrev pub digit_below : ℕ → Option ℕ → Option ℕ
 digit_below base (Some digit) = if nat_lt digit base then Some digit else None
 digit_below base None = None
 
-abbrev pub behind_digit : Option ℕ → (ℕ → Option ℕ) → Option ℕ
-behind_digit (Some digit) rest = rest digit
-behind_digit None rest = None
+abbrev pub after_digit : Option ℕ → (ℕ → Option ℕ) → Option ℕ
+after_digit (Some digit) rest = rest digit
+after_digit None rest = None
 
--- the value of more digits behind a value
+-- the value of more digits after a value
 abbrev pub more_digits : ℕ → ℕ → List ℕ → Option ℕ
 more_digits base value [] = Some value
 more_digits base value (byte ∷ rest) =
-    behind_digit (digit_below base (hex_digit_value byte)) (λ digit. more_digits base (base * value + digit) rest)
+    after_digit (digit_below base (hex_digit_value byte)) (λ digit. more_digits base (base * value + digit) rest)
 
 -- the value of one or more digits of a base
 abbrev pub digits_value : ℕ → List ℕ → Option ℕ

@@ -23,7 +23,7 @@ is_quote byte = byte == 34 || byte == 39
 abbrev pub until_closed : ℕ → List ℕ → Option ℕ
 until_closed size left = if nat_lt size (length left) then Some (size + 1) else None
 
--- how many bytes a word has behind its first one: a quoted word runs over blanks, every other one up to a blank or the end; none: its quote
+-- how many bytes a word has after its first one: a quoted word runs over blanks, every other one up to a blank or the end; none: its quote
 -- isn't closed
 unfoldable pub word_more : ℕ → List ℕ → Option ℕ
 word_more byte left =

@@ -2,7 +2,7 @@
 
 ghost use Rattle.std.specs.Prelude.{◌≡◌, ◌≤◌, is_some, pos, neg_ℤ, ◌≤ℤ◌};
 ghost use Rattle.m1_lang.specs.Words.Digits.{digit_bytes};
-ghost use Rattle.m1_lang.specs.Words.Forms.{between, byte_tokens, store_field, rounded_field, ranged_tokens, is_within, whole_token, value_tokens, quoted_tokens, number_tokens, number_behind, numbered_tokens, takes_number, form_tokens};
+ghost use Rattle.m1_lang.specs.Words.Forms.{between, byte_tokens, store_field, rounded_field, ranged_tokens, is_within, whole_token, value_tokens, quoted_tokens, number_tokens, number_after, numbered_tokens, takes_number, form_tokens};
 ghost use Rattle.m1_lang.specs.Words.Numbers.{number_in};
 ghost use Rattle.m1_lang.specs.Words.Meanings.{MeansTokens, MeansResult, meaning_tokens};
 ghost use Rattle.m1_lang.specs.Words.Representation.Meanings.{MeansForm};
@@ -13,7 +13,7 @@ use hex_langs::link::{i_field, modulo_word};
 
 /// What a word gives, as text of the source where it gives many bytes.
 #[derive(Drop)]
-pub enum Meaning<'s> {
+pub enum WordMeaning<'s> {
     /// The bytes of hexadecimal digits two by two.
     Digits(&'s [u8]),
     /// The bytes of a text, and then one to four zero bytes, up to a multiple of 4 in all.
@@ -51,13 +51,13 @@ fn are_pairs(text: &[u8]) -> bool
 }
 
 /// A positive even number of digits.
-fn digits<'s>(text: &'s [u8]) -> Option<Meaning<'s>>
+fn digits<'s>(text: &'s [u8]) -> Option<WordMeaning<'s>>
     ensures { MeansTokens result (byte_tokens (digit_bytes text.now)) }
 {
     if text.len() == 0 || !are_pairs(text) {
         return None;
     }
-    Some(Meaning::Digits(text))
+    Some(WordMeaning::Digits(text))
 }
 
 /// The one token of hex2 that a word is.
@@ -80,11 +80,11 @@ fn whole_token<'s>(text: &'s [u8]) -> Option<Token<'s>>
 
 /// A value: digits alone, or `.` and 8 digits.
 #[tactic(auto, unfolding(crate::specs::Words::Forms::value_tokens))]
-pub(crate) fn value_meaning<'s>(text: &'s [u8]) -> Option<Meaning<'s>>
+pub(crate) fn value_meaning<'s>(text: &'s [u8]) -> Option<WordMeaning<'s>>
     ensures { MeansTokens result (value_tokens text.now) }
 {
     match text.first() {
-        Some(b'.') => Some(Meaning::One(whole_token(text)?)),
+        Some(b'.') => Some(WordMeaning::One(whole_token(text)?)),
         _ => digits(text),
     }
 }
@@ -97,11 +97,11 @@ fn between<'s>(rest: &'s [u8]) -> &'s [u8]
 }
 
 /// A text or digits in quotes.
-fn quoted<'s>(text: &'s [u8]) -> Option<Meaning<'s>>
+fn quoted<'s>(text: &'s [u8]) -> Option<WordMeaning<'s>>
     ensures { MeansTokens result (quoted_tokens text.now) }
 {
     match text.split_first() {
-        Some((b'"', rest)) => Some(Meaning::Text(between(rest))),
+        Some((b'"', rest)) => Some(WordMeaning::Text(between(rest))),
         Some((b'\'', rest)) => digits(between(rest)),
         _ => None,
     }
@@ -131,7 +131,7 @@ fn is_within(n: i64, low: i64, high: i64) -> bool
 }
 
 /// A number's meaning, if the number is in range.
-fn ranged<'s>(fits: bool, meaning: Meaning<'s>) -> Result<Meaning<'s>, WordFault>
+fn ranged<'s>(fits: bool, meaning: WordMeaning<'s>) -> Result<WordMeaning<'s>, WordFault>
     ensures { MeansResult result (ranged_tokens fits (meaning_tokens meaning.entry)) }
 {
     if fits {
@@ -141,8 +141,8 @@ fn ranged<'s>(fits: bool, meaning: Meaning<'s>) -> Result<Meaning<'s>, WordFault
     }
 }
 
-/// A number behind `!`, `@`, `~` or `%`.
-fn number_behind<'s>(sign: u8, n: i64) -> Result<Meaning<'s>, WordFault>
+/// A number after `!`, `@`, `~` or `%`.
+fn number_after<'s>(sign: u8, n: i64) -> Result<WordMeaning<'s>, WordFault>
     requires low { neg_ℤ (pos 1099511627776) ≤ℤ n }
     requires high { n ≤ℤ pos 1099511627776 }
     ensures { MeansResult result (number_tokens sign n) }
@@ -152,21 +152,21 @@ fn number_behind<'s>(sign: u8, n: i64) -> Result<Meaning<'s>, WordFault>
     if sign == b'!' {
         ranged(
             is_short,
-            Meaning::One(Token::Field(i_field(modulo_word(n)))),
+            WordMeaning::One(Token::Field(i_field(modulo_word(n)))),
         )
     } else if sign == b'@' {
         ranged(
             is_short,
-            Meaning::One(Token::Field(store_field(modulo_word(n)))),
+            WordMeaning::One(Token::Field(store_field(modulo_word(n)))),
         )
     } else if sign == b'~' {
-        ranged(is_word, Meaning::One(Token::Field(rounded_field(n))))
+        ranged(is_word, WordMeaning::One(Token::Field(rounded_field(n))))
     } else {
-        ranged(is_word, Meaning::Number(modulo_word(n)))
+        ranged(is_word, WordMeaning::Number(modulo_word(n)))
     }
 }
 
-/// Whether a number may stand behind a sign.
+/// Whether a number may stand after a sign.
 fn takes_number(sign: u8) -> bool
     ensures { result ≡ takes_number sign }
 {
@@ -174,18 +174,18 @@ fn takes_number(sign: u8) -> bool
 }
 
 /// A sign that takes a number, and what may be one.
-fn signed<'s>(sign: u8, rest: &[u8]) -> Option<Result<Meaning<'s>, WordFault>>
-    ensures { MeansForm result (number_behind sign (number_in rest.now)) }
+fn signed<'s>(sign: u8, rest: &[u8]) -> Option<Result<WordMeaning<'s>, WordFault>>
+    ensures { MeansForm result (number_after sign (number_in rest.now)) }
 {
     match number_in(rest) {
         None => None,
-        Some(n) => Some(number_behind(sign, n)),
+        Some(n) => Some(number_after(sign, n)),
     }
 }
 
 /// A sign that takes a number, and a number.
 #[tactic(auto, unfolding(crate::specs::Words::Forms::numbered_tokens))]
-fn numbered<'s>(text: &'s [u8]) -> Option<Result<Meaning<'s>, WordFault>>
+fn numbered<'s>(text: &'s [u8]) -> Option<Result<WordMeaning<'s>, WordFault>>
     ensures { MeansForm result (numbered_tokens text.now) }
 {
     let (sign, rest) = text.split_first()?;
@@ -198,7 +198,7 @@ fn numbered<'s>(text: &'s [u8]) -> Option<Result<Meaning<'s>, WordFault>>
 
 /// What a word gives that no definition names.
 #[tactic(auto, unfolding(crate::specs::Words::Forms::form_tokens))]
-pub fn meaning_of<'s>(text: &'s [u8]) -> Result<Meaning<'s>, WordFault>
+pub fn meaning_of<'s>(text: &'s [u8]) -> Result<WordMeaning<'s>, WordFault>
     ensures { MeansResult result (form_tokens text.now) }
 {
     if let Some(meaning) = quoted(text) {
@@ -211,7 +211,7 @@ pub fn meaning_of<'s>(text: &'s [u8]) -> Result<Meaning<'s>, WordFault>
         return found;
     }
     match whole_token(text) {
-        Some(token) => Ok(Meaning::One(token)),
+        Some(token) => Ok(WordMeaning::One(token)),
         None => Err(WordFault::UnknownWord),
     }
 }

@@ -34,7 +34,7 @@ fn until_blank(rest: &[u8]) -> usize
     rest.len()
 }
 
-/// How many bytes a word has behind its first one; `None` where its quote isn't closed.
+/// How many bytes a word has after its first one; `None` where its quote isn't closed.
 #[tactic(auto, unfolding(crate::specs::Words::Words::word_more))]
 fn word_more(byte: u8, rest: &[u8]) -> Option<usize>
     ensures value { result ≡ word_more byte rest.now }
@@ -58,7 +58,7 @@ pub enum Ahead<'s> {
     End,
     /// A quote that isn't closed, at its offset.
     Open(usize),
-    /// A word: its offset, its text, and the offset behind it.
+    /// A word: its offset, its text, and the offset after it.
     Word(usize, &'s [u8], usize),
 }
 

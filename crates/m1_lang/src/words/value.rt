@@ -4,7 +4,7 @@ ghost use Rattle.std.specs.Prelude.{◌≡◌, IfSome, is_some};
 ghost use Rattle.m1_lang.specs.Words.Forms.{value_tokens};
 ghost use Rattle.m1_lang.specs.Words.Meanings.{MeansTokens};
 
-use crate::words::meaning::{Meaning, value_meaning};
+use crate::words::meaning::{WordMeaning, value_meaning};
 use hex_langs::items::Token;
 use std::marker::Model;
 
@@ -34,7 +34,7 @@ impl<'s> Value<'s> {
     {
         match value_meaning(text) {
             None => None,
-            Some(Meaning::One(Token::Field(mask))) => Some(Value {
+            Some(WordMeaning::One(Token::Field(mask))) => Some(Value {
                 text,
                 field: Some(mask),
             }),
@@ -43,11 +43,11 @@ impl<'s> Value<'s> {
     }
 
     /// What it gives.
-    pub fn meaning(&self) -> Option<Meaning<'s>>
+    pub fn meaning(&self) -> Option<WordMeaning<'s>>
         ensures { MeansTokens result (value_tokens self.now) }
     {
         match self.field {
-            Some(mask) => Some(Meaning::One(Token::Field(mask))),
+            Some(mask) => Some(WordMeaning::One(Token::Field(mask))),
             None => value_meaning(self.text),
         }
     }

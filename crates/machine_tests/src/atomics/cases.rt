@@ -425,7 +425,7 @@ pub static AMOS: [(u32, u64, u64, u64, u64); 414] = cases! {
     0xe005b52f 0x8899aabbccddeeff 0x1122334455667788 0x8899aabbccddeeff 0x8899aabbccddeeff;
 };
 
-/// A load-reserved and a store-conditional; how far behind the first's address the second's is, the 8 bytes there (the 8 after them are
+/// A load-reserved and a store-conditional; how far after the first's address the second's is, the 8 bytes there (the 8 after them are
 /// their complement), the value of x12; what the first puts into x13, the second into x10 and, once more, into x14; the 16 bytes.
 pub static PAIRS: [(u32, u32, u64, u64, u64, u64, u64, u64, u64, u64); 48] = cases! {
     0x1005a6af 0x18c5a52f 0 0x80000000 0xffffffffffffffff 0xffffffff80000000 0 1 0xffffffff 0xffffffff7fffffff;

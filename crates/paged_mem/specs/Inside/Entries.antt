@@ -3,7 +3,7 @@ use Rattle.std.specs.Prelude.{◌≡◌, ℕ, ◌+◌, ◌*◌, ◌/◌, ◌%◌
 use Rattle.std.specs.Global.{Box}
 use Rattle.paged_mem.specs.Memory.{zeros}
 use Rattle.paged_mem.specs.Inside.Flat.{AreFlatPages}
-use Rattle.paged_mem.specs.declared.rows.Row.{Row}
+use Rattle.paged_mem.specs.declared.rows.PageRow.{PageRow}
 use Rattle.paged_mem.specs.declared.rows.Rows.{Rows}
 
 -- a page's bytes, or nothing where all of them are zero
@@ -37,7 +37,7 @@ pub record ArePages (pages : List ℕ) (entries : List Entry) : Type 0 where
   pub full : AreFull entries
 
 -- a row is one of pages with numbers in a row
-pub record IsRowOf (pages : List ℕ) (row : Row) : Type 0 where
+pub record IsRowOf (pages : List ℕ) (row : PageRow) : Type 0 where
   pub aligned : row.base % 4096 ≡ 0
   pub low : row.base + row.size ≤ 2 ^ 38
   pub within : 4096 * row.index + row.size ≤ 4096 * length pages
@@ -51,7 +51,7 @@ pub record AreRowsOf (pages : List ℕ) (rows : Rows) : Type 0 where
   pub last : IsRowOf pages rows.last
 
 -- a row of one page, whose entry holds bytes, or of none
-pub record IsHeldPage (pages : List ℕ) (entries : List Entry) (page : Row) : Type 0 where
+pub record IsHeldPage (pages : List ℕ) (entries : List Entry) (page : PageRow) : Type 0 where
   pub in_row : IsRowOf pages page
   pub one : page.size ≤ 4096
   pub held : 0 < page.size → IsSome (slice_index_or entries page.index None)

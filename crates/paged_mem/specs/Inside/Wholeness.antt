@@ -13,7 +13,7 @@ use Rattle.std.proofs.lemmas.Option.{none-some, same_Some}
 use Rattle.paged_mem.specs.Memory.{Memory, IsWhole, with_bytes}
 use Rattle.paged_mem.specs.Inside.Flat.{memory_of, place, slot, AreFlatPages}
 use Rattle.paged_mem.specs.Inside.Entries.{Entry, ArePages, AreRowsOf, IsHeldPage}
-use Rattle.paged_mem.specs.declared.rows.Row.{Row}
+use Rattle.paged_mem.specs.declared.rows.PageRow.{PageRow}
 use Rattle.paged_mem.specs.declared.rows.Rows.{Rows}
 
 -- after an insert, at its address and at another
@@ -131,5 +131,5 @@ ArePages-prop pages entries = hlevel props
 pub AreRowsOf-prop : (pages : List ℕ) (rows : Rows) → IsProp (AreRowsOf pages rows)
 AreRowsOf-prop pages rows = hlevel props
 
-pub IsHeldPage-prop : (pages : List ℕ) (entries : List Entry) (page : Row) → IsProp (IsHeldPage pages entries page)
+pub IsHeldPage-prop : (pages : List ℕ) (entries : List Entry) (page : PageRow) → IsProp (IsHeldPage pages entries page)
 IsHeldPage-prop pages entries page = hlevel props

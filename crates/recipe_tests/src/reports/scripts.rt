@@ -7,7 +7,7 @@ use std::alloc::Global;
 use std::process::Abort;
 use std::test::Fail;
 
-/// The report of a script of two commands, `./copy.elf` and, behind a comment, `"out" x`, over examples/report/copy.elf and a copy of it
+/// The report of a script of two commands, `./copy.elf` and, after a comment, `"out" x`, over examples/report/copy.elf and a copy of it
 /// under the name `in`. The digests are those of `sha256sum`, and what the program leaves is what `qemu-riscv64` leaves.
 static EXAMPLE: &str = "\
 kaem-report 1\n\

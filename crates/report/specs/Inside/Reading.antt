@@ -1,6 +1,6 @@
 -- No promise rests on this file being read: how a report is read line by line.
 use Rattle.std.specs.Prelude.{Option, Some, None}
-use Rattle.report.specs.declared.line.Line.{Line}
+use Rattle.report.specs.declared.line.ReportLine.{ReportLine}
 use Rattle.report.specs.declared.state.State.{State}
 use Rattle.report.specs.declared.state.State.TheVariants.{Start, Ended}
 use Rattle.report.specs.declared.types.Report.{Report}
@@ -13,5 +13,5 @@ abbrev pub ended_report : State → Option Report
 ended_report (Ended report) = Some report
 ended_report _ = None
 
-abbrev pub report_reader : Reader Line State Report
+abbrev pub report_reader : Reader ReportLine State Report
 report_reader = record { line_of = line_of; start = Start; step = step; ended = ended_report }

@@ -3,8 +3,8 @@ use Rattle.std.specs.Prelude.{ℕ, Bool, true, ◌-◌, nat_lt, List, [], ◌∷
 use Rattle.std.specs.Ordering.{nat_cmp, is_lt}
 use Rattle.std.specs.Cmp.Lexicographic.{slice_cmp}
 use Rattle.ddc_base.specs.declared.languages.Language.{Language}
-use Rattle.report.specs.declared.line.Line.{Line}
-use Rattle.report.specs.declared.line.Line.TheVariants.{Header, Recipe, Input, Stage, Stream1, Stream2, Left, Made, Checked, Compare, End}
+use Rattle.report.specs.declared.line.ReportLine.{ReportLine}
+use Rattle.report.specs.declared.line.ReportLine.TheVariants.{Header, Recipe, Input, Stage, Stream1, Stream2, Left, Made, Checked, Compare, End}
 use Rattle.report.specs.declared.types.Mark.{Mark}
 use Rattle.report.specs.declared.types.LeftLine.{LeftLine}
 use Rattle.report.specs.declared.types.StageLine.{StageLine}
@@ -39,7 +39,7 @@ abbrev pub with_stage : Front → StageLine → Front
 with_stage front stage = record front { stages = front.stages ++ stage ∷ [] }
 
 -- the state after one more line
-unfoldable pub step : State → Line → Option State
+unfoldable pub step : State → ReportLine → Option State
 step Start (Header form) = Some (Titled form)
 step (Titled form) (Recipe recipe) = Some (Inputs form recipe [])
 step (Inputs form recipe inputs) (Input input) =

@@ -1,8 +1,8 @@
--- What the step behind a saved state does.
+-- What the step after a saved state does.
 use Rattle.std.specs.Prelude.{◌≡◌, ℕ, ◌<◌, Option, None, Some, Result, Ok, Err, List}
 use Rattle.std.specs.Borrow.{Bor}
 use Rattle.guest_run.specs.State.{GuestState}
-use Rattle.wheeler.specs.declared.cause.RunCause.{RunCause}
+use Rattle.audit_rules.specs.declared.cause.RunCause.{RunCause}
 use Rattle.command_plan.specs.declared.answer.Answer.{Answer}
 use Rattle.command_plan.specs.declared.stop.Stop.{Stop}
 use Rattle.command_plan.specs.declared.stop.Stop.TheVariants as stop
@@ -20,7 +20,7 @@ IsBelow limit now (Ok None) = now.steps < limit
 IsBelow limit now (Ok (Some answer)) = Unit {0}
 IsBelow limit now (Err ending) = Unit {0}
 
--- what was left at an output, as bytes that are lent
+-- what was left at an output, as bytes that are borrowed
 abbrev pub IsLeft : Result (List ℕ) RunCause → Result (Bor (List ℕ)) RunCause → Type 0
 IsLeft meant (Ok made) = meant ≡ Ok made.now
 IsLeft meant (Err cause) = meant ≡ Err cause

@@ -1,6 +1,6 @@
 -- What the code of both commands rests on.
 use Rattle.recipe.specs.Kept.{IsRecipe}
-use Rattle.wheeler.specs.Valid.{AreDone, IsInputs}
+use Rattle.audit_rules.specs.Valid.{AreDone, IsInputs}
 use Rattle.stage_commands.specs.declared.ready.Ready.{Ready}
 
 -- a recipe that keeps its rules, its inputs, and stages of it that are done

@@ -23,9 +23,9 @@ fn remove(rt: &impl Abort, files: &mut Files, name: &[u8]) {
     assert!(rt; files.remove(name).is_ok());
 }
 
-const APPENDING: Slot = Slot::File {
+const APPENDING: OpenFile = OpenFile::File {
     number: 1,
-    cursor: 0,
+    file_offset: 0,
     access: Access {
         mode: Mode::ReadWrite,
         appends: true,
@@ -51,9 +51,9 @@ fn check_lists(rt: &impl Abort, files: &Files) {
     assert!(rt; is_file(files, 0, 0, Some(b"a"), b"xyz"));
     assert!(rt; is_file(files, 1, 1, None, b""));
     assert!(rt; files.file_from(2).is_none());
-    assert_eq!(rt; files.slot_from(0), Some((0, Slot::Input)));
-    assert_eq!(rt; files.slot_from(3), Some((3, APPENDING)));
-    assert_eq!(rt; files.slot_from(4), None);
+    assert_eq!(rt; files.open_file_from(0), Some((0, OpenFile::Input)));
+    assert_eq!(rt; files.open_file_from(3), Some((3, APPENDING)));
+    assert_eq!(rt; files.open_file_from(4), None);
 }
 
 #[test]
@@ -66,13 +66,13 @@ fn lists_files(rt: HostRuntime) -> Result<(), Fail> {
 /// Adds the same files, with other bytes and streams.
 fn put_parts(parts: &mut FileParts<'static>) -> Result<(), OutOfMemory>
     requires files { parts.old.files ≡ [] }
-    requires slots { parts.old.slots ≡ [] }
+    requires open_files { parts.old.open_files ≡ [] }
     requires streams { parts.old.streams ≡ [] }
     ensures { OnOk result (length parts.new.streams ≡ 2) }
 {
     parts.push_file(0, Some(b"a"), b"xyz")?;
     parts.push_file(1, None, b"1")?;
-    parts.push_slot(3, APPENDING)?;
+    parts.push_open_file(3, APPENDING)?;
     parts.push_stream(b"out")?;
     parts.push_stream(b"")
 }
@@ -117,12 +117,12 @@ fn refusal(alloc: Global, parts: &FileParts<'_>) -> Option<RestoreRefusal>
 /// Adds one file and one descriptor, and two streams.
 fn put_row(parts: &mut FileParts<'static>, row: &Row) -> Result<(), OutOfMemory>
     requires files { parts.old.files ≡ [] }
-    requires slots { parts.old.slots ≡ [] }
+    requires open_files { parts.old.open_files ≡ [] }
     requires streams { parts.old.streams ≡ [] }
     ensures { OnOk result (length parts.new.streams ≡ 2) }
 {
     parts.push_file(row.0, row.1, b"x")?;
-    parts.push_slot(row.2, row.3)?;
+    parts.push_open_file(row.2, row.3)?;
     parts.push_stream(b"")?;
     parts.push_stream(b"")
 }
@@ -138,7 +138,7 @@ type Row = (
     u32,
     Option<&'static [u8]>,
     u32,
-    Slot,
+    OpenFile,
     Option<RestoreRefusal>,
 );
 
@@ -148,58 +148,58 @@ const READS: Access = Access {
 };
 
 /// Open files of some number, read from a place on.
-const SEVENTH_FAR: Slot = Slot::File {
+const SEVENTH_FAR: OpenFile = OpenFile::File {
     number: 7,
-    cursor: 9_223_372_036_854_775_807,
+    file_offset: 9_223_372_036_854_775_807,
     access: READS,
 };
 
-const FIRST: Slot = Slot::File {
+const FIRST: OpenFile = OpenFile::File {
     number: 0,
-    cursor: 0,
+    file_offset: 0,
     access: READS,
 };
 
-const FIRST_TOO_FAR: Slot = Slot::File {
+const FIRST_TOO_FAR: OpenFile = OpenFile::File {
     number: 0,
-    cursor: 9_223_372_036_854_775_808,
+    file_offset: 9_223_372_036_854_775_808,
     access: READS,
 };
 
-const SECOND: Slot = Slot::File {
+const SECOND: OpenFile = OpenFile::File {
     number: 1,
-    cursor: 0,
+    file_offset: 0,
     access: READS,
 };
 
 static ROWS: [Row; 16] = [
-    (0, Some(b"a"), 0, Slot::Input, None),
-    (5119, Some(b"a"), 2, Slot::Stream2, None),
+    (0, Some(b"a"), 0, OpenFile::Input, None),
+    (5119, Some(b"a"), 2, OpenFile::Stream2, None),
     (7, None, 1023, SEVENTH_FAR, None),
     (
         5120,
         Some(b"a"),
         0,
-        Slot::Input,
+        OpenFile::Input,
         Some(RestoreRefusal::Range),
     ),
-    (0, Some(b""), 0, Slot::Input, Some(RestoreRefusal::Range)),
-    (0, Some(b"a\0"), 0, Slot::Input, Some(RestoreRefusal::Range)),
-    (0, Some(b"./a"), 0, Slot::Input, Some(RestoreRefusal::Range)),
+    (0, Some(b""), 0, OpenFile::Input, Some(RestoreRefusal::Range)),
+    (0, Some(b"a\0"), 0, OpenFile::Input, Some(RestoreRefusal::Range)),
+    (0, Some(b"./a"), 0, OpenFile::Input, Some(RestoreRefusal::Range)),
     (
         0,
         Some(&[b'n'; 256]),
         0,
-        Slot::Input,
+        OpenFile::Input,
         Some(RestoreRefusal::Range),
     ),
-    (0, Some(b"a"), 1, Slot::Input, Some(RestoreRefusal::Range)),
-    (0, Some(b"a"), 2, Slot::Stream1, Some(RestoreRefusal::Range)),
-    (0, Some(b"a"), 1, Slot::Stream2, Some(RestoreRefusal::Range)),
+    (0, Some(b"a"), 1, OpenFile::Input, Some(RestoreRefusal::Range)),
+    (0, Some(b"a"), 2, OpenFile::Stream1, Some(RestoreRefusal::Range)),
+    (0, Some(b"a"), 1, OpenFile::Stream2, Some(RestoreRefusal::Range)),
     (0, Some(b"a"), 1024, FIRST, Some(RestoreRefusal::Range)),
     (0, None, 3, FIRST_TOO_FAR, Some(RestoreRefusal::Range)),
     (0, Some(b"a"), 3, SECOND, Some(RestoreRefusal::FileRef)),
-    (0, None, 0, Slot::Input, Some(RestoreRefusal::FileRef)),
+    (0, None, 0, OpenFile::Input, Some(RestoreRefusal::FileRef)),
     (0, None, 3, SECOND, Some(RestoreRefusal::FileRef)),
 ];
 
@@ -214,7 +214,7 @@ fn refuses_parts(rt: HostRuntime) -> Result<(), Fail> {
 /// Adds a name that stands twice.
 fn put_twice(parts: &mut FileParts<'static>) -> Result<(), OutOfMemory>
     requires files { parts.old.files ≡ [] }
-    requires slots { parts.old.slots ≡ [] }
+    requires open_files { parts.old.open_files ≡ [] }
     requires streams { parts.old.streams ≡ [] }
     ensures { OnOk result (length parts.new.streams ≡ 2) }
 {

@@ -46,7 +46,7 @@ fn fits_none(hart: &Hart<RunRam>) -> bool {
     WRONG.iter().all(|heap| !fit_together(hart, heap))
 }
 
-/// Whether a guest of these parts stands behind its seven steps where the hart stands.
+/// Whether a guest of these parts stands after its seven steps where the hart stands.
 fn is_restored(alloc: Global, hart: Hart<RunRam>, files: Files) -> bool {
     if !fit_together(&hart, &HEAP) {
         return false;

@@ -7,7 +7,7 @@ use crate::parts::run_at;
 use checkpoints::memory_parts::*;
 use ddc_base::OutOfMemory;
 use paged_mem::*;
-use save_text::state_text::{Page, Run};
+use save_format::state_text::{Page, Run};
 use std::alloc::Global;
 use std::process::Abort;
 use std::test::Fail;

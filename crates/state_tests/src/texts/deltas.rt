@@ -5,9 +5,9 @@ use crate::texts::pieces::Piece::*;
 use crate::texts::pieces::*;
 use crate::texts::saves::save;
 use ddc_base::digests::Digest;
-use save_text::delta_text;
-use save_text::delta_text::{DeltaParts, names_other_base};
-use save_text::state_text::TextRefusal;
+use save_format::delta_text;
+use save_format::delta_text::{DeltaParts, names_other_base};
+use save_format::state_text::TextRefusal;
 use std::alloc::{AllocError, Global};
 use std::process::Abort;
 use std::test::Fail;
@@ -59,7 +59,7 @@ fn delta(alloc: Global) -> Result<Vec<Piece>, AllocError> {
 
 /// Where the first wrong field of a delta's text begins beside a save.
 fn wrong<'a>(alloc: Global, base: &'a [u8], text: &'a [u8]) -> Option<u64> {
-    match save_text::read(alloc, base) {
+    match save_format::read(alloc, base) {
         Ok(known) => match delta_text::read(alloc, known, text) {
             Ok(_) => None,
             Err(TextRefusal::Form(offset)) => Some(offset),
@@ -138,7 +138,7 @@ fn has_parts(parts: &DeltaParts<'_>) -> bool {
 }
 
 fn is_read<'a>(alloc: Global, base: &'a [u8], text: &'a [u8]) -> bool {
-    match save_text::read(alloc, base) {
+    match save_format::read(alloc, base) {
         Ok(known) => match delta_text::read(alloc, known, text) {
             Ok(parts) => has_parts(&parts),
             Err(_) => false,
@@ -167,7 +167,7 @@ fn is_named_by(text: &[u8], count: usize) -> bool {
     names_other_base(&other(), text.get(..count).unwrap_or(text))
 }
 
-/// The text of the delta behind an old magic.
+/// The text of the delta after an old magic.
 fn old(alloc: Global) -> Result<Vec<u8>, AllocError> {
     text_of(
         alloc,
@@ -180,7 +180,7 @@ fn another_base_is_named(rt: HostRuntime) -> Result<(), Fail> {
     let text = text_of(rt.alloc(), &delta(rt.alloc())?)?;
     assert!(rt; !names_other_base(&Digest([9; 32]), &text));
     assert!(rt; names_other_base(&other(), &text));
-    // With the magic and 32 bytes alone it is named, with a byte less it is not, nor behind another magic.
+    // With the magic and 32 bytes alone it is named, with a byte less it is not, nor after another magic.
     assert!(rt; is_named_by(&text, 40));
     assert!(rt; !is_named_by(&text, 39));
     let old = old(rt.alloc())?;

@@ -134,7 +134,7 @@ static BYTES: &[(usize, u8, (u8, u64))] = &[
     // The pc is a multiple of 4.
     (16, 2, (2, 0)),
     (16, 4, (0, 0)),
-    // x0 is marked, and x1 with the base's value, which the bytes behind it are not.
+    // x0 is marked, and x1 with the base's value, which the bytes after it are not.
     (24, 1, (1, 24)),
     // The file of the descriptor 3 is not there; with the pc the range is said first.
     (129, 7, (3, 0)),

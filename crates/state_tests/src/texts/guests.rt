@@ -9,8 +9,8 @@ use std::alloc::{AllocError, Global};
 use std::process::Abort;
 use std::test::Fail;
 
-/// A guest's text behind what is reserved, which is the 34th of its pieces.
-static BEHIND: &[Piece] = &[
+/// A guest's text after what is reserved, which is the 34th of its pieces.
+static AFTER: &[Piece] = &[
     // The heap, from 35 on: of its two pages one is mapped, of which one byte is below the break.
     N8(0x20000),
     N8(0x20001),
@@ -170,7 +170,7 @@ static SEVERAL: &[Several] = &[
         ],
         READ,
     ),
-    // A page behind the largest end is mapped; a page that the largest end is in.
+    // A page after the largest end is mapped; a page that the largest end is in.
     (&[(37, N8(0x1000)), (42, N4(2))], READ),
     (&[(37, N8(0x1001)), (42, N4(2))], RANGE),
     // The heap ends where the stack begins, and a byte above it, where the page of the break is mapped.
@@ -216,7 +216,7 @@ static SEVERAL: &[Several] = &[
     // Each file has a name, and the open one is not listed; then it is.
     (&[(55, Text(b"\x02\0on")), (66, N4(2))], FILE_REF),
     (&[(55, Text(b"\x02\0on")), (66, N4(0))], READ),
-    // A stream at the number 3, with no file behind it; a range that is wrong is said before a reference.
+    // A stream at the number 3, with no file after it; a range that is wrong is said before a reference.
     (
         &[
             (55, Text(b"\x02\0on")),
@@ -243,7 +243,7 @@ pub fn pieces(alloc: Global) -> Result<Vec<Piece>, AllocError> {
     for piece in STATE.iter().take(35) {
         list.push(*piece)?;
     }
-    list.extend_from_slice(BEHIND)?;
+    list.extend_from_slice(AFTER)?;
     Ok(list)
 }
 

@@ -1,16 +1,16 @@
 //! States beside the state of `states`: what is expected comes from docs/reference/delta.md.
 
-ghost use Rattle.save_text.specs.StateText.Seen.{state_view};
-ghost use Rattle.save_text.specs.StateText.Spelled.{IsStateText};
-ghost use Rattle.save_text.specs.PatchText.Spelled.{IsPatched};
+ghost use Rattle.save_format.specs.StateText.Seen.{state_view};
+ghost use Rattle.save_format.specs.StateText.Spelled.{IsStateText};
+ghost use Rattle.save_format.specs.PatchText.Spelled.{IsPatched};
 
 use crate::texts::pieces::Piece::*;
 use crate::texts::pieces::*;
 use crate::texts::states::STATE;
 use ddc_base::{Bytes, OutOfMemory};
-use save_text::patch_text::put_patch;
-use save_text::state_text::{Parts, TextRefusal};
-use save_text::{patch_text, state_text};
+use save_format::patch_text::put_patch;
+use save_format::state_text::{StateParts, TextRefusal};
+use save_format::{patch_text, state_text};
 use std::alloc::{AllocError, Global};
 use std::process::Abort;
 use std::test::Fail;
@@ -115,7 +115,7 @@ static CHANGES: &[Change] = &[
     (30, N1(0), Some(30)),
     (30, N1(2), Some(30)),
     (32, N4(2), Some(32)),
-    // The base's own content, which is empty, is wrong behind its length.
+    // The base's own content, which is empty, is wrong after its length.
     (35, N4(0), Some(36)),
     (39, N1(4), Some(39)),
     (40, N1(2), Some(40)),
@@ -128,7 +128,7 @@ static CHANGES: &[Change] = &[
 ];
 
 /// Where the first wrong field of a patch's text begins beside a state.
-fn wrong_beside<'a>(alloc: Global, known: &Parts<'a>, text: &'a [u8]) -> Option<u64>
+fn wrong_relative<'a>(alloc: Global, known: &StateParts<'a>, text: &'a [u8]) -> Option<u64>
     requires { IsStateText (state_view known.now) }
 {
     match patch_text::read(alloc, known, text) {
@@ -140,7 +140,7 @@ fn wrong_beside<'a>(alloc: Global, known: &Parts<'a>, text: &'a [u8]) -> Option<
 
 fn wrong<'a>(alloc: Global, base: &'a [u8], text: &'a [u8]) -> Option<u64> {
     match state_text::read(alloc, base) {
-        Ok(known) => wrong_beside(alloc, &known, text),
+        Ok(known) => wrong_relative(alloc, &known, text),
         Err(_) => Some(u64::MAX),
     }
 }
@@ -176,7 +176,7 @@ fn a_cut_field_is_named(rt: HostRuntime) -> Result<(), Fail> {
 }
 
 #[test]
-fn a_byte_behind_the_last_field_is_named(rt: HostRuntime) -> Result<(), Fail> {
+fn a_byte_after_the_last_field_is_named(rt: HostRuntime) -> Result<(), Fail> {
     let mut text = text_of(rt.alloc(), PATCH)?;
     let end = text.len() as u64;
     text.push(0)?;
@@ -186,32 +186,32 @@ fn a_byte_behind_the_last_field_is_named(rt: HostRuntime) -> Result<(), Fail> {
 
 /// What a patch says beside the state: steps and pc, x1, x2 and x31, its two pages' numbers and last bytes, and the contents of the files and of both
 /// streams.
-struct Said {
+struct RecipeContents {
     numbers: (u64, u64),
     x: (u64, u64, u64),
     pages: [(u32, u8); 2],
     contents: &'static [u8],
 }
 
-fn is_page(parts: &Parts<'_>, index: usize, number: u32, last: u8) -> bool {
+fn is_page(parts: &StateParts<'_>, index: usize, number: u32, last: u8) -> bool {
     match parts.pages.get(index) {
         Some(page) => page.number == number && page.bytes.get(4095) == Some(&last),
         None => false,
     }
 }
 
-fn has_numbers(parts: &Parts<'_>, said: &Said) -> bool {
+fn has_numbers(parts: &StateParts<'_>, said: &RecipeContents) -> bool {
     let x = (parts.registers[0], parts.registers[1], parts.registers[30]);
     (parts.steps, parts.pc) == said.numbers && x == said.x
 }
 
-fn has_pages(parts: &Parts<'_>, said: &Said) -> bool {
+fn has_pages(parts: &StateParts<'_>, said: &RecipeContents) -> bool {
     let [(first, end), (second, last)] = said.pages;
     parts.pages.len() == 2 && is_page(parts, 0, first, end) && is_page(parts, 1, second, last)
 }
 
 /// The contents of the files and of both streams, with a mark between two.
-fn put_contents(out: &mut Bytes, parts: &Parts<'_>) -> Result<(), OutOfMemory> {
+fn put_contents(out: &mut Bytes, parts: &StateParts<'_>) -> Result<(), OutOfMemory> {
     for file in &parts.files {
         out.extend(file.content)?;
         out.push(b'/')?;
@@ -221,7 +221,7 @@ fn put_contents(out: &mut Bytes, parts: &Parts<'_>) -> Result<(), OutOfMemory> {
     out.extend(parts.stream2)
 }
 
-fn has_contents(alloc: Global, parts: &Parts<'_>, said: &Said) -> Result<bool, OutOfMemory> {
+fn has_contents(alloc: Global, parts: &StateParts<'_>, said: &RecipeContents) -> Result<bool, OutOfMemory> {
     let mut out = Bytes::new(alloc);
     put_contents(&mut out, parts)?;
     Ok(out.as_slice() == said.contents)
@@ -230,8 +230,8 @@ fn has_contents(alloc: Global, parts: &Parts<'_>, said: &Said) -> Result<bool, O
 /// Whether a patch beside a state has this text.
 fn is_written(
     alloc: Global,
-    known: &Parts<'_>,
-    parts: &Parts<'_>,
+    known: &StateParts<'_>,
+    parts: &StateParts<'_>,
     text: &[u8],
 ) -> Result<bool, OutOfMemory>
     requires base { IsStateText (state_view known.now) }
@@ -245,10 +245,10 @@ fn is_written(
 /// Whether parts say this, and their patch beside a state has this text.
 fn has_parts(
     alloc: Global,
-    known: &Parts<'_>,
-    parts: &Parts<'_>,
+    known: &StateParts<'_>,
+    parts: &StateParts<'_>,
     text: &[u8],
-    said: &Said,
+    said: &RecipeContents,
 ) -> Result<bool, OutOfMemory>
     requires base { IsStateText (state_view known.now) }
     requires parts { IsPatched (state_view known.now) (state_view parts.now) }
@@ -258,11 +258,11 @@ fn has_parts(
     Ok(has_numbers(parts, said) && has_pages(parts, said) && has_contents && is_written)
 }
 
-fn says_beside<'a>(
+fn says_relative<'a>(
     alloc: Global,
-    known: &Parts<'a>,
+    known: &StateParts<'a>,
     text: &'a [u8],
-    said: &Said,
+    said: &RecipeContents,
 ) -> Result<bool, OutOfMemory>
     requires { IsStateText (state_view known.now) }
 {
@@ -272,26 +272,26 @@ fn says_beside<'a>(
     }
 }
 
-fn says_beside_text<'a>(
+fn says_relative_text<'a>(
     alloc: Global,
     base: &'a [u8],
     text: &'a [u8],
-    said: &Said,
+    said: &RecipeContents,
 ) -> Result<bool, OutOfMemory> {
     match state_text::read(alloc, base) {
-        Ok(known) => says_beside(alloc, &known, text, said),
+        Ok(known) => says_relative(alloc, &known, text, said),
         Err(_) => Ok(false),
     }
 }
 
 /// Whether the patch of these pieces says this beside the state, and is written for it.
-fn says(alloc: Global, pieces: &[Piece], said: &Said) -> Result<bool, OutOfMemory> {
+fn says(alloc: Global, pieces: &[Piece], said: &RecipeContents) -> Result<bool, OutOfMemory> {
     let base = text_of(alloc, STATE)?;
     let text = text_of(alloc, pieces)?;
-    says_beside_text(alloc, &base, &text, said)
+    says_relative_text(alloc, &base, &text, said)
 }
 
-static PATCH_SAID: Said = Said {
+static PATCH_SAID: RecipeContents = RecipeContents {
     numbers: (9, 0x10004),
     x: (100, 2, 200),
     pages: [(17, 3), (18, 8)],
@@ -351,7 +351,7 @@ pub static NOTHING: &[Piece] = &[
     N1(0),
 ];
 
-static NOTHING_SAID: Said = Said {
+static NOTHING_SAID: RecipeContents = RecipeContents {
     numbers: (5, 0x10000),
     x: (1, 2, 31),
     pages: [(16, 7), (18, 9)],

@@ -19,7 +19,7 @@ pub enum Piece {
 }
 
 /// A field by its place among the pieces, what is put there, and which field is then the first wrong one: none where the text is right, and
-/// the count of the pieces where a field behind the last one is.
+/// the count of the pieces where a field after the last one is.
 pub type Change = (usize, Piece, Option<usize>);
 
 fn put(out: &mut Vec<u8>, piece: Piece) -> Result<(), AllocError> {
@@ -178,7 +178,7 @@ fn is_wrong_cut<F: Form>(alloc: Global, text: &[u8], byte: usize, begin: u64) ->
     F::wrong(alloc, text.get(..byte).unwrap_or(text)) == Some(begin)
 }
 
-/// Asserts that a text is right, and wherever it is cut wrong at the field that is cut: behind the first 300 bytes of a field each byte of a
+/// Asserts that a text is right, and wherever it is cut wrong at the field that is cut: after the first 300 bytes of a field each byte of a
 /// multiple of this is enough.
 pub fn check_cuts<F: Form>(
     rt: &impl Abort,

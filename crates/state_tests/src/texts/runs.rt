@@ -42,7 +42,7 @@ static ROWS: [Row; 14] = [
     // The same, and back.
     (&[], &[], SegmentAnswer::No(SegmentFault::NotLater)),
     (SECOND, START, SegmentAnswer::No(SegmentFault::NotLater)),
-    // The third step ends the run, and no state lies behind it.
+    // The third step ends the run, and no state lies after it.
     (
         START,
         &[(1, &[N8(3)])],
@@ -169,7 +169,7 @@ fn first_texts_are_checked(rt: HostRuntime) -> Result<(), Fail> {
     Ok(check_starts(&rt, rt.alloc(), &start, &first)?)
 }
 
-/// Whether the run from a text exits with 0 behind two steps, at a step up to a limit.
+/// Whether the run from a text exits with 0 after two steps, at a step up to a limit.
 fn exits(alloc: Global, text: &[u8], limit: u64) -> bool {
     match check_end(alloc, text, limit) {
         EndAnswer::Ended(guest, end) => guest.steps() == 2 && end == RunEnd::Exited(0),

@@ -1,13 +1,13 @@
-ghost use Rattle.save_text.specs.Seen.{save_view};
-ghost use Rattle.save_text.specs.Spelled.{IsSaveText};
+ghost use Rattle.save_format.specs.Seen.{save_view};
+ghost use Rattle.save_format.specs.Spelled.{IsSaveText};
 
 use crate::texts::pieces::Piece::*;
 use crate::texts::pieces::*;
 use crate::texts::states::STATE;
 use ddc_base::{Bytes, OutOfMemory};
-use save_text::byte_fields::put_u32;
-use save_text::state_text::{TextRefusal, put_parts};
-use save_text::{MAGIC, Parts, StagePart, put_stage, read};
+use save_format::byte_fields::put_u32;
+use save_format::state_text::{TextRefusal, put_parts};
+use save_format::{MAGIC, Parts, StagePart, put_stage, read};
 use std::alloc::{AllocError, Global};
 use std::process::Abort;
 use std::test::Fail;
@@ -203,7 +203,7 @@ fn is_mixed(alloc: Global, place: usize, piece: Piece) -> Result<bool, AllocErro
 fn an_old_save_says_the_same(rt: HostRuntime) -> Result<(), Fail> {
     let text = text_of(rt.alloc(), &old(rt.alloc())?)?;
     assert!(rt; says_the_same(rt.alloc(), &text)?);
-    // A state of the second form is wrong at its first byte, and so is one of the first form behind the second form's magic.
+    // A state of the second form is wrong at its first byte, and so is one of the first form after the second form's magic.
     assert!(rt; is_mixed(rt.alloc(), 22, Text(b"ddcstat2"))?);
     assert!(rt; is_mixed(rt.alloc(), 0, Text(b"ddcsave2"))?);
     Ok(())

@@ -118,7 +118,7 @@ fn refusal(alloc: Global, text: &[u8]) -> Option<StateRefusal> {
     read.err()
 }
 
-/// Whether a guest stands behind its first step, and exits with 0 in its third.
+/// Whether a guest stands after its first step, and exits with 0 in its third.
 fn ends_at_the_third(guest: &mut Guest<RunRam>) -> bool {
     guest.steps() == 1 && guest.run(2) == RunEnd::Exited(0) && guest.steps() == 2
 }

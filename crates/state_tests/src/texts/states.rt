@@ -1,8 +1,8 @@
 use crate::texts::pieces::Piece::*;
 use crate::texts::pieces::*;
 use ddc_base::{Bytes, OutOfMemory};
-use mem_files::{Access, Mode, Slot};
-use save_text::state_text::{Parts, TextRefusal, put_parts, read};
+use mem_files::{Access, Mode, OpenFile};
+use save_format::state_text::{StateParts, TextRefusal, put_parts, read};
 use std::alloc::{AllocError, Global};
 use std::process::Abort;
 use std::test::Fail;
@@ -208,7 +208,7 @@ fn is_wrong_before(alloc: Global, pieces: &[Piece], index: usize) -> Result<bool
     Ok(wrong_of::<StateForm>(alloc, pieces)? == start(pieces, index).checked_sub(1))
 }
 
-/// Behind an old magic the byte that says what is reserved is one of the heap's. So the count of runs has its last byte in front and reads as
+/// After an old magic the byte that says what is reserved is one of the heap's. So the count of runs has its last byte in front and reads as
 /// 512. Of these the first begins at the page 4,096, the second at 4,608, and the third at 512, which stands where the pages are counted.
 fn is_wrong_before_the_pages(alloc: Global) -> Result<bool, AllocError> {
     let pieces = changed(alloc, STATE, (0, Text(b"ddcstat1"), None))?;
@@ -221,7 +221,7 @@ fn an_old_text_has_no_place_for_a_reservation(rt: HostRuntime) -> Result<(), Fai
     Ok(())
 }
 
-/// Behind a new magic the first byte of an old text's heap has to say how many bytes are reserved.
+/// After a new magic the first byte of an old text's heap has to say how many bytes are reserved.
 fn is_wrong_at_the_reservation(alloc: Global) -> Result<bool, AllocError> {
     let pieces = replaced(alloc, STATE, 34, &[N8(0x20001)])?;
     let pieces = replaced(alloc, &pieces, 35, &[])?;
@@ -234,7 +234,7 @@ fn a_new_text_says_what_is_reserved(rt: HostRuntime) -> Result<(), Fail> {
     Ok(())
 }
 
-/// Asserts that a text is right, and wrong at its end with one byte or two behind it.
+/// Asserts that a text is right, and wrong at its end with one byte or two after it.
 fn check_longer(rt: &impl Abort, alloc: Global, text: &mut Vec<u8>) -> Result<(), AllocError> {
     let end = text.len() as u64;
     assert_eq!(rt; StateForm::wrong(alloc, text), None);
@@ -246,20 +246,20 @@ fn check_longer(rt: &impl Abort, alloc: Global, text: &mut Vec<u8>) -> Result<()
 }
 
 #[test]
-fn a_byte_behind_the_last_field_is_named(rt: HostRuntime) -> Result<(), Fail> {
+fn a_byte_after_the_last_field_is_named(rt: HostRuntime) -> Result<(), Fail> {
     let mut text = text_of(rt.alloc(), STATE)?;
     Ok(check_longer(&rt, rt.alloc(), &mut text)?)
 }
 
 /// Whether the numbers of the state are read.
-fn has_numbers(parts: &Parts<'_>) -> bool {
+fn has_numbers(parts: &StateParts<'_>) -> bool {
     (parts.steps, parts.pc, parts.registers[7]) == (5, 0x10000, 8)
         && parts.reservation.is_none()
         && (parts.heap.first, parts.heap.now, parts.heap.limit) == (0x20000, 0x20010, 0x1000)
 }
 
 /// Whether its second run is, and its second page.
-fn has_runs_and_pages(parts: &Parts<'_>) -> bool {
+fn has_runs_and_pages(parts: &StateParts<'_>) -> bool {
     let (Some(run), Some(page)) = (parts.runs.get(1), parts.pages.get(1)) else {
         return false;
     };
@@ -267,7 +267,7 @@ fn has_runs_and_pages(parts: &Parts<'_>) -> bool {
 }
 
 /// Whether its files are, and its streams.
-fn has_files_and_streams(parts: &Parts<'_>) -> bool {
+fn has_files_and_streams(parts: &StateParts<'_>) -> bool {
     let (Some(first), Some(second)) = (parts.files.get(0), parts.files.get(1)) else {
         return false;
     };
@@ -278,9 +278,9 @@ fn has_files_and_streams(parts: &Parts<'_>) -> bool {
         && parts.stream1 == b"out".as_slice()
 }
 
-const OPEN: Slot = Slot::File {
+const OPEN: OpenFile = OpenFile::File {
     number: 0,
-    cursor: 1,
+    file_offset: 1,
     access: Access {
         mode: Mode::Read,
         appends: true,
@@ -288,14 +288,14 @@ const OPEN: Slot = Slot::File {
 };
 
 /// Whether its fourth descriptor is.
-fn has_descriptors(parts: &Parts<'_>) -> bool {
+fn has_descriptors(parts: &StateParts<'_>) -> bool {
     match parts.descriptors.get(3) {
-        Some(held) => held.fd == 3 && held.slot == OPEN,
+        Some(held) => held.fd == 3 && held.open_file == OPEN,
         None => false,
     }
 }
 
-fn check_parts(rt: &impl Abort, parts: &Parts<'_>) {
+fn check_parts(rt: &impl Abort, parts: &StateParts<'_>) {
     assert!(rt; has_numbers(parts));
     assert!(rt; has_runs_and_pages(parts));
     assert!(rt; has_files_and_streams(parts));

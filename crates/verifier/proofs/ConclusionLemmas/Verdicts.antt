@@ -3,20 +3,20 @@ use Rattle.std.proofs.Common.{◌≡◌, ℕ, Bool, true, false, if◌then◌els
 use Rattle.std.specs.List.{AllZip}
 use Rattle.std.proofs.lemmas.Bool.{and_parts}
 use Rattle.std.proofs.lemmas.List.Elements.{All-cons, All-nil}
-use Rattle.recipe.specs.declared.contents.Said.{Said}
+use Rattle.recipe.specs.declared.contents.RecipeContents.{RecipeContents}
 use Rattle.report.specs.declared.types.CompareLine.{CompareLine}
 use Rattle.report.specs.declared.types.Compared.{Compared}
 use Rattle.report.specs.declared.types.Compared.TheVariants.{Equal, Differs}
-use Rattle.wheeler.specs.Bench.{all_equal, is_equal}
+use Rattle.audit_rules.specs.Bench.{all_equal, is_equal}
 use Rattle.verifier.specs.declared.part.Part.{Part}
 use Rattle.verifier.specs.declared.part.Verdict.{Verdict}
 use Rattle.verifier.specs.declared.part.Verdict.TheVariants.{Yes, TrueButDiffers, Refuted, OutOfMemory}
 use Rattle.verifier.specs.Verdicts.{Judges, true_verdict}
-use Rattle.meaning.specs.Concludes.{Concludes, ConcludesBy, ConcludesEqual}
-use Rattle.meaning.specs.Meaning.{Compiles, Prescribes}
+use Rattle.wheeler.specs.Concludes.{Concludes, ConcludesBy, ConcludesEqual}
+use Rattle.wheeler.specs.Meaning.{Compiles, Prescribes}
 use Rattle.verifier.specs.Conclusion.Verdicts.{Shows}
 
-module _ (prescribes : Prescribes) (compiles : Compiles) (recipe : Said) (inputs : List (List ℕ)) where
+module _ (prescribes : Prescribes) (compiles : Compiles) (recipe : RecipeContents) (inputs : List (List ℕ)) where
   -- where each line says equal, each compared stage has that conclusion
   equals : (names : List (List ℕ)) (lines : List CompareLine) → all_equal lines ≡ true
       → AllZip (λ name (line : CompareLine). ConcludesBy prescribes compiles recipe inputs name line.result) names lines

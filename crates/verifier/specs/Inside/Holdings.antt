@@ -10,16 +10,16 @@ use Rattle.recipe.specs.declared.parts.Output.{Output}
 use Rattle.recipe.specs.declared.parts.Output.TheVariants.{Stream, File}
 use Rattle.recipe.specs.declared.parts.StageFile.{StageFile}
 use Rattle.mem_files.specs.World.{World}
-use Rattle.recipe.specs.declared.contents.Said.{Said}
+use Rattle.recipe.specs.declared.contents.RecipeContents.{RecipeContents}
 use Rattle.recipe.specs.declared.parts.Stage.{Stage}
 use Rattle.report.specs.declared.types.StageLine.{StageLine}
 use Rattle.verifier.specs.Faults.{◌>>=◌, checked_artefact, or_fails, recorded}
 use Rattle.verifier.specs.declared.part.Part.TheVariants as part
-use Rattle.wheeler.specs.Contents.{Contents, check_of}
+use Rattle.audit_rules.specs.Contents.{Contents, check_of}
 use Rattle.verifier.specs.declared.held.Held.{Held}
 use Rattle.verifier.specs.declared.part.Part.{Part}
-use Rattle.verifier.specs.declared.stop.Stop.{Stop}
-use Rattle.verifier.specs.declared.stop.Stop.TheVariants.{Refuted, OutOfMemory}
+use Rattle.verifier.specs.declared.stop.JudgingStop.{JudgingStop}
+use Rattle.verifier.specs.declared.stop.JudgingStop.TheVariants.{Refuted, OutOfMemory}
 
 -- the contents so far
 abbrev pub so_far : Held → Contents
@@ -39,7 +39,7 @@ pub record CanPlace (held : FileMap) (files : List StageFile) : Type 0 where
   pub few : finite.len held + length files ≤ 256
 
 -- what a line comes to, once the run of its stage has left these files
-abbrev pub judged_left : Said → Contents → Stage → StageLine → World → Result (List ℕ) Part
+abbrev pub judged_left : RecipeContents → Contents → Stage → StageLine → World → Result (List ℕ) Part
 judged_left recipe so_far stage line world = do
   made ← or_fails part.Files (recorded so_far stage line world)
   checked_artefact made (check_of recipe so_far stage made)
@@ -50,7 +50,7 @@ IsOutputName Stream = Unit {0}
 IsOutputName (File path) = IsTrue (is_stripped_name path)
 
 -- what a step of a replay answers, by what it is to come to
-abbrev pub Judged : {A B : Type 0} → (B → A) → Result A Part → Result B Stop → Type 0
+abbrev pub Judged : {A B : Type 0} → (B → A) → Result A Part → Result B JudgingStop → Type 0
 Judged view meant (Ok found) = meant ≡ Ok (view found)
 Judged view meant (Err (Refuted part)) = meant ≡ Err part
 Judged view meant (Err OutOfMemory) = Unit {0}

@@ -1,8 +1,8 @@
 -- What the replay of all stages comes to. No promise rests on its being read.
 use Rattle.std.specs.Prelude.{◌≡◌, ℕ, Option, Some, Result, Ok, Err, List, []}
-use Rattle.recipe.specs.declared.contents.Said.{Said}
+use Rattle.recipe.specs.declared.contents.RecipeContents.{RecipeContents}
 use Rattle.report.specs.declared.types.StageLine.{StageLine}
-use Rattle.wheeler.specs.Contents.{Contents}
+use Rattle.audit_rules.specs.Contents.{Contents}
 use Rattle.verifier.specs.declared.part.Part.{Part}
 use Rattle.verifier.specs.declared.part.Verdict.{Verdict}
 use Rattle.verifier.specs.declared.part.Verdict.TheVariants.{Yes, TrueButDiffers, Refuted, OutOfMemory}
@@ -10,11 +10,11 @@ use Rattle.verifier.specs.Faults.{stages_fault}
 use Rattle.verifier.specs.Verdicts.{StandsAtStage}
 
 -- the first fault of all stages, and then what is judged last
-abbrev pub whole_fault : Said → List (List ℕ) → List StageLine → (Contents → Option (Part × ℕ)) → Option (Part × ℕ)
+abbrev pub whole_fault : RecipeContents → List (List ℕ) → List StageLine → (Contents → Option (Part × ℕ)) → Option (Part × ℕ)
 whole_fault recipe inputs lines last = stages_fault recipe last (record { inputs = inputs; artefacts = [] }) recipe.stages lines
 
 -- whatever is judged last: that alone is left, or a stage has the first fault, or the replay stands at a stage
-abbrev pub Replays : Said → List (List ℕ) → List StageLine → Result (List (List ℕ)) Verdict → Type 0
+abbrev pub Replays : RecipeContents → List (List ℕ) → List StageLine → Result (List (List ℕ)) Verdict → Type 0
 Replays recipe inputs lines (Ok artefacts) =
     (last : Contents → Option (Part × ℕ)) → whole_fault recipe inputs lines last ≡ last (record { inputs = inputs; artefacts = artefacts })
 Replays recipe inputs lines (Err (Refuted part place)) = (last : Contents → Option (Part × ℕ)) → whole_fault recipe inputs lines last ≡ Some (part, place)

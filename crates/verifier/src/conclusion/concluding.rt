@@ -1,19 +1,19 @@
 ghost use Rattle.verifier.specs.Conclusion.Verdicts.{Shows};
 ghost use Rattle.verifier.specs.Faults.{first_fault};
 ghost use Rattle.verifier.specs.Verdicts.{IsReplaying, Judges, OnWant};
-ghost use Rattle.wheeler.specs.Valid.{IsInputs};
+ghost use Rattle.audit_rules.specs.Valid.{IsInputs};
 
 use crate::Verdict;
 use crate::conclusion::laws::a_true_report_shows;
-use meaning::Meaning;
+use wheeler::Meaning;
 use recipe::{Inputs, Recipe};
 use report::Report;
 use std::alloc::Global;
 
 /// Replays a report, as `crate::verify` does, with the same verdict.
 ///
-/// Whatever sources mean: where the report is true and every line of `meaning::assumptions` holds, every stage follows. Of each compared
-/// stage, where every line of `meaning::assumptions_for` that stage holds: if its comparison says that the artefact and the binary are equal,
+/// Whatever sources mean: where the report is true and every line of `wheeler::assumptions` holds, every stage follows. Of each compared
+/// stage, where every line of `wheeler::assumptions_for` that stage holds: if its comparison says that the artefact and the binary are equal,
 /// its parent source prescribes the audited binary and nothing else, and if it says that they differ, no program that makes the audited
 /// binary implements the parent source. No line of another route is used. docs/reference/argument.md has the words.
 pub fn verify<M: Meaning>(

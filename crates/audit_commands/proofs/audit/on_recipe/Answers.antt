@@ -1,5 +1,5 @@
 use Rattle.std.proofs.Common.{ℕ, List, subst}
-use Rattle.wheeler.specs.Bench.{bench}
+use Rattle.audit_rules.specs.Bench.{bench}
 use Rattle.command_plan.specs.Performs.{Performs}
 use Rattle.command_plan.proofs.Obtaining.{ends_before, ends_with, goes_on_with}
 use Rattle.audit_commands.specs.Audit.{audited}

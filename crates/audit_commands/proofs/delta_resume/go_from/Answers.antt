@@ -1,6 +1,6 @@
 use Rattle.std.proofs.Common.{refl}
 use Rattle.audit_run.specs.Delta.Deltas.{delta_text_of}
-use Rattle.audit_commands.proofs.Beside.{resume_refused, resumes}
+use Rattle.audit_commands.proofs.Relative.{resume_refused, resumes}
 use Rattle.audit_commands.proofs.delta_resume.go_from.Goals as goal
 
 pub go_on-requires : goal.go_on-requires

@@ -1,6 +1,6 @@
 use Rattle.std.proofs.Common.{ℕ, List}
 use Rattle.command_plan.proofs.Obtaining.{ends_before, ends_with, goes_on_with}
-use Rattle.audit_commands.specs.Delta.{resumes_beside}
+use Rattle.audit_commands.specs.Delta.{resumes_relative}
 use Rattle.audit_commands.proofs.delta_resume.load.Goals as goal
 
 pub returns-in_err-save : goal.returns-in_err-save
@@ -10,11 +10,11 @@ pub returns-in_err-delta : goal.returns-in_err-delta
 returns-in_err-delta g c =
     ends_with c.from_residual-in_err-delta.ensures.1
     (goes_on_with (rw c.text.ensures.value at c.in_ok-save.ensures.obtained)
-    (ends_before {next = λ (found : List ℕ × List (List ℕ)). resumes_beside c.args.recipe found.1 c.in_ok-save.save found.0 c.args.words.now.piece.save c.args.words.now.piece.report c.args.words.now.piece.steps}
+    (ends_before {next = λ (found : List ℕ × List (List ℕ)). resumes_relative c.args.recipe found.1 c.in_ok-save.save found.0 c.args.words.now.piece.save c.args.words.now.piece.report c.args.words.now.piece.steps}
     c.in_err-delta.ensures.obtained))
 
 pub returns : goal.returns
 returns g c =
     goes_on_with (rw c.text.ensures.value at c.in_ok-save.ensures.obtained)
-    (goes_on_with {next = λ (found : List ℕ × List (List ℕ)). resumes_beside c.args.recipe found.1 c.in_ok-save.save found.0 c.args.words.now.piece.save c.args.words.now.piece.report c.args.words.now.piece.steps} c.in_ok-delta.ensures.obtained
+    (goes_on_with {next = λ (found : List ℕ × List (List ℕ)). resumes_relative c.args.recipe found.1 c.in_ok-save.save found.0 c.args.words.now.piece.save c.args.words.now.piece.report c.args.words.now.piece.steps} c.in_ok-delta.ensures.obtained
     (rw c.as_slice.ensures at c.go_from.ensures))

@@ -1,6 +1,6 @@
 use Rattle.std.proofs.Common.{refl}
 use Rattle.audit_run.specs.Delta.Deltas.{delta_text_of}
-use Rattle.audit_commands.proofs.Beside.{start_refused, starts}
+use Rattle.audit_commands.proofs.Relative.{start_refused, starts}
 use Rattle.audit_commands.proofs.delta_start.go_from.Goals as goal
 
 pub go_on-requires : goal.go_on-requires

@@ -3,11 +3,11 @@ use Rattle.std.specs.Borrow.{Bor}
 use Rattle.command_plan.proofs.Obtaining.{on_words}
 use Rattle.command_plan.proofs.Performing.{says}
 use Rattle.audit_commands.specs.Delta.{delta_start_files}
-use Rattle.audit_commands.proofs.Worded.{delta_starts, over_beside}
+use Rattle.audit_commands.proofs.Worded.{delta_starts, over_relative}
 use Rattle.audit_commands.proofs.delta_start.perform.Goals as goal
 
 pub returns-in_default : goal.returns-in_default
-returns-in_default g c = on_words (over_beside delta_start_files) (delta_starts (map (λ (word : Bor (List ℕ)). word.now) c.args.words.now)) c.in_default.ensures (says _ _ _ c.usage.ensures)
+returns-in_default g c = on_words (over_relative delta_start_files) (delta_starts (map (λ (word : Bor (List ℕ)). word.now) c.args.words.now)) c.in_default.ensures (says _ _ _ c.usage.ensures)
 
 pub returns : goal.returns
-returns g c = on_words (over_beside delta_start_files) (delta_starts (map (λ (word : Bor (List ℕ)). word.now) c.args.words.now)) c.in-Some.ensures c.delta_start.ensures
+returns g c = on_words (over_relative delta_start_files) (delta_starts (map (λ (word : Bor (List ℕ)). word.now) c.args.words.now)) c.in-Some.ensures c.delta_start.ensures

@@ -1,6 +1,6 @@
 use Rattle.std.proofs.Common.{ap}
 use Rattle.std.proofs.lemmas.Result.{err_from_is_err_and}
-use Rattle.wheeler.specs.Positions.{forward_from}
+use Rattle.audit_rules.specs.Positions.{forward_from}
 use Rattle.audit_run.specs.Seen.{AuditState, standing}
 use Rattle.command_plan.proofs.Performing.{wants_memory}
 use Rattle.audit_commands.specs.Inside.Keeping.{Keeps}

@@ -1,5 +1,5 @@
 use Rattle.std.proofs.Common.{ℕ, List, refl}
-use Rattle.wheeler.specs.Positions.{forward_from}
+use Rattle.audit_rules.specs.Positions.{forward_from}
 use Rattle.audit_run.specs.Seen.{AuditState, standing}
 use Rattle.command_plan.proofs.Obtaining.{ends_before, ends_with, goes_on_with}
 use Rattle.audit_commands.specs.Inside.Resuming.{resumes_whole}

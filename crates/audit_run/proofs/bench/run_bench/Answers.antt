@@ -1,6 +1,6 @@
 use Rattle.std.proofs.Common.{Ok, Err, length, sym, ap, ◌∙◌}
-use Rattle.wheeler.specs.Bench.{bench_report}
-use Rattle.wheeler.specs.declared.answer.Answer.TheVariants.{Completes}
+use Rattle.audit_rules.specs.Bench.{bench_report}
+use Rattle.audit_rules.specs.declared.answer.AuditAnswer.TheVariants.{Completes}
 use Rattle.audit_run.proofs.InOrder.{bench-answer, bench-whole}
 use Rattle.audit_run.proofs.bench.run_bench.Goals as goal
 

@@ -1,6 +1,6 @@
 use Rattle.std.proofs.Common.{◌≡◌, [], length, drop, take}
 use Rattle.audit_run.specs.Earlier.{done_in_order}
-use Rattle.wheeler.specs.Valid.{AreDone}
+use Rattle.audit_rules.specs.Valid.{AreDone}
 use Rattle.audit_run.proofs.earlier.run_earlier.Given as goal
 
 -- so many stages are done, and what follows them is what follows in all

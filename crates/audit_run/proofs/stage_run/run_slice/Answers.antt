@@ -1,9 +1,9 @@
 use Rattle.std.proofs.Common.{◌+◌, ◌-◌, Err, arith, ap, ◌∙◌, subst}
 use Rattle.std.proofs.lemmas.Result.{err_from_is_err_and}
 use Rattle.guest_run.specs.Run.{Exited, Trapped, UnknownCall}
-use Rattle.wheeler.specs.declared.answer.Fault.TheVariants.{Runs}
-use Rattle.wheeler.specs.declared.cause.RunCause.TheVariants as run
-use Rattle.wheeler.specs.Stages.{exited_with}
+use Rattle.audit_rules.specs.declared.answer.StageFault.TheVariants.{Runs}
+use Rattle.audit_rules.specs.declared.cause.RunCause.TheVariants as run
+use Rattle.audit_rules.specs.Stages.{exited_with}
 use Rattle.audit_run.specs.Stage.Makes.{Makes}
 use Rattle.audit_run.proofs.Slicing.{slices-end, slices-end-out, slices-goes, slices-out, slices-spent}
 use Rattle.audit_run.proofs.Whole.{whole-end, whole-goes, whole-spent}

@@ -1,7 +1,7 @@
 use Rattle.std.proofs.Common.{◌-◌, arith, sym, ap, ◌∙◌}
 use Rattle.std.proofs.lemmas.Result.{err_from_is_err_and}
-use Rattle.wheeler.specs.Positions.{forward_from}
-use Rattle.wheeler.proofs.Forwards.{forward_from-none, forward_from-sum}
+use Rattle.audit_rules.specs.Positions.{forward_from}
+use Rattle.audit_rules.proofs.Forwards.{forward_from-none, forward_from-sum}
 use Rattle.audit_run.proofs.Stretching.{wants-later}
 use Rattle.audit_run.proofs.stretch.advance_started.Goals as goal
 

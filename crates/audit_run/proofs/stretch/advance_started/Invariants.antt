@@ -1,11 +1,11 @@
 use Rattle.std.proofs.Common.{◌≡◌, ◌-◌, ◌≤◌}
-use Rattle.wheeler.specs.Positions.{forward_from}
-use Rattle.audit_run.specs.Inside.Parts.{IsPlace, IsStarted, stands}
+use Rattle.audit_rules.specs.Positions.{forward_from}
+use Rattle.audit_run.specs.Inside.Parts.{IsSavedPlace, IsStarted, stands}
 use Rattle.audit_run.proofs.stretch.advance_started.Given as goal
 
 abbrev pub invariant-loop-left : goal.invariant-loop-left
 invariant-loop-left l = (l.left ≤ l.fn.most)
-    × IsStarted l.place × IsPlace l.recipe l.done.items l.place
+    × IsStarted l.place × IsSavedPlace l.recipe l.done.items l.place
     × (stands l.recipe l.inputs l.done.items l.place ≡ forward_from l.recipe l.inputs (stands l.recipe l.inputs l.fn.done.items l.fn.place) (l.fn.most - l.left))
 
 abbrev pub decreases-loop-left : goal.decreases-loop-left

@@ -1,6 +1,6 @@
 use Rattle.std.proofs.Common.{Some, length, get_or, sym, ap, ◌∙◌}
 use Rattle.std.proofs.lemmas.Option.{slice_get-get_or}
-use Rattle.wheeler.specs.Positions.{at}
+use Rattle.audit_rules.specs.Positions.{at}
 use Rattle.audit_run.proofs.Present.{position-index, stage-rules}
 use Rattle.audit_run.proofs.stretch.run_present.Goals as goal
 

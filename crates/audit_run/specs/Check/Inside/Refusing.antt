@@ -5,9 +5,9 @@ use Rattle.hex_langs.specs.declared.items.reader.HexRefusal.{HexRefusal}
 use Rattle.hex_langs.specs.declared.items.reader.HexRefusal.TheVariants as hex
 use Rattle.m1_lang.specs.declared.refusal.M1Refusal.{M1Refusal}
 use Rattle.m1_lang.specs.declared.refusal.M1Refusal.TheVariants as m1
-use Rattle.wheeler.specs.declared.source_check.cause.HexCause.{HexCause}
-use Rattle.wheeler.specs.declared.source_check.cause.M1Cause.{M1Cause}
-use Rattle.wheeler.specs.SourceCheck.Causes.{cause_of_hex, cause_of_m1}
+use Rattle.audit_rules.specs.declared.source_check.cause.HexCause.{HexCause}
+use Rattle.audit_rules.specs.declared.source_check.cause.M1Cause.{M1Cause}
+use Rattle.audit_rules.specs.SourceCheck.Causes.{cause_of_hex, cause_of_m1}
 
 abbrev pub RefusesHex : {A : Type 0} → (HexCause → A) → HexRefusal → Result A OutOfMemory → Type 0
 RefusesHex say hex.OutOfMemory result = IsErr result

@@ -3,11 +3,11 @@ use Rattle.std.specs.Prelude.{◌≡◌, ℕ, List, [], ◌∷◌, refl}
 use Rattle.std.specs.Coded.{Coded, code_by, coded×, coded_list}
 use Rattle.guest_run.specs.State.{GuestState}
 use Rattle.guest_run.specs.Inside.Codes.{guest_code}
-use Rattle.save_text.specs.declared.parts.InputPart.{InputPart}
+use Rattle.save_format.specs.declared.parts.InputPart.{InputPart}
 use Rattle.audit_run.specs.Save.Saves.{digest_of}
-use Rattle.wheeler.specs.contracts.answer.Finished as finished
-use Rattle.wheeler.specs.declared.answer.Finished.{Finished}
-use Rattle.wheeler.specs.Positions.{Position, at}
+use Rattle.audit_rules.specs.contracts.answer.Finished as finished
+use Rattle.audit_rules.specs.declared.answer.Finished.{Finished}
+use Rattle.audit_rules.specs.Positions.{Position, at}
 
 -- a position is stored as its parts
 abbrev pub position_code : Coded Position

@@ -5,18 +5,18 @@ use Rattle.std.specs.List.{list_all, list_any}
 use Rattle.checkpoints.specs.Inside.Tests.{are_bytes, is_content, is_in_range, is_joined}
 use Rattle.ddc_base.specs.declared.digests.Digest.{Digest}
 use Rattle.mem_files.specs.Names.{is_stripped_name}
-use Rattle.recipe.specs.declared.contents.Said.{Said}
+use Rattle.recipe.specs.declared.contents.RecipeContents.{RecipeContents}
 use Rattle.recipe.specs.declared.parts.Output.{Output}
 use Rattle.recipe.specs.declared.parts.Output.TheVariants.{Stream, File}
 use Rattle.recipe.specs.declared.parts.Stage.{Stage}
 use Rattle.report.specs.declared.types.LeftLine.{LeftLine}
 use Rattle.report.specs.declared.types.Mark.{Mark}
 use Rattle.report.specs.Reports.{ascend}
-use Rattle.save_text.specs.SaveText.{SaveText}
-use Rattle.wheeler.specs.declared.answer.Finished.{Finished}
-use Rattle.wheeler.specs.Positions.{todo}
+use Rattle.save_format.specs.SaveText.{SaveText}
+use Rattle.audit_rules.specs.declared.answer.Finished.{Finished}
+use Rattle.audit_rules.specs.Positions.{todo}
 use Rattle.report.specs.Marks.{mark_of}
-use Rattle.wheeler.specs.Stages.{artefact_bytes}
+use Rattle.audit_rules.specs.Stages.{artefact_bytes}
 use Rattle.audit_run.specs.Save.Saves.{digest_of, done_in}
 
 -- marks
@@ -61,20 +61,20 @@ are_finished stages [] = true
 are_finished [] (f ∷ done) = false
 are_finished (stage ∷ stages) (f ∷ done) = is_finished stage f && are_finished stages done
 
-unfoldable pub are_done : Said → List Finished → Bool
+unfoldable pub are_done : RecipeContents → List Finished → Bool
 are_done recipe done = are_finished recipe.stages done && nat_le (artefact_bytes done) 1_073_741_824
 
 -- saves
 
-unfoldable pub is_of : Said → List (List ℕ) → SaveText → Bool
+unfoldable pub is_of : RecipeContents → List (List ℕ) → SaveText → Bool
 is_of recipe inputs save = same_digest save.recipe recipe.digest && same_digests save.inputs (map digest_of inputs)
 
 -- where these stages are left
-abbrev pub is_place_before : Said → SaveText → List Stage → Bool
+abbrev pub is_place_before : RecipeContents → SaveText → List Stage → Bool
 is_place_before recipe save [] = false
 is_place_before recipe save (stage ∷ stages) =
     are_done recipe (done_in save)
     && (is_in_range save.state && (is_joined save.state && (nat_lt save.state.steps stage.steps && save.state.heap.limit == stage.heap)))
 
-unfoldable pub is_place : Said → SaveText → Bool
+unfoldable pub is_place : RecipeContents → SaveText → Bool
 is_place recipe save = is_place_before recipe save (todo recipe (done_in save))

@@ -28,7 +28,7 @@ static WORDS: [Row; 12] = [
     (0, "'aAbBcC' '00'", b"\xaa\xbb\xcc\x00"),
 ];
 
-/// Numbers behind `!`.
+/// Numbers after `!`.
 #[rattlefmt::skip]
 static IMMEDIATE_NUMBERS: [Row; 13] = [
     (0, "DEFINE w 00000000\n!0 w", b"\x00\x00\x00\x00"),
@@ -46,7 +46,7 @@ static IMMEDIATE_NUMBERS: [Row; 13] = [
     (0, "DEFINE w FFFFFFFF\n!1365 w !-1 w", b"\xff\xff\xaf\xaa\xff\xff\x0f\x00"),
 ];
 
-/// Numbers behind `@`.
+/// Numbers after `@`.
 #[rattlefmt::skip]
 static BRANCH_NUMBERS: [Row; 12] = [
     (0, "DEFINE w 00000000\n@0 w", b"\x00\x00\x00\x00"),
@@ -63,7 +63,7 @@ static BRANCH_NUMBERS: [Row; 12] = [
     (0, "DEFINE w 00000000\n@-1366 w", b"\x00\x05\x00\xaa"),
 ];
 
-/// Numbers behind `~`.
+/// Numbers after `~`.
 #[rattlefmt::skip]
 static UPPER_NUMBERS: [Row; 14] = [
     (0, "DEFINE w 00000000\n~0 w", b"\x00\x00\x00\x00"),
@@ -82,7 +82,7 @@ static UPPER_NUMBERS: [Row; 14] = [
     (0, "DEFINE w 00000000\n~0xffffffff w", b"\x00\x00\x00\x00"),
 ];
 
-/// Numbers behind `%`.
+/// Numbers after `%`.
 #[rattlefmt::skip]
 static WORD_NUMBERS: [Row; 12] = [
     (0, "%0", b"\x00\x00\x00\x00"),

@@ -1,5 +1,5 @@
 use Rattle.std.proofs.Common.{◌≡◌, ◌+◌, drop, sum_by}
-use Rattle.save_text.specs.declared.state_text.parts.Run.{Run}
+use Rattle.save_format.specs.declared.state_text.parts.Run.{Run}
 use Rattle.checkpoints.proofs.memory.left_after.Given as goal
 
 abbrev pub invariant-loop-run : goal.invariant-loop-run

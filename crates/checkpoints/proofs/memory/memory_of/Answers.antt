@@ -4,8 +4,8 @@ use Rattle.std.proofs.lemmas.List.Elements.{All-map}
 use Rattle.paged_mem.specs.Memory.{Memory}
 use Rattle.checkpoints.specs.MemoryParts.Canonical.{with_pages, mapped_runs}
 use Rattle.checkpoints.proofs.MemoryPartsLemmas.Filling.{filled_on, turned}
-use Rattle.save_text.specs.declared.state_text.parts.Page.{Page}
-use Rattle.save_text.specs.StateText.Seen.{page_view, state_view}
+use Rattle.save_format.specs.declared.state_text.parts.Page.{Page}
+use Rattle.save_format.specs.StateText.Seen.{page_view, state_view}
 use Rattle.checkpoints.specs.Checkpoint.{mapped_of}
 use Rattle.checkpoints.proofs.Memories.{IsMappedIn, full_pages, is_made, placed, seen}
 use Rattle.checkpoints.proofs.memory.memory_of.Goals as goal

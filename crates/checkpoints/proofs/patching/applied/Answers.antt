@@ -1,4 +1,4 @@
-use Rattle.save_text.specs.StateText.Seen.{state_view}
+use Rattle.save_format.specs.StateText.Seen.{state_view}
 use Rattle.checkpoints.proofs.patching.applied.Goals as goal
 
 pub patched_guest_of-requires : goal.patched_guest_of-requires

@@ -1,5 +1,5 @@
 use Rattle.std.proofs.Common.{◌≡◌, true, false, refl}
-use Rattle.save_text.specs.StateText.Seen.{state_view}
+use Rattle.save_format.specs.StateText.Seen.{state_view}
 use Rattle.checkpoints.proofs.PatchCounts.{counted_text, many_pages}
 use Rattle.checkpoints.proofs.patching.patched_guest_of.Goals as goal
 

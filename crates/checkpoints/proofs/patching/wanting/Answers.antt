@@ -1,6 +1,6 @@
 use Rattle.std.proofs.Common.{◌≡◌, ◌∙◌, false, sym, true}
-use Rattle.save_text.specs.PatchText.PatchText.{parsed_patch}
-use Rattle.save_text.specs.StateText.Seen.{state_view}
+use Rattle.save_format.specs.PatchText.PatchText.{parsed_patch}
+use Rattle.save_format.specs.StateText.Seen.{state_view}
 use Rattle.checkpoints.proofs.Refused.{wanted}
 use Rattle.checkpoints.proofs.patching.wanting.Goals as goal
 

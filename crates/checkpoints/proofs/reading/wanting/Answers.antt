@@ -1,5 +1,5 @@
 use Rattle.std.proofs.Common.{◌≡◌, ◌∙◌, false, sym, true}
-use Rattle.save_text.specs.StateText.StateText.{parsed_state}
+use Rattle.save_format.specs.StateText.StateText.{parsed_state}
 use Rattle.checkpoints.proofs.Refused.{wanted}
 use Rattle.checkpoints.proofs.reading.wanting.Goals as goal
 

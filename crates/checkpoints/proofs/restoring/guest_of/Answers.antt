@@ -3,7 +3,7 @@ use Rattle.std.proofs.lemmas.Result.{err_from_is_err_and}
 use Rattle.rv64_machine.specs.Hart.{HartState, IsReservation}
 use Rattle.guest_run.specs.State.{guest_state}
 use Rattle.guest_run.specs.Valid.{Fits}
-use Rattle.save_text.specs.StateText.Seen.{state_view}
+use Rattle.save_format.specs.StateText.Seen.{state_view}
 use Rattle.checkpoints.specs.Checkpoint.{guest_of, memory_of}
 use Rattle.checkpoints.proofs.Refused.{by_files, by_memory, by_reservation}
 use Rattle.checkpoints.proofs.restoring.guest_of.Goals as goal

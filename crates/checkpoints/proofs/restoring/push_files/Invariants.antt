@@ -1,5 +1,5 @@
 use Rattle.std.proofs.Common.{◌≡◌, map, take}
-use Rattle.save_text.specs.StateText.Seen.{file_view}
+use Rattle.save_format.specs.StateText.Seen.{file_view}
 use Rattle.checkpoints.proofs.restoring.push_files.Given as goal
 
 abbrev pub invariant-loop-file : goal.invariant-loop-file

@@ -4,7 +4,7 @@ use Rattle.mem_files.specs.Lists.{AreInRange, lists_of}
 use Rattle.mem_files.specs.World.{World}
 use Rattle.checkpoints.proofs.FilePartsLemmas.GoodLists.{good_range}
 use Rattle.checkpoints.specs.MemoryParts.Canonical.{pages_of, runs_of}
-use Rattle.save_text.specs.StateText.Spelled.{IsStateText}
+use Rattle.save_format.specs.StateText.Spelled.{IsStateText}
 use Rattle.checkpoints.proofs.States.{is_text, said}
 use Rattle.checkpoints.proofs.writing.parts_of.Goals as goal
 
@@ -28,7 +28,7 @@ returns-clause-seen g c =
     (c.in_ok-runs.ensures ∙ ap runs_of one)
     (c.in_ok-pages.ensures ∙ ap pages_of two)
     (c.in_ok-listed.ensures ∙ ap (λ (w : World). (lists_of w).files) world)
-    (c.in_ok-descriptors.ensures ∙ ap (λ (w : World). (lists_of w).slots) world)
+    (c.in_ok-descriptors.ensures ∙ ap (λ (w : World). (lists_of w).open_files) world)
     (c.stream.ensures.bytes ∙ ap (λ (w : World). w.stream1) world)
     (c.stream-2.ensures.bytes ∙ ap (λ (w : World). w.stream2) world)
 

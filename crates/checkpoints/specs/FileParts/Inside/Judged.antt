@@ -4,8 +4,8 @@ use Rattle.std.specs.List.{list_all, list_any}
 use Rattle.std.specs.Str.{bytes_eq}
 use Rattle.std.specs.Borrow.{Bor}
 use Rattle.mem_files.specs.declared.view.FileView.{FileView}
-use Rattle.mem_files.specs.declared.slot.Slot.{Slot}
-use Rattle.mem_files.specs.declared.slot.Slot.TheVariants.{Input, Stream1, Stream2, File}
+use Rattle.mem_files.specs.declared.open_file.OpenFile.{OpenFile}
+use Rattle.mem_files.specs.declared.open_file.OpenFile.TheVariants.{Input, Stream1, Stream2, File}
 use Rattle.mem_files.specs.Limits.{most_content, most_total, most_descriptors, most_names}
 use Rattle.mem_files.specs.Names.{is_stripped_name}
 use Rattle.mem_files.specs.Lists.{ListedFile, FileLists, named, is_listed, is_used}
@@ -17,14 +17,14 @@ is_good_name (Some name) = is_stripped_name name
 abbrev pub is_good_file : ListedFile → Bool
 is_good_file file = nat_lt file.number 5120 && is_good_name file.name && nat_le (length file.content) most_content
 
-abbrev pub is_slot_at : ℕ → Slot → Bool
-is_slot_at fd Input = fd == 0
-is_slot_at fd Stream1 = fd == 1
-is_slot_at fd Stream2 = fd == 2
-is_slot_at fd (File number cursor access) = nat_lt cursor (2 ^ 63)
+abbrev pub is_open_file_at : ℕ → OpenFile → Bool
+is_open_file_at fd Input = fd == 0
+is_open_file_at fd Stream1 = fd == 1
+is_open_file_at fd Stream2 = fd == 2
+is_open_file_at fd (File number file_offset access) = nat_lt file_offset (2 ^ 63)
 
-abbrev pub is_good_slot : ℕ × Slot → Bool
-is_good_slot held = nat_lt held.0 most_descriptors && is_slot_at held.0 held.1
+abbrev pub is_good_open_file : ℕ × OpenFile → Bool
+is_good_open_file held = nat_lt held.0 most_descriptors && is_open_file_at held.0 held.1
 
 abbrev pub is_called : List ℕ → Option (List ℕ) → Bool
 is_called name None = false
@@ -40,7 +40,7 @@ abbrev pub have_own_names : List ListedFile → Bool
 have_own_names [] = true
 have_own_names (file ∷ files) = not (is_taken file.name files) && have_own_names files
 
--- the bytes of a content that is lent
+-- the bytes of a content that is borrowed
 abbrev pub content_size : FileView → ℕ
 content_size file = length file.content.now
 
@@ -53,9 +53,9 @@ size lists = sum_by length lists.streams + sum_by (λ file. length file.content)
 -- do counts and ranges allow these lists?
 unfoldable pub in_range : FileLists → Bool
 in_range lists =
-    list_all is_good_file lists.files && list_all is_good_slot lists.slots && list_all (λ stream. nat_le (length stream) most_content) lists.streams
+    list_all is_good_file lists.files && list_all is_good_open_file lists.open_files && list_all (λ stream. nat_le (length stream) most_content) lists.streams
     && nat_le (length (named lists.files)) most_names && nat_le (size lists) most_total && have_own_names lists.files
 
 -- do references?
 unfoldable pub are_joined : FileLists → Bool
-are_joined lists = list_all (λ held. is_listed lists.files held.1) lists.slots && list_all (is_used lists.slots) lists.files
+are_joined lists = list_all (λ held. is_listed lists.files held.1) lists.open_files && list_all (is_used lists.open_files) lists.files

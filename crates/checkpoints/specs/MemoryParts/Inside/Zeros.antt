@@ -2,8 +2,8 @@
 use Rattle.std.specs.Prelude.{◌*◌, List, [], ◌∷◌}
 use Rattle.std.specs.FinMap.{empty}
 use Rattle.paged_mem.specs.Memory.{Memory, with_bytes, zeros}
-use Rattle.save_text.specs.declared.state_text.parts.Run.{Run}
-use Rattle.save_text.specs.StateText.StateText.{PageText}
+use Rattle.save_format.specs.declared.state_text.parts.Run.{Run}
+use Rattle.save_format.specs.StateText.StateText.{PageText}
 use Rattle.checkpoints.specs.MemoryParts.Canonical.{with_pages}
 
 unfoldable pub zero_runs : List Run → Memory

@@ -1,4 +1,4 @@
-use Rattle.ddc_app.proofs.Beside.{delta_resumes}
+use Rattle.ddc_app.proofs.Relative.{delta_resumes}
 use Rattle.ddc_app.proofs.laws.delta_resumes.Goals as goal
 
 pub returns : goal.returns

@@ -25,23 +25,23 @@ pub write_mapped-requires : goal.write_mapped-requires
 write_mapped-requires g c =
     let first = first_page-is c.args.segment.now in
     let pages = pages-are c.args.segment.now in
-    let taken : c.args.segment.now.offset + c.args.segment.now.in_file - c.args.segment.now.offset ≡ c.args.segment.now.in_file = omega arith in
+    let taken : c.args.segment.now.offset + c.args.segment.now.file_size - c.args.segment.now.offset ≡ c.args.segment.now.file_size = omega arith in
     let size = length-segment_bytes c.args.program.now c.args.segment.now c.requires.placed.in_range in
-    let within = segment_within c.args.segment.now c.args.segment.now.in_file c.requires.placed.in_file in
+    let within = segment_within c.args.segment.now c.args.segment.now.file_size c.requires.placed.file_size in
     rw (c.in_ok-map_zero.ensures.ok, taken, size)
-    (maps-within _ _ _ c.args.segment.now.at c.args.segment.now.in_file (omega arith) (omega arith))
+    (maps-within _ _ _ c.args.segment.now.address c.args.segment.now.file_size (omega arith) (omega arith))
 
 pub returns : goal.returns
 unfolding with_segment
 returns g c =
     let first = first_page-is c.args.segment.now in
     let pages = pages-are c.args.segment.now in
-    let taken : c.args.segment.now.offset + c.args.segment.now.in_file - c.args.segment.now.offset ≡ c.args.segment.now.in_file = omega arith in
+    let taken : c.args.segment.now.offset + c.args.segment.now.file_size - c.args.segment.now.offset ≡ c.args.segment.now.file_size = omega arith in
     on_ok_weaker c.write_mapped.result
     (λ new. new
-    ∙ ap (λ n. with_bytes (g.R.Ram.bytes c.map_zero.new.self) c.args.segment.now.at (take n (drop c.args.segment.now.offset c.args.program.now))) taken
-    ∙ ap (λ m. with_bytes m c.args.segment.now.at (segment_bytes c.args.program.now c.args.segment.now))
+    ∙ ap (λ n. with_bytes (g.R.Ram.bytes c.map_zero.new.self) c.args.segment.now.address (take n (drop c.args.segment.now.offset c.args.program.now))) taken
+    ∙ ap (λ m. with_bytes m c.args.segment.now.address (segment_bytes c.args.program.now c.args.segment.now))
     (c.in_ok-map_zero.ensures.ok
-    ∙ ap (λ n. with_bytes (g.R.Ram.bytes c.args.ram.now) n (zeros (4096 * ((c.args.segment.now.at + c.args.segment.now.in_memory + 4095) / 4096 - c.args.segment.now.at / 4096)))) (sym first)
+    ∙ ap (λ n. with_bytes (g.R.Ram.bytes c.args.ram.now) n (zeros (4096 * ((c.args.segment.now.address + c.args.segment.now.memory_size + 4095) / 4096 - c.args.segment.now.address / 4096)))) (sym first)
     ∙ ap (λ n. with_bytes (g.R.Ram.bytes c.args.ram.now) (first_page c.args.segment.now) (zeros n)) (sym pages)))
     c.write_mapped.ensures

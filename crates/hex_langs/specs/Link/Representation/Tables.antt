@@ -4,8 +4,8 @@ use Rattle.hex_langs.specs.declared.items.item.Item.{Item}
 use Rattle.hex_langs.specs.declared.items.item.Item.TheVariants as item
 use Rattle.hex_langs.specs.declared.items.reader.HexRefusal.{HexRefusal}
 use Rattle.hex_langs.specs.declared.items.reader.HexRefusal.TheVariants as refusal
-use Rattle.hex_langs.specs.declared.link.joining.PutFail.{PutFail}
-use Rattle.hex_langs.specs.declared.link.joining.PutFail.TheVariants as put
+use Rattle.hex_langs.specs.declared.link.joining.JoinFail.{JoinFail}
+use Rattle.hex_langs.specs.declared.link.joining.JoinFail.TheVariants as put
 use Rattle.indexmap.specs.IndexMap.{IndexMap, get}
 use Rattle.ddc_base.specs.declared.name_tables.NamesKey.{NamesKey}
 use Rattle.hex_langs.specs.declared.link.number.Miss.{Miss}
@@ -50,7 +50,7 @@ Tables (Err (refusal.DoubleLabel index)) items base = first_repeat [] 0 items �
 Tables (Err other) items base = ⊥
 
 -- what putting an item answers and does
-abbrev pub Puts : Result (Unit {0}) PutFail → Result (List ℕ) Miss → List ℕ → List ℕ → Type 0
+abbrev pub Puts : Result (Unit {0}) JoinFail → Result (List ℕ) Miss → List ℕ → List ℕ → Type 0
 Puts (Err put.OutOfMemory) meant old new = Unit {0}
 Puts (Err (put.Miss miss)) meant old new = meant ≡ Err miss
 Puts (Ok done) (Ok bytes) old new = new ≡ old ++ bytes

@@ -1,6 +1,6 @@
 use Rattle.std.proofs.Common.{◌≡◌, ◌+◌, ◌-◌, ℕ, List, [], ◌∷◌, ◌++◌, length, drop, take, arith, sym, ap, ◌∙◌, Ok}
 use Rattle.std.proofs.lemmas.List.{length-drop}
-use Rattle.kaem_script.proofs.Steps.{Begins, at-blank, at-comment, at-end, at-fault, at-line-end, at-word, behind_is, rest_is}
+use Rattle.kaem_script.proofs.Steps.{Begins, at-blank, at-comment, at-end, at-fault, at-line-end, at-word, after_is, rest_is}
 use Rattle.kaem_script.proofs.reading.read.Goals as goal
 
 pub loop-at-preserved-then-byte-eq10 : goal.loop-at-preserved-then-byte-eq10
@@ -21,9 +21,9 @@ pub loop-at-preserved-then-byte-eq35 : goal.loop-at-preserved-then-byte-eq35
 loop-at-preserved-then-byte-eq35 c =
     let script = c.args.script.now in
     let here = rest_is script c.loop-at.at in
-    let behind = behind_is script c.loop-at.at in (
-      omega (arith, ap length behind, length-drop (c.loop-at.at + 1) script),
-      sym (at-comment script _ _ c.loop-at.at c.until_line_end.result c.loop-at.commands c.loop-at.words c.loop-at-test.true here behind c.if-byte-eq35.true c.until_line_end.ensures.value)
+    let following = after_is script c.loop-at.at in (
+      omega (arith, ap length following, length-drop (c.loop-at.at + 1) script),
+      sym (at-comment script _ _ c.loop-at.at c.until_line_end.result c.loop-at.commands c.loop-at.words c.loop-at-test.true here following c.if-byte-eq35.true c.until_line_end.ensures.value)
           ∙ c.loop-at.invariant.1,
     )
 

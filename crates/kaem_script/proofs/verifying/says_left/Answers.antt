@@ -2,7 +2,7 @@ use Rattle.std.proofs.Common.{◌≡◌, ◌∙◌, ℕ, List, true, false, sym,
 use Rattle.mem_files.proofs.Walks.{walk-name}
 use Rattle.kaem_script.specs.Faults.{says_file, says_files}
 use Rattle.kaem_script.specs.FilesListed.{named_in}
-use Rattle.kaem_script.proofs.Beside.{all-said, empty-is, first-is, left-begins, next-said, no-file-said, none-told}
+use Rattle.kaem_script.proofs.Relative.{all-said, empty-is, first-is, left-begins, next-said, no-file-said, none-told}
 use Rattle.kaem_script.proofs.Renewing.{files_after}
 use Rattle.kaem_script.proofs.verifying.says_left.Goals as goal
 

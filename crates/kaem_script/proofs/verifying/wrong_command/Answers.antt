@@ -1,7 +1,7 @@
 use Rattle.std.proofs.Common.{arith, ap, length}
 use Rattle.kaem_script.specs.Faults.{left_fault}
 use Rattle.kaem_script.specs.Inside.Commands.{world_in}
-use Rattle.kaem_script.proofs.Beside.{first-at, first-is, others-are, replay-goes-on}
+use Rattle.kaem_script.proofs.Relative.{first-at, first-is, others-are, replay-goes-on}
 use Rattle.kaem_script.proofs.verifying.wrong_command.Goals as goal
 
 pub loop-ahead-preserved : goal.loop-ahead-preserved

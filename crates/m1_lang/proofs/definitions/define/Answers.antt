@@ -13,6 +13,6 @@ returns-in-false c =
     let new = c.add_definition.new.table in
     let entered = subst (λ (b : Bool). Enters {E = OutOfMemory} (Ok b) name.text c.in-Some.value old new) c.in-false.is c.in_ok-add_definition-in-Some.ensures in
     let enters = subst (λ (v : List ℕ). Enters {E = OutOfMemory} (Ok false) name.text v old new) c.in-Some.ensures.text entered in
-    let both = defines-new OutOfMemory old new c.args.source.now c.args.start c.args.at c.in-Word.behind c.in-Word-next_word.after name value
+    let both = defines-new OutOfMemory old new c.args.source.now c.args.start c.args.at c.in-Word.following c.in-Word-next_word.after name value
     c.in-Word.ensures.0 c.in-Word-next_word.ensures.0 (sym c.in-Some.ensures.some) enters in
     (both.0, both.1, omega (arith, c.in-Word.ensures.1, c.in-Word-next_word.ensures.1), c.in-Word-next_word.ensures.2)

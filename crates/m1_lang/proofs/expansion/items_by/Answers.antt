@@ -12,12 +12,12 @@ pub loop-at-preserved-then-is_define : goal.loop-at-preserved-then-is_define
 loop-at-preserved-then-is_define c =
     let values = values_in c.args.table.now in
     let word : Word = record { at = c.in-Word.start; text = c.in-Word.text.now } in
-    let step = reading-define values c.args.source.now c.loop-at.at c.in-Word.after c.behind_definition-at.result word c.in-Word.ensures.0 (sym c.if-is_define.ensures)
-    c.behind_definition-at.ensures.0 in
+    let step = reading-define values c.args.source.now c.loop-at.at c.in-Word.after c.after_definition-at.result word c.in-Word.ensures.0 (sym c.if-is_define.ensures)
+    c.after_definition-at.ensures.0 in
     record {
       whole = c.loop-at.invariant.whole ∙ ap (λ (r : Reading WordFault). with_front c.loop-at.items (formed c.loop-at.word r)) step;
       few = c.loop-at.invariant.few;
-      within = c.behind_definition-at.ensures.2;
+      within = c.after_definition-at.ensures.2;
     }
 
 pub loop-at-preserved-in-Ok : goal.loop-at-preserved-in-Ok

@@ -3,7 +3,7 @@ use Rattle.hex_langs.specs.Items.Reading.{formed, with_front}
 use Rattle.m1_lang.specs.Representation.Passes.{reading_at, values_in}
 use Rattle.m1_lang.proofs.expansion.items_by.Given as goal
 
--- the items so far, and those of what is left behind the word that is open, make up the whole
+-- the items so far, and those of what is left after the word that is open, make up the whole
 abbrev pub invariant-loop-at : goal.invariant-loop-at
 invariant-loop-at l = record {
   whole : formed None (reading_at (values_in l.table) l.source 0)

@@ -1,5 +1,5 @@
 use Rattle.std.proofs.Common.{sym, subst}
-use Rattle.m1_lang.specs.declared.words.meaning.Meaning.{Meaning}
+use Rattle.m1_lang.specs.declared.words.meaning.WordMeaning.{WordMeaning}
 use Rattle.m1_lang.specs.Words.Meanings.{meaning_tokens}
 use Rattle.m1_lang.specs.Representation.Passes.{TakesTokens}
 use Rattle.m1_lang.proofs.Takings.{takes-one}
@@ -7,5 +7,5 @@ use Rattle.m1_lang.proofs.taking.take_meaning.Goals as goal
 
 pub returns-in-One-clause-takes : goal.returns-in-One-clause-takes
 returns-in-One-clause-takes c =
-    subst (λ (m : Meaning). TakesTokens c.take.result c.args.word c.args.at (meaning_tokens m) c.args.items.now c.take.new.items) (sym c.in-One.is)
+    subst (λ (m : WordMeaning). TakesTokens c.take.result c.args.word c.args.at (meaning_tokens m) c.args.items.now c.take.new.items) (sym c.in-One.is)
     (takes-one c.take.result c.args.word c.args.at c.in-One.token c.args.items.now c.take.new.items c.requires c.take.ensures.takes)

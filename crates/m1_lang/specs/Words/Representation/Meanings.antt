@@ -1,12 +1,12 @@
 -- What functions that try one form of a word answer, and what a value keeps of its text. No promise rests on its being read.
 use Rattle.std.specs.Prelude.{◌≡◌, ℕ, List, [], ◌∷◌, Option, Some, None, Result, Ok, Err}
 use Rattle.hex_langs.specs.declared.items.token.Token.TheVariants.{Field}
-use Rattle.m1_lang.specs.declared.words.meaning.Meaning.{Meaning}
+use Rattle.m1_lang.specs.declared.words.meaning.WordMeaning.{WordMeaning}
 use Rattle.m1_lang.specs.declared.words.meaning.WordFault.{WordFault}
 use Rattle.m1_lang.specs.Words.Forms.{FormTokens, value_tokens}
 use Rattle.m1_lang.specs.Words.Meanings.{meaning_tokens}
 
-abbrev pub MeansForm : Option (Result Meaning WordFault) → FormTokens → Type 0
+abbrev pub MeansForm : Option (Result WordMeaning WordFault) → FormTokens → Type 0
 MeansForm (Some (Ok meaning)) form = form ≡ Some (Ok (meaning_tokens meaning))
 MeansForm (Some (Err why)) form = form ≡ Some (Err why)
 MeansForm None form = form ≡ None

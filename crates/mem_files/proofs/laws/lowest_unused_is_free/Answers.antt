@@ -3,8 +3,8 @@ use Rattle.mem_files.proofs.laws.lowest_unused_is_free.Goals as goal
 
 pub returns : goal.returns
 returns c = record {
-  slots = λ w. get-lowest_unused w.slots;
-  slots_below = λ w fd less. below-lowest_unused w.slots fd less;
+  open_files = λ w. get-lowest_unused w.open_files;
+  open_files_below = λ w fd less. below-lowest_unused w.open_files fd less;
   files = λ w. get-lowest_unused w.files;
   files_below = λ w number less. below-lowest_unused w.files number less;
 }

@@ -1,5 +1,5 @@
 use Rattle.std.proofs.Common.{map}
-use Rattle.report.specs.declared.line.Line.TheVariants.{Compare}
+use Rattle.report.specs.declared.line.ReportLine.TheVariants.{Compare}
 use Rattle.report.specs.Lines.{line_words}
 use Rattle.report.proofs.Written.{Writes}
 use Rattle.report.proofs.writing.put_compares.Given as goal

@@ -1,6 +1,6 @@
 use Rattle.std.proofs.Common.{[], ◌++◌, ◌∷◌, map, refl, sym, ◌∙◌, ap}
 use Rattle.std.proofs.lemmas.List.{drop_all}
-use Rattle.report.specs.declared.line.Line.TheVariants.{Input}
+use Rattle.report.specs.declared.line.ReportLine.TheVariants.{Input}
 use Rattle.report.specs.Lines.{line_words}
 use Rattle.report.proofs.Written.{one_line, writes_more, writes_all}
 use Rattle.report.proofs.writing.put_inputs.Goals as goal

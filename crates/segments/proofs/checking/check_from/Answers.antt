@@ -1,5 +1,5 @@
 use Rattle.std.proofs.Common.{subst, sym}
-use Rattle.segments.specs.Inside.Told.{NotRead}
+use Rattle.segments.specs.Inside.Recorded.{NotRead}
 use Rattle.segments.specs.Segments.{IsNoState}
 use Rattle.segments.proofs.checking.check_from.Goals as goal
 

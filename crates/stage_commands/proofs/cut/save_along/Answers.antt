@@ -4,7 +4,7 @@ use Rattle.command_plan.proofs.Obtaining.{ends_with}
 use Rattle.command_plan.proofs.Performing.{says, wants_memory}
 use Rattle.stage_commands.specs.Cut.{saved_from}
 use Rattle.stage_commands.specs.Inside.Going.{ComesOn, IsBelow}
-use Rattle.stage_commands.proofs.Stretches.{answers_behind, behind, ends_there, next_one, none_left, rest_at, wants_behind}
+use Rattle.stage_commands.proofs.Stretches.{answers_after, following, ends_there, next_one, none_left, rest_at, wants_after}
 use Rattle.stage_commands.proofs.cut.save_along.Goals as goal
 
 pub returns-in_err-save_state : goal.returns-in_err-save_state
@@ -16,20 +16,20 @@ returns-in_err-save_state g c =
 pub returns-in_err-answer : goal.returns-in_err-answer
 returns-in_err-answer g c =
     ends_with c.from_residual-in_err-answer.ensures.1
-    (wants_behind c.args.stage.now c.args.every c.args.prefix.now (saved_from c.args.stage.now c.args.every c.args.prefix.now 1_000 0 c.args.guest.now) _ _ c.loop-saved.saved c.loop-saved.guest
+    (wants_after c.args.stage.now c.args.every c.args.prefix.now (saved_from c.args.stage.now c.args.every c.args.prefix.now 1_000 0 c.args.guest.now) _ _ c.loop-saved.saved c.loop-saved.guest
     c.loop-saved.invariant.0 (omega (arith, c.loop-saved-test.true)) _ _ c.in_ok-save_state.ensures _ c.in_err-answer.ensures.comes_on)
 
 pub returns-in-Some : goal.returns-in-Some
 returns-in-Some g c =
-    answers_behind c.args.stage.now c.args.every c.args.prefix.now (saved_from c.args.stage.now c.args.every c.args.prefix.now 1_000 0 c.args.guest.now) _ _ c.loop-saved.saved c.loop-saved.guest
+    answers_after c.args.stage.now c.args.every c.args.prefix.now (saved_from c.args.stage.now c.args.every c.args.prefix.now 1_000 0 c.args.guest.now) _ _ c.loop-saved.saved c.loop-saved.guest
     c.loop-saved.invariant.0 (omega (arith, c.loop-saved-test.true)) _ _ c.in_ok-save_state.ensures c.in-Some.answer
-    (subst (λ r. ComesOn (behind c.args.stage.now (c.loop-saved.saved + 1) c.args.every c.loop-saved.guest c.loop-saved.guest) c.go_on.new.guest (Ok r)) c.in-Some.is c.in_ok-answer.ensures.comes_on)
+    (subst (λ r. ComesOn (following c.args.stage.now (c.loop-saved.saved + 1) c.args.every c.loop-saved.guest c.loop-saved.guest) c.go_on.new.guest (Ok r)) c.in-Some.is c.in_ok-answer.ensures.comes_on)
 
 pub loop-saved-preserved : goal.loop-saved-preserved
 loop-saved-preserved g c = (
   next_one c.args.stage.now c.args.every c.args.prefix.now (saved_from c.args.stage.now c.args.every c.args.prefix.now 1_000 0 c.args.guest.now) _ _ c.loop-saved.saved c.loop-saved.guest
       c.loop-saved.invariant.0 (omega (arith, c.loop-saved-test.true)) _ _ c.in_ok-save_state.ensures c.go_on.new.guest
-      (subst (λ r. ComesOn (behind c.args.stage.now (c.loop-saved.saved + 1) c.args.every c.loop-saved.guest c.loop-saved.guest) c.go_on.new.guest (Ok r)) c.in-None.is c.in_ok-answer.ensures.comes_on),
+      (subst (λ r. ComesOn (following c.args.stage.now (c.loop-saved.saved + 1) c.args.every c.loop-saved.guest c.loop-saved.guest) c.go_on.new.guest (Ok r)) c.in-None.is c.in_ok-answer.ensures.comes_on),
   subst (λ r. IsBelow c.args.stage.now.steps c.go_on.new.guest (Ok r)) c.in-None.is c.in_ok-answer.ensures.below,
   omega (arith, c.loop-saved-test.true),
 )

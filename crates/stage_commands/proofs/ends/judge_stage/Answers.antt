@@ -1,5 +1,5 @@
 use Rattle.std.proofs.Common.{subst, sym}
-use Rattle.wheeler.proofs.Places.{all-made}
+use Rattle.audit_rules.proofs.Places.{all-made}
 use Rattle.audit_run.specs.Stage.Rules.{AreMade}
 use Rattle.stage_commands.proofs.ends.judge_stage.Goals as goal
 

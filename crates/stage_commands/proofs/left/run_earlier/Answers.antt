@@ -5,4 +5,4 @@ pub returns-in_err-done : goal.returns-in_err-done
 returns-in_err-done g c = ends_with c.from_residual.ensures.1 (ends_before (c.in_err-done.ensures.obtained _))
 
 pub returns : goal.returns
-returns g c = goes_on_with (c.in_ok-done.ensures.obtained _) (rw (c.as_slice.ensures, c.as_slice-2.ensures) at c.run_behind.ensures)
+returns g c = goes_on_with (c.in_ok-done.ensures.obtained _) (rw (c.as_slice.ensures, c.as_slice-2.ensures) at c.run_after.ensures)

@@ -1,7 +1,7 @@
 use Rattle.std.proofs.Common.{◌≡◌, ◌+◌, length, subst, arith}
 use Rattle.std.specs.Prelude.{IfOk}
-use Rattle.wheeler.proofs.Places.{all-made}
-use Rattle.wheeler.specs.Stages.{contents, start_stage}
+use Rattle.audit_rules.proofs.Places.{all-made}
+use Rattle.audit_rules.specs.Stages.{contents, start_stage}
 use Rattle.audit_run.specs.Stage.Begins.{Begins}
 use Rattle.command_plan.proofs.Obtaining.{ends_with}
 use Rattle.command_plan.proofs.Performing.{wants_memory}
@@ -45,4 +45,4 @@ returns-in-Ok g c =
 pub returns-in-Err : goal.returns-in-Err
 returns-in-Err g c =
     not_starts c.args.recipe.now c.args.stage.now c.args.file.now c.args.out.now (length c.args.done.now + 1) _ _ c.in-Err.cause _
-    (subst (Begins (start_stage c.args.recipe.now (contents c.args.inputs.now c.args.done.now) c.args.stage.now)) c.in-Err.is c.in_ok-guest.ensures.begins) c.undone.ensures
+    (subst (Begins (start_stage c.args.recipe.now (contents c.args.inputs.now c.args.done.now) c.args.stage.now)) c.in-Err.is c.in_ok-guest.ensures.begins) c.unfinished.ensures

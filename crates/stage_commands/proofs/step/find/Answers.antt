@@ -9,4 +9,4 @@ returns-in_err-inputs g c =
     stops_holding c.from_residual-in_err-inputs.ensures.1 (goes_on_with (c.in_ok-count.ensures.obtained _) (ends_before c.in_err-inputs.ensures.obtained))
 
 pub returns : goal.returns
-returns g c = holds_with (c.in_ok-count.ensures.obtained _) (holds_with c.in_ok-inputs.ensures.obtained (c.talk_behind.ensures _))
+returns g c = holds_with (c.in_ok-count.ensures.obtained _) (holds_with c.in_ok-inputs.ensures.obtained (c.talk_after.ensures _))

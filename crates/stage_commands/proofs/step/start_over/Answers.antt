@@ -1,5 +1,5 @@
 use Rattle.std.proofs.Common.{◌≡◌, Some, length, slice_get, sym, subst, arith}
-use Rattle.wheeler.proofs.Places.{all-made}
+use Rattle.audit_rules.proofs.Places.{all-made}
 use Rattle.command_plan.proofs.Obtaining.{stops_with, wants_at_once}
 use Rattle.stage_commands.proofs.Stepping.{stage_place, stage_rules}
 use Rattle.stage_commands.proofs.step.start_over.Goals as goal

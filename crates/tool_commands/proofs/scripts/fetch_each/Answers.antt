@@ -4,7 +4,7 @@ use Rattle.command_plan.proofs.Gathering.{fetched_within}
 use Rattle.command_plan.proofs.Obtaining.{stops_with, wants_at_once}
 use Rattle.kaem_script.specs.FilesListed.{FilesListed}
 use Rattle.tool_commands.specs.Scripts.{and_file, needs_files}
-use Rattle.tool_commands.proofs.FilePlaces.{HasRoom, at-front, file-added, file-ends, file-more, files-end, files_left, placed-so, room-at-first, room-behind, wants_on}
+use Rattle.tool_commands.proofs.FilePlaces.{HasRoom, at-front, file-added, file-ends, file-more, files-end, files_left, placed-so, room-at-first, room-following, wants_on}
 use Rattle.tool_commands.proofs.scripts.fetch_each.Goals as goal
 
 pub returns-in_err-files : goal.returns-in_err-files
@@ -43,7 +43,7 @@ loop-word-preserved g c =
     let within = fetched_within c.as_str.result.now 268_435_456 c.loop-word.room c.min.result _ _ c.in_ok-content.content c.min.ensures c.in_ok-content.ensures.fetched in
     file-added (needs_files c.args.words.now) c.loop-word.files c.loop-word.room c.args.words.now c.loop-word.word-index _ _ c.loop-word.invariant.0 c.word-item.result c.as_str.result.now c.min.result
     front c.as_str.ensures.value c.min.ensures _ c.in_ok-content.content _ _ c.in_ok-content.ensures.obtained
-    (room-behind c.loop-word.files c.loop-word.room c.word-item.result (drop (c.loop-word.word-index + 1) c.args.words.now) c.in_ok-content.content
+    (room-following c.loop-word.files c.loop-word.room c.word-item.result (drop (c.loop-word.word-index + 1) c.args.words.now) c.in_ok-content.content
     (subst (HasRoom c.loop-word.files c.loop-word.room) front c.loop-word.invariant.1) c.as_str.ensures.file within.0 within.1)
     (ap (λ n. c.loop-word.room - n) c.len.ensures)
     (c.in_ok-add.ensures ∙ ap (and_file c.loop-word.files c.word-item.result) c.as_slice.ensures)

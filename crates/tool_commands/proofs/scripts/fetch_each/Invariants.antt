@@ -4,7 +4,7 @@ use Rattle.tool_commands.specs.Scripts.{needs_files}
 use Rattle.tool_commands.proofs.FilePlaces.{HasRoom, files_left}
 use Rattle.tool_commands.proofs.scripts.fetch_each.Given as goal
 
--- the plan goes on behind the files so far, and there is room for the others
+-- the plan goes on after the files so far, and there is room for the others
 abbrev pub invariant-loop-word : goal.invariant-loop-word
 invariant-loop-word g l =
     LeadsOn (needs_files l.words) (files_left l.room l.files (drop l.word-index l.words)) (g.S.Shelf.state l.fn.shelf) (g.S.Shelf.state l.shelf)

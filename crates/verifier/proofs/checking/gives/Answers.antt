@@ -1,7 +1,7 @@
 use Rattle.std.proofs.Common.{◌∙◌, sym, ap}
 use Rattle.std.specs.Prelude.{bytes_eq, is_none}
 use Rattle.hex_langs.specs.Hex0.{hex0_of}
-use Rattle.wheeler.specs.SourceCheck.Checks.{check}
+use Rattle.audit_rules.specs.SourceCheck.Checks.{check}
 use Rattle.verifier.proofs.Rightness.{no-difference}
 use Rattle.verifier.proofs.checking.gives.Goals as goal
 

@@ -1,8 +1,8 @@
 use Rattle.std.proofs.Common.{◌≡◌, ◌∙◌, ℕ, List, arith, ap, map, sym, subst}
 use Rattle.std.specs.Prelude.{IfOk, is_none}
 use Rattle.std.specs.List.{join_with_byte}
-use Rattle.wheeler.specs.SourceCheck.Checks.{check}
-use Rattle.wheeler.specs.Contents.{content, text_of}
+use Rattle.audit_rules.specs.SourceCheck.Checks.{check}
+use Rattle.audit_rules.specs.Contents.{content, text_of}
 use Rattle.verifier.specs.Inside.Holdings.{so_far}
 use Rattle.verifier.proofs.Rightness.{joined-only}
 use Rattle.verifier.proofs.checking.gives_text.Goals as goal

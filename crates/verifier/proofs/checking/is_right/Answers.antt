@@ -1,7 +1,7 @@
 use Rattle.std.proofs.Common.{◌≡◌, ◌∙◌, Option, sym, ap, subst}
 use Rattle.std.specs.Prelude.{IfOk, is_none}
 use Rattle.std.specs.Option.{option_map}
-use Rattle.wheeler.specs.declared.source_check.cause.CheckCause.{CheckCause}
+use Rattle.audit_rules.specs.declared.source_check.cause.CheckCause.{CheckCause}
 use Rattle.verifier.specs.Inside.Holdings.{so_far}
 use Rattle.verifier.proofs.Rightness.{check-is}
 use Rattle.verifier.proofs.StageRules.{base-is}

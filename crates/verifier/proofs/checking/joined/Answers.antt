@@ -1,7 +1,7 @@
 use Rattle.std.proofs.Common.{◌≤◌, ◌-◌, ◌∙◌, arith, ap, drop, length, length-drop, map, take}
 use Rattle.std.specs.List.{join_with_byte}
 use Rattle.std.proofs.lemmas.List.{take_all}
-use Rattle.wheeler.specs.Contents.{content, text_of}
+use Rattle.audit_rules.specs.Contents.{content, text_of}
 use Rattle.verifier.specs.Inside.Holdings.{so_far}
 use Rattle.verifier.proofs.Rightness.{joined-whole}
 use Rattle.verifier.proofs.checking.joined.Goals as goal

@@ -1,7 +1,7 @@
 use Rattle.std.proofs.Common.{◌≡◌, ◌∷◌, ◌++◌, take}
 use Rattle.std.specs.List.{flat_map}
 use Rattle.verifier.specs.Inside.Holdings.{so_far}
-use Rattle.wheeler.specs.Contents.{content}
+use Rattle.audit_rules.specs.Contents.{content}
 use Rattle.verifier.proofs.checking.joined.Given as goal
 
 abbrev pub invariant-loop-name : goal.invariant-loop-name

@@ -1,6 +1,6 @@
 use Rattle.std.proofs.Common.{◌∙◌, ◌+◌, ◌&&◌, arith, drop, sym, ap}
 use Rattle.std.specs.Prelude.{is_none}
-use Rattle.wheeler.specs.SourceCheck.Checks.{first_other_item}
+use Rattle.audit_rules.specs.SourceCheck.Checks.{first_other_item}
 use Rattle.verifier.proofs.Rightness.{item-turn, other-length, past}
 use Rattle.verifier.proofs.checking.same_items.Goals as goal
 

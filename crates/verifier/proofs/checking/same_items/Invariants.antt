@@ -1,6 +1,6 @@
 use Rattle.std.proofs.Common.{◌≡◌, drop}
 use Rattle.std.specs.Prelude.{is_none}
-use Rattle.wheeler.specs.SourceCheck.Checks.{first_other_item}
+use Rattle.audit_rules.specs.SourceCheck.Checks.{first_other_item}
 use Rattle.verifier.proofs.checking.same_items.Given as goal
 
 abbrev pub invariant-loop-index : goal.invariant-loop-index

@@ -3,8 +3,8 @@ use Rattle.std.specs.FinMap as finite
 use Rattle.std.specs.List.{fold}
 use Rattle.mem_files.specs.Limits.{most_content}
 use Rattle.guest_run.specs.Setting.{Setting}
-use Rattle.wheeler.specs.Contents.{with_stage_file}
-use Rattle.wheeler.proofs.GivenBoxes.{content-is}
+use Rattle.audit_rules.specs.Contents.{with_stage_file}
+use Rattle.audit_rules.proofs.GivenBoxes.{content-is}
 use Rattle.verifier.specs.Inside.Holdings.{so_far}
 use Rattle.verifier.proofs.Placing.{turn}
 use Rattle.verifier.proofs.given.place_files.Goals as goal

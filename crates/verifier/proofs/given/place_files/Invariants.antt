@@ -1,7 +1,7 @@
 use Rattle.std.proofs.Common.{◌≡◌, drop}
 use Rattle.std.specs.List.{fold}
 use Rattle.verifier.specs.Inside.Holdings.{CanPlace, so_far}
-use Rattle.wheeler.specs.Contents.{with_stage_file}
+use Rattle.audit_rules.specs.Contents.{with_stage_file}
 use Rattle.verifier.proofs.given.place_files.Given as goal
 
 abbrev pub invariant-loop-file : goal.invariant-loop-file

@@ -6,7 +6,7 @@ use Rattle.std.proofs.lemmas.List.Elements.{All-push}
 use Rattle.std.proofs.lemmas.List.Sums.{sum_by_push}
 use Rattle.mem_files.specs.Outputs.{IsContent}
 use Rattle.recipe.specs.declared.parts.Stage.{Stage}
-use Rattle.wheeler.specs.Contents.{Contents}
+use Rattle.audit_rules.specs.Contents.{Contents}
 use Rattle.verifier.specs.Faults.{replayed, stages_fault}
 use Rattle.verifier.specs.Verdicts.{AreReplayed}
 use Rattle.verifier.proofs.DoneStages.{replayed-content}

@@ -1,6 +1,6 @@
 use Rattle.std.proofs.Common.{◌≡◌, ◌≤◌, ℕ, Option, [], length, drop, take, sum_by, All}
 use Rattle.mem_files.specs.Outputs.{IsContent}
-use Rattle.wheeler.specs.Contents.{Contents}
+use Rattle.audit_rules.specs.Contents.{Contents}
 use Rattle.verifier.specs.declared.part.Part.{Part}
 use Rattle.verifier.specs.Faults.{stages_fault}
 use Rattle.verifier.specs.Inside.Replays.{whole_fault}

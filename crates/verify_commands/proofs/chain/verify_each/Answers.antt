@@ -17,7 +17,7 @@ returns-in_err-push g c =
 pub loop-index-preserved : goal.loop-index-preserved
 loop-index-preserved g c =
     audit_more _ _ _ c.args.pairs.now c.loop-index.links c.loop-index.room c.loop-index.index c.index-pairs-index.result c.loop-index.invariant.0 c.loop-index.invariant.1 c.loop-index-test.true
-    c.index-pairs-index.is _ c.in_ok-link.link c.room_behind-room.result c.push.new.self c.in_ok-link.ensures (rw c.as_slice.ensures at c.room_behind-room.ensures) c.in_ok-push.ensures.ok
+    c.index-pairs-index.is _ c.in_ok-link.link c.room_after-room.result c.push.new.self c.in_ok-link.ensures (rw c.as_slice.ensures at c.room_after-room.ensures) c.in_ok-push.ensures.ok
 
 pub returns : goal.returns
 returns g c =

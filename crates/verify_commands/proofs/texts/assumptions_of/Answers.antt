@@ -1,6 +1,6 @@
 use Rattle.std.proofs.Common.{◌≡◌, List, IfOk, sym, subst, ◌∙◌}
-use Rattle.meaning.specs.declared.assumption.Assumption.{Assumption}
-use Rattle.meaning.proofs.RouteBack.{assumed-at, assumed-nowhere}
+use Rattle.wheeler.specs.declared.assumption.Assumption.{Assumption}
+use Rattle.wheeler.proofs.RouteBack.{assumed-at, assumed-nowhere}
 use Rattle.verify_commands.proofs.texts.assumptions_of.Goals as goal
 
 pub returns-in-Some : goal.returns-in-Some

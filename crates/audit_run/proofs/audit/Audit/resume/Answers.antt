@@ -1,6 +1,6 @@
 use Rattle.std.proofs.Common.{ℕ, List, Ok, subst}
 use Rattle.audit_run.specs.Save.Saves.{Resumes, save_of}
-use Rattle.save_text.specs.Spelled.{IsTextOfSave}
+use Rattle.save_format.specs.Spelled.{IsTextOfSave}
 use Rattle.audit_run.proofs.audit.Audit.resume.Goals as goal
 
 pub returns-clause-found : goal.returns-clause-found

@@ -1,5 +1,5 @@
 use Rattle.std.proofs.Common.{ℕ, List, Ok, subst}
-use Rattle.audit_run.specs.Delta.Deltas.{HasDelta, ResumesBeside}
+use Rattle.audit_run.specs.Delta.Deltas.{HasDelta, ResumesRelative}
 use Rattle.audit_run.proofs.audit.Audit.resume_delta.Goals as goal
 
 pub returns-clause-found : goal.returns-clause-found
@@ -14,5 +14,5 @@ pub returns-clause-exact : goal.returns-clause-exact
 returns-clause-exact c = (
   c.in_ok-place.place,
   c.standing.ensures,
-  subst (λ (inputs : List (List ℕ)). ResumesBeside c.args.recipe inputs c.args.base.now c.args.delta.now (Ok c.in_ok-place.place)) c.as_slice.ensures c.in_ok-place.ensures.exact,
+  subst (λ (inputs : List (List ℕ)). ResumesRelative c.args.recipe inputs c.args.base.now c.args.delta.now (Ok c.in_ok-place.place)) c.as_slice.ensures c.in_ok-place.ensures.exact,
 )

@@ -1,5 +1,5 @@
 use Rattle.std.proofs.Common.{ℕ, List, sym, subst, subst₂}
-use Rattle.recipe.specs.declared.contents.Said.{Said}
+use Rattle.recipe.specs.declared.contents.RecipeContents.{RecipeContents}
 use Rattle.audit_run.specs.Delta.Deltas.{IsBaseAt}
 use Rattle.audit_run.proofs.audit.Audit.save_delta.Goals as goal
 
@@ -8,5 +8,5 @@ save_delta_of-requires-clause-base c =
     let base = c.in_ok-text.ensures.base in (
       base.0,
       subst (λ (text : List ℕ). IsBaseAt c.args.self.now.recipe c.args.self.now.inputs base.0 text) (sym c.as_slice.ensures)
-          (subst₂ (λ (recipe : Said) (inputs : List (List ℕ)). IsBaseAt recipe inputs base.0 c.in_ok-text.text) c.requires.recipe c.requires.inputs base.2),
+          (subst₂ (λ (recipe : RecipeContents) (inputs : List (List ℕ)). IsBaseAt recipe inputs base.0 c.in_ok-text.text) c.requires.recipe c.requires.inputs base.2),
     )

@@ -1,4 +1,4 @@
-use Rattle.wheeler.specs.SourceCheck.Checks.{check}
+use Rattle.audit_rules.specs.SourceCheck.Checks.{check}
 use Rattle.audit_run.proofs.CheckLemmas.Refused.{m1-refused}
 use Rattle.audit_run.proofs.check.checking.check_m1.Goals as goal
 

@@ -1,7 +1,7 @@
 use Rattle.std.proofs.Common.{sym, subst}
-use Rattle.save_text.specs.Seen.{stage_view}
-use Rattle.save_text.specs.Spelled.{IsShortStage}
-use Rattle.save_text.specs.declared.parts.StagePart.{StagePart}
+use Rattle.save_format.specs.Seen.{stage_view}
+use Rattle.save_format.specs.Spelled.{IsShortStage}
+use Rattle.save_format.specs.declared.parts.StagePart.{StagePart}
 use Rattle.audit_run.proofs.delta.base.put_stages.Goals as goal
 
 pub put_part-requires : goal.put_part-requires

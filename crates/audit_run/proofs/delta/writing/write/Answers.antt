@@ -1,5 +1,5 @@
-use Rattle.save_text.specs.Seen.{save_view}
-use Rattle.wheeler.specs.Positions.{at}
+use Rattle.save_format.specs.Seen.{save_view}
+use Rattle.audit_rules.specs.Positions.{at}
 use Rattle.audit_run.proofs.SaveLemmas.Written.{short_done}
 use Rattle.audit_run.proofs.DeltaLemmas.Writing.{deltas_are, few_pages, few_stages, is_read}
 use Rattle.audit_run.proofs.delta.writing.write.Goals as goal
@@ -7,17 +7,17 @@ use Rattle.audit_run.proofs.delta.writing.write.Goals as goal
 pub known_of-requires : goal.known_of-requires
 known_of-requires c = is_read c.args.recipe.now c.args.inputs.now c.args.base.now c.digest.ensures.kept c.requires.given c.requires.base.0 c.requires.base.1
 
-pub beside-requires-clause-pages : goal.beside-requires-clause-pages
-beside-requires-clause-pages c =
+pub relative-requires-clause-pages : goal.relative-requires-clause-pages
+relative-requires-clause-pages c =
     few_pages c.args.recipe.now c.args.inputs.now c.args.base.now c.digest.ensures.kept c.requires.given c.requires.base.0 c.requires.base.1 (save_view c.in_ok-known.known) c.in_ok-known.ensures.said
 
-pub beside-requires-clause-few : goal.beside-requires-clause-few
-beside-requires-clause-few c = few_stages c.args.recipe.now (at c.args.done.now c.args.guest.now) c.digest.ensures.kept c.requires.position
+pub relative-requires-clause-few : goal.relative-requires-clause-few
+relative-requires-clause-few c = few_stages c.args.recipe.now (at c.args.done.now c.args.guest.now) c.digest.ensures.kept c.requires.position
 
-pub beside-requires-clause-short : goal.beside-requires-clause-short
-beside-requires-clause-short c = short_done c.args.recipe.now (at c.args.done.now c.args.guest.now) c.digest.ensures.kept c.requires.position
+pub relative-requires-clause-short : goal.relative-requires-clause-short
+relative-requires-clause-short c = short_done c.args.recipe.now (at c.args.done.now c.args.guest.now) c.digest.ensures.kept c.requires.position
 
 pub returns : goal.returns
 returns c =
-    deltas_are c.args.recipe.now c.args.inputs.now c.args.base.now (save_view c.in_ok-known.known) (at c.args.done.now c.args.guest.now) c.beside.result c.digest.ensures.kept c.requires.given
-    c.in_ok-known.ensures.said c.beside.ensures
+    deltas_are c.args.recipe.now c.args.inputs.now c.args.base.now (save_view c.in_ok-known.known) (at c.args.done.now c.args.guest.now) c.relative.result c.digest.ensures.kept c.requires.given
+    c.in_ok-known.ensures.said c.relative.ensures

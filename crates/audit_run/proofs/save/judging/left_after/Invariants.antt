@@ -1,5 +1,5 @@
 use Rattle.std.proofs.Common.{◌≡◌, ◌+◌, drop}
-use Rattle.wheeler.specs.Stages.{artefact_bytes}
+use Rattle.audit_rules.specs.Stages.{artefact_bytes}
 use Rattle.audit_run.proofs.save.judging.left_after.Given as goal
 
 abbrev pub invariant-loop-stage : goal.invariant-loop-stage

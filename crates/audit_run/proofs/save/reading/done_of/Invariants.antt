@@ -1,5 +1,5 @@
 use Rattle.std.proofs.Common.{◌≡◌, map}
-use Rattle.save_text.specs.Seen.{stage_view}
+use Rattle.save_format.specs.Seen.{stage_view}
 use Rattle.audit_run.specs.Save.Saves.{finished_of}
 use Rattle.audit_run.proofs.save.reading.done_of.Given as goal
 

@@ -1,7 +1,7 @@
 use Rattle.std.proofs.Common.{◌≡◌, true, false, map, refl, sym, ◌∙◌}
 use Rattle.checkpoints.proofs.PatchCounts.{patched_bare}
-use Rattle.save_text.specs.Seen.{input_view, save_view, stage_view}
-use Rattle.save_text.specs.StateText.Seen.{state_view}
+use Rattle.save_format.specs.Seen.{input_view, save_view, stage_view}
+use Rattle.save_format.specs.StateText.Seen.{state_view}
 use Rattle.audit_run.proofs.SaveLemmas.Exactly.{are_digests, same_digests, stood}
 use Rattle.audit_run.proofs.SaveLemmas.Placed.{all_of}
 use Rattle.audit_run.proofs.save.reading.judged.Goals as goal

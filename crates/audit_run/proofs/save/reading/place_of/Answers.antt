@@ -1,7 +1,7 @@
 use Rattle.std.proofs.Common.{◌≡◌, ◌+◌, true, false, length, drop, map, All, refl, sym, ap, subst, ◌∙◌, arith}
-use Rattle.save_text.specs.Seen.{stage_view}
-use Rattle.wheeler.specs.Positions.{at}
-use Rattle.wheeler.specs.Valid.{AreDone}
+use Rattle.save_format.specs.Seen.{stage_view}
+use Rattle.audit_rules.specs.Positions.{at}
+use Rattle.audit_rules.specs.Valid.{AreDone}
 use Rattle.audit_run.specs.Save.Saves.{finished_of}
 use Rattle.audit_run.proofs.SaveLemmas.Placed.{IsOrdered, each_ordered, present, twice}
 use Rattle.audit_run.proofs.save.reading.place_of.Goals as goal

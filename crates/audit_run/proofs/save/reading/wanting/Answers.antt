@@ -1,4 +1,4 @@
-use Rattle.save_text.specs.SaveText.{parsed_save}
+use Rattle.save_format.specs.SaveText.{parsed_save}
 use Rattle.audit_run.proofs.SaveLemmas.Origins.{wanted}
 use Rattle.audit_run.proofs.save.reading.wanting.Goals as goal
 

@@ -1,4 +1,4 @@
-use Rattle.wheeler.specs.Positions.{at}
+use Rattle.audit_rules.specs.Positions.{at}
 use Rattle.audit_run.proofs.SaveLemmas.Written.{short_done}
 use Rattle.audit_run.proofs.save.writing.write.Goals as goal
 

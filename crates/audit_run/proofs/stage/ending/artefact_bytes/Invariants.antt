@@ -1,5 +1,5 @@
 use Rattle.std.proofs.Common.{◌≡◌, ◌+◌, drop}
-use Rattle.wheeler.specs.Stages.{artefact_bytes}
+use Rattle.audit_rules.specs.Stages.{artefact_bytes}
 use Rattle.audit_run.proofs.stage.ending.artefact_bytes.Given as goal
 
 abbrev pub invariant-loop-stage : goal.invariant-loop-stage

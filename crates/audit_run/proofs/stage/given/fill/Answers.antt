@@ -4,9 +4,9 @@ use Rattle.std.specs.FinMap as fin
 use Rattle.guest_run.specs.Setting.{IsText}
 use Rattle.recipe.specs.Text.Reading.{is_word}
 use Rattle.recipe.specs.Kept as kept
-use Rattle.wheeler.specs.Contents.{box_of, with_stage_file}
-use Rattle.wheeler.specs.Stages.{contents}
-use Rattle.wheeler.proofs.Rules.{word-is}
+use Rattle.audit_rules.specs.Contents.{box_of, with_stage_file}
+use Rattle.audit_rules.specs.Stages.{contents}
+use Rattle.audit_rules.proofs.Rules.{word-is}
 use Rattle.audit_run.proofs.StageLemmas.Placing.{each-at, file-fits, stripped-same}
 use Rattle.audit_run.proofs.stage.given.fill.Goals as goal
 

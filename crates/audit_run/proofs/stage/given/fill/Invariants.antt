@@ -1,8 +1,8 @@
 use Rattle.std.proofs.Common.{◌≡◌, [], take}
 use Rattle.std.specs.FinMap as finite
 use Rattle.std.specs.List.{fold}
-use Rattle.wheeler.specs.Contents.{with_stage_file}
-use Rattle.wheeler.specs.Stages.{contents}
+use Rattle.audit_rules.specs.Contents.{with_stage_file}
+use Rattle.audit_rules.specs.Stages.{contents}
 use Rattle.audit_run.proofs.stage.given.fill.Given as goal
 
 abbrev pub invariant-loop-text : goal.invariant-loop-text

@@ -1,6 +1,6 @@
 use Rattle.std.proofs.Common.{◌≡◌, map, take}
-use Rattle.wheeler.specs.Bench.{compare_line}
-use Rattle.wheeler.specs.Stages.{contents}
+use Rattle.audit_rules.specs.Bench.{compare_line}
+use Rattle.audit_rules.specs.Stages.{contents}
 use Rattle.audit_run.proofs.stage.reporting.compare_lines.Given as goal
 
 abbrev pub invariant-loop-stage : goal.invariant-loop-stage

@@ -1,5 +1,5 @@
 use Rattle.std.proofs.Common.{◌≡◌, ◌++◌, drop}
-use Rattle.wheeler.specs.Bench.{input_lines}
+use Rattle.audit_rules.specs.Bench.{input_lines}
 use Rattle.audit_run.proofs.stage.reporting.input_lines.Given as goal
 
 abbrev pub invariant-loop-index : goal.invariant-loop-index

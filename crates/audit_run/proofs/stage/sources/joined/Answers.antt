@@ -1,6 +1,6 @@
 use Rattle.std.proofs.Common.{◌++◌, [], ◌∷◌, sym, ap, ◌∙◌, arith}
-use Rattle.wheeler.specs.Contents.{content}
-use Rattle.wheeler.specs.Stages.{contents}
+use Rattle.audit_rules.specs.Contents.{content}
+use Rattle.audit_rules.specs.Stages.{contents}
 use Rattle.audit_run.proofs.StageLemmas.Joining.{joined-first, joined-more}
 use Rattle.audit_run.proofs.stage.sources.joined.Goals as goal
 use Rattle.audit_run.proofs.stage.sources.joined.Goals.{then-index-gt0+in_ok-push, else-index-gt0}

@@ -1,7 +1,7 @@
 use Rattle.std.proofs.Common.{◌≡◌, map, take}
-use Rattle.wheeler.specs.SourceCheck.Checks.{joined_files}
-use Rattle.wheeler.specs.Contents.{content}
-use Rattle.wheeler.specs.Stages.{contents}
+use Rattle.audit_rules.specs.SourceCheck.Checks.{joined_files}
+use Rattle.audit_rules.specs.Contents.{content}
+use Rattle.audit_rules.specs.Stages.{contents}
 use Rattle.audit_run.proofs.stage.sources.joined.Given as goal
 
 abbrev pub invariant-loop-index : goal.invariant-loop-index

@@ -1,7 +1,7 @@
 use Rattle.std.proofs.Common.{◌*◌, map}
 use Rattle.paged_mem.specs.Memory.{Memory}
 use Rattle.paged_mem.specs.Ram.{IsRun}
-use Rattle.save_text.specs.StateText.Seen.{page_view}
+use Rattle.save_format.specs.StateText.Seen.{page_view}
 use Rattle.checkpoints.specs.MemoryParts.Canonical.{pages_of}
 use Rattle.checkpoints.proofs.MemoryPartsLemmas.RunsFound.{run_low}
 use Rattle.checkpoints.proofs.MemoryPartsLemmas.PagesFound.{run_pages, no_more_pages}

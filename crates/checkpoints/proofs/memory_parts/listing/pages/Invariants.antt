@@ -1,5 +1,5 @@
 use Rattle.std.proofs.Common.{◌≡◌, ◌-◌, ◌^◌, ◌≤◌, ◌++◌, map}
-use Rattle.save_text.specs.StateText.Seen.{page_view}
+use Rattle.save_format.specs.StateText.Seen.{page_view}
 use Rattle.checkpoints.specs.MemoryParts.Canonical.{page_texts_from, pages_of}
 use Rattle.checkpoints.proofs.memory_parts.listing.pages.Given as goal
 

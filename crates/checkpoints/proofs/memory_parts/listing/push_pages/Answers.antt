@@ -1,8 +1,8 @@
 use Rattle.std.proofs.Common.{◌≡◌, ℕ, ◌+◌, ◌*◌, List, ◌++◌, map, refl, sym, ap, ◌∙◌}
 use Rattle.std.proofs.lemmas.List.{append-nil, map_push}
 use Rattle.paged_mem.specs.Memory.{Memory, bytes_at}
-use Rattle.save_text.specs.StateText.StateText.{PageText}
-use Rattle.save_text.specs.StateText.Seen.{page_view}
+use Rattle.save_format.specs.StateText.StateText.{PageText}
+use Rattle.save_format.specs.StateText.Seen.{page_view}
 use Rattle.checkpoints.specs.MemoryParts.Canonical.{listed_page, page_texts_from}
 use Rattle.checkpoints.proofs.MemoryPartsLemmas.PagesFound.{page_more}
 use Rattle.checkpoints.proofs.memory_parts.listing.push_pages.Goals as goal

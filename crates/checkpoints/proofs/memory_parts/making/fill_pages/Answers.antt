@@ -1,6 +1,6 @@
 use Rattle.std.proofs.Common.{map, get_or, [], refl, take, ◌∙◌}
-use Rattle.save_text.specs.declared.state_text.parts.Page.{Page}
-use Rattle.save_text.specs.StateText.Seen.{page_view}
+use Rattle.save_format.specs.declared.state_text.parts.Page.{Page}
+use Rattle.save_format.specs.StateText.Seen.{page_view}
 use Rattle.checkpoints.proofs.MemoryPartsLemmas.Filling.{all_filled, fill_step, filled_on, turned}
 use Rattle.checkpoints.proofs.MemoryPartsLemmas.Filled.{no_hole, still_alike}
 use Rattle.checkpoints.proofs.memory_parts.making.fill_pages.Goals as goal

@@ -1,6 +1,6 @@
 use Rattle.std.proofs.Common.{◌≡◌, ℕ, map, take, is_some}
 use Rattle.std.specs.FinMap as finite
-use Rattle.save_text.specs.StateText.Seen.{page_view}
+use Rattle.save_format.specs.StateText.Seen.{page_view}
 use Rattle.checkpoints.proofs.MemoryPartsLemmas.Filling.{filled_on}
 use Rattle.checkpoints.proofs.memory_parts.making.fill_pages.Given as goal
 

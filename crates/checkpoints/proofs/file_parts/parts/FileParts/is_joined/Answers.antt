@@ -8,7 +8,7 @@ use Rattle.checkpoints.proofs.file_parts.parts.FileParts.is_joined.Goals as goal
 pub returns : goal.returns
 returns c =
     let streams = c.self.inside.streams.items in
-    let lists : FileLists = view_of c.self.inside.files.items c.self.inside.slots.items streams in
+    let lists : FileLists = view_of c.self.inside.files.items c.self.inside.open_files.items streams in
     let same : c.are_joined.result ≡ are_joined lists = c.are_joined.ensures streams ∙ (λ i. are_joined (view_of (c.deref.ensures.value i) (c.deref-2.ensures.value i) streams)) in (
       λ yes. subst AreJoined c.self.view_is (joined-says lists (sym same ∙ yes)),
       λ refer. same ∙ joined-passes lists (subst AreJoined (sym c.self.view_is) refer),

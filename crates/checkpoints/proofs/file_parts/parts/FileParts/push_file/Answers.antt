@@ -9,7 +9,7 @@ use Rattle.checkpoints.proofs.file_parts.parts.FileParts.push_file.Goals as goal
 
 pub invariant_of-self-2 : goal.invariant_of-self-2
 invariant_of-self-2 c =
-    let lists : FileLists = view_of c.self.inside.files.items c.self.inside.slots.items c.self.inside.streams.items in
+    let lists : FileLists = view_of c.self.inside.files.items c.self.inside.open_files.items c.self.inside.streams.items in
     let view : FileView = record { number = c.args.number; name = c.args.name; content = c.args.content } in
     let low = subst (λ (lists : FileLists). All (λ file. file.number < c.args.number) lists.files) (sym c.self.view_is) c.requires in
     subst (λ (files : List ListedFile). AreParts (record lists { files = files })) (sym (ap (map listed) c.in_ok-push.ensures.items ∙ map-append listed c.self.inside.files.items (view ∷ [])))

@@ -1,0 +1,13 @@
+pub mod Rules
+pub mod Here
+pub mod Slices
+pub mod Forwards
+pub mod Continues
+pub mod Enough
+pub mod Marks
+pub mod GivenBoxes
+pub mod Endings
+pub mod WellFormed
+pub mod Places
+pub mod Closing
+pub mod SourceCheckLemmas

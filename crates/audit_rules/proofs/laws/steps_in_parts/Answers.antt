@@ -1,0 +1,9 @@
+use Rattle.std.proofs.Common.{refl, ◌+◌}
+use Rattle.audit_rules.proofs.Forwards.{forward-sum, forward_from-sum}
+use Rattle.audit_rules.proofs.laws.steps_in_parts.Goals as goal
+
+pub returns-clause-position : goal.returns-clause-position
+returns-clause-position c = forward-sum
+
+pub returns-clause-standing : goal.returns-clause-standing
+returns-clause-standing c = λ recipe inputs from first more. forward_from-sum recipe inputs from first more (first + more) refl

@@ -1,0 +1,6 @@
+pub mod Contents
+pub mod Stages
+pub mod Bench
+pub mod Positions
+pub mod Valid
+pub mod SourceCheck

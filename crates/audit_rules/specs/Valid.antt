@@ -1,0 +1,93 @@
+-- The positions from which an audit may go on, whether its own steps reached them or not: what a save of a position is held to.
+-- docs/reference/audit.md says the same for people.
+use Rattle.std.specs.Prelude.{◌≡◌, ◌<◌, ◌≤◌, ◌+◌, ◌^◌, ℕ, IsTrue, List, [], ◌∷◌, length, All}
+use Rattle.std.specs.List.{Contains}
+use Rattle.mem_files.specs.Names.{is_stripped_name}
+use Rattle.mem_files.specs.Outputs.{IsContent}
+use Rattle.mem_files.specs.Sound.{AreBytes}
+use Rattle.guest_run.specs.Valid.{IsValid}
+use Rattle.recipe.specs.declared.contents.RecipeContents.{RecipeContents}
+use Rattle.recipe.specs.declared.parts.Output.{Output}
+use Rattle.recipe.specs.declared.parts.Output.TheVariants.{Stream, File}
+use Rattle.recipe.specs.declared.parts.Stage.{Stage}
+use Rattle.report.specs.declared.types.LeftLine.{LeftLine}
+use Rattle.report.specs.declared.types.Mark.{Mark}
+use Rattle.report.specs.Reports.{IsDigest, IsReport, ascend}
+use Rattle.audit_rules.specs.declared.answer.AuditAnswer.{AuditAnswer}
+use Rattle.audit_rules.specs.declared.answer.AuditAnswer.TheVariants.{Completes, Fails}
+use Rattle.audit_rules.specs.declared.answer.Finished.{Finished}
+use Rattle.report.specs.Marks.{mark_of}
+use Rattle.audit_rules.specs.Stages.{artefact_bytes}
+use Rattle.audit_rules.specs.Positions.{Position, Standing, On, Over, todo}
+
+-- the inputs of a recipe: as many as it names, each with at most the 268,435,456 bytes of a program's file
+pub record IsInputs (recipe : RecipeContents) (inputs : List (List ℕ)) : Type 0 where
+  pub count : length inputs ≡ length recipe.inputs
+  pub each : All IsContent inputs
+
+-- the mark of a stream or a file
+pub record IsSmallMark (mark : Mark) : Type 0 where
+  pub length : mark.length < 2 ^ 32
+  pub digest : IsDigest mark.digest
+
+-- a file that is left, under a guest's file name
+pub record IsLeftLine (file : LeftLine) : Type 0 where
+  pub named : IsTrue (is_stripped_name file.name)
+  pub name_bytes : AreBytes file.name
+  pub mark : IsSmallMark file.mark
+
+-- the artefact has the mark of the stage's output: of stream 1, or of the file that is left at the path
+abbrev pub HasMark : Output → Finished → Type 0
+HasMark Stream f = f.stream1 ≡ mark_of f.made
+HasMark (File path) f = Contains f.left (record { name = path; mark = mark_of f.made })
+
+-- a finished stage: its steps are from 1 to the stage's limit, the files that it left are few and ascend by their names, and its
+-- artefact is small and has the mark of the stage's output
+pub record IsFinished (stage : Stage) (f : Finished) : Type 0 where
+  pub some_steps : 1 ≤ f.steps
+  pub few_steps : f.steps ≤ stage.steps
+  pub stream1 : IsSmallMark f.stream1
+  pub stream2 : IsSmallMark f.stream2
+  pub each_left : All IsLeftLine f.left
+  pub few_left : length f.left ≤ 4_096
+  pub ascending : IsTrue (ascend f.left)
+  pub made : IsContent f.made
+  pub output : HasMark stage.output f
+
+-- each finished stage is one of the recipe's, in order
+abbrev pub AreFinished : List Stage → List Finished → Type 0
+AreFinished stages [] = Unit {0}
+AreFinished [] (f ∷ done) = ⊥
+AreFinished (stage ∷ stages) (f ∷ done) = IsFinished stage f × AreFinished stages done
+
+-- the finished stages, whose artefacts have at most 1,073,741,824 bytes together
+pub record AreDone (recipe : RecipeContents) (done : List Finished) : Type 0 where
+  pub each : AreFinished recipe.stages done
+  pub small : artefact_bytes done ≤ 1_073_741_824
+
+-- a position in a stage: the guest is in a valid state, with the stage's heap, and its steps are not spent
+pub record IsAt (recipe : RecipeContents) (p : Position) (stage : Stage) (stages : List Stage) : Type 0 where
+  pub left : todo recipe p.done ≡ stage ∷ stages
+  pub within : p.at.steps < stage.steps
+  pub heap : p.at.heap.limit ≡ stage.heap
+  pub valid : IsValid p.at
+  pub done : AreDone recipe p.done
+
+-- a position: fewer stages are finished than the recipe has
+abbrev pub IsPosition : RecipeContents → Position → Type 0
+IsPosition recipe p = (stage : Stage) × (stages : List Stage) × IsAt recipe p stage stages
+
+-- an answer: a report is well formed
+abbrev pub IsAuditAnswer : AuditAnswer → Type 0
+IsAuditAnswer (Completes report) = IsReport report
+IsAuditAnswer (Fails number fault) = Unit {0}
+
+-- where an audit stands: at a position, or it is over with an answer
+abbrev pub IsStanding : RecipeContents → Standing → Type 0
+IsStanding recipe (On p) = IsPosition recipe p
+IsStanding recipe (Over answer) = IsAuditAnswer answer
+
+-- the steps that these stages may take together
+abbrev pub limits : List Stage → ℕ
+limits [] = 0
+limits (stage ∷ stages) = stage.steps + limits stages

@@ -1,0 +1,73 @@
+//! Laws of benches, positions and reports, over a recipe that keeps its rules. Each law is the contract of a function that does nothing.
+
+ghost use Rattle.mem_files.specs.Limits.{most_content};
+ghost use Rattle.recipe.specs.Kept.{IsRecipe};
+ghost use Rattle.recipe.specs.declared.contents.RecipeContents.{RecipeContents};
+ghost use Rattle.report.specs.Reports.{IsReport};
+ghost use Rattle.report.specs.declared.types.Report.{Report};
+ghost use Rattle.std.specs.Prelude.{◌≡◌, ◌≤◌, ◌+◌, ◌-◌, ◌^◌, ℕ, List};
+ghost use Rattle.audit_rules.specs.Bench.{bench};
+ghost use Rattle.audit_rules.specs.Positions.{Position, Standing, On, Over, beginning, continue, finish, forward, forward_from, position, step, todo};
+ghost use Rattle.audit_rules.specs.Valid.{IsInputs, IsPosition, IsStanding, limits};
+ghost use Rattle.audit_rules.specs.declared.answer.AuditAnswer.TheVariants.{Completes};
+
+use crate::{MAX_ARTEFACTS, MAX_INPUT};
+
+/// Going on by some steps and then by more is going on by their sum.
+pub fn steps_in_parts()
+    ensures position { (recipe : RecipeContents) (inputs : List (List ℕ)) (p q : Position) (first more : ℕ)
+        → forward recipe inputs p first ≡ On q → forward recipe inputs p (first + more) ≡ forward recipe inputs q more }
+    ensures standing { (recipe : RecipeContents) (inputs : List (List ℕ)) (from : Standing) (first more : ℕ)
+        → forward_from recipe inputs (forward_from recipe inputs from first) more ≡ forward_from recipe inputs from (first + more) }
+{}
+
+/// Going on to the end from any valid position, reached or not, gives one answer, that of its continuation, after however many steps.
+pub fn positions_keep_their_answer()
+    ensures { (recipe : RecipeContents) (inputs : List (List ℕ)) (p : Position) (count : ℕ) → IsRecipe recipe → IsPosition recipe p
+        → finish recipe inputs (forward recipe inputs p count) ≡ continue recipe inputs p }
+{}
+
+/// Going on to the end from any position of an audit gives the bench's answer, and so its report.
+pub fn positions_have_the_answer_of_the_bench()
+    ensures { (recipe : RecipeContents) (inputs : List (List ℕ)) (count : ℕ) → IsRecipe recipe
+        → finish recipe inputs (position recipe inputs count) ≡ bench recipe inputs }
+{}
+
+/// With as many steps as the limits of the stages allow an audit is over, with the answer of its continuation.
+pub fn limits_are_enough()
+    ensures { (recipe : RecipeContents) (inputs : List (List ℕ)) (p : Position) (count : ℕ) → IsRecipe recipe → IsPosition recipe p
+        → limits (todo recipe p.done) ≤ p.at.steps + count → forward recipe inputs p count ≡ Over (continue recipe inputs p) }
+{}
+
+/// A recipe allows fewer steps than 2^64 in all, so an audit is over after one advance by 2^64 - 1: from the beginning with the bench's
+/// answer, and from any valid position with that of its continuation.
+pub fn one_advance_is_enough()
+    ensures position { (recipe : RecipeContents) (inputs : List (List ℕ)) (p : Position) → IsRecipe recipe → IsPosition recipe p
+        → forward recipe inputs p (2 ^ 64 - 1) ≡ Over (continue recipe inputs p) }
+    ensures beginning { (recipe : RecipeContents) (inputs : List (List ℕ)) → IsRecipe recipe
+        → position recipe inputs (2 ^ 64 - 1) ≡ Over (bench recipe inputs) }
+{}
+
+/// A step from a valid position gives a valid position or an answer, whose report is well formed; so does the beginning.
+pub fn steps_keep_positions_valid()
+    ensures step { (recipe : RecipeContents) (inputs : List (List ℕ)) (p : Position) → IsRecipe recipe → IsInputs recipe inputs → IsPosition recipe p
+        → IsStanding recipe (step recipe inputs p) }
+    ensures steps { (recipe : RecipeContents) (inputs : List (List ℕ)) (p : Position) (count : ℕ) → IsRecipe recipe → IsInputs recipe inputs
+        → IsPosition recipe p → IsStanding recipe (forward recipe inputs p count) }
+    ensures beginning { (recipe : RecipeContents) (inputs : List (List ℕ)) → IsRecipe recipe → IsInputs recipe inputs
+        → IsStanding recipe (beginning recipe inputs) }
+{}
+
+/// Every report of an audit is well formed, whether it comes from the beginning or from any valid position.
+pub fn reports_are_well_formed()
+    ensures bench { (recipe : RecipeContents) (inputs : List (List ℕ)) (report : Report) → IsRecipe recipe → IsInputs recipe inputs
+        → bench recipe inputs ≡ Completes report → IsReport report }
+    ensures position { (recipe : RecipeContents) (inputs : List (List ℕ)) (p : Position) (report : Report) → IsRecipe recipe → IsInputs recipe inputs
+        → IsPosition recipe p → continue recipe inputs p ≡ Completes report → IsReport report }
+{}
+
+/// The numbers of the code are the written limits.
+pub fn numbers_are_those_written()
+    ensures artefacts { MAX_ARTEFACTS ≡ 1_073_741_824 }
+    ensures input { MAX_INPUT ≡ most_content }
+{}

@@ -1,0 +1,272 @@
+-- From a whole save, and from a delta against it, an audit goes on as it would have without a pause.
+use Rattle.std.proofs.Common.{◌≡◌, ◌≢◌, ℕ, ◌+◌, Bool, true, false, cond, IsTrue, inl, inr, Some, Result, Ok, Err, List, [], ◌∷◌, codes, refl, sym, ap, ◌∙◌, subst}
+use Rattle.std.specs.FinMap as finite
+use Rattle.ddc_base.specs.Outside.{NamedFiles}
+use Rattle.recipe.specs.Kept.{IsRecipe}
+use Rattle.recipe.specs.declared.contents.RecipeContents.{RecipeContents}
+use Rattle.save_format.specs.Spelled.{text_of_save}
+use Rattle.audit_run.specs.Delta.Deltas.{IsResumedRelativeAs, delta_text_of}
+use Rattle.audit_run.specs.Delta.Judged.{after_base, judged_relative}
+use Rattle.audit_run.specs.Save.Saves.{save_of}
+use Rattle.audit_run.specs.declared.delta.reading.DeltaRefusal.{DeltaRefusal}
+use Rattle.audit_run.specs.declared.delta.reading.DeltaRefusal.TheVariants as delta
+use Rattle.audit_run.specs.declared.save.reading.SaveRefusal.{SaveRefusal}
+use Rattle.audit_run.proofs.DeltaLemmas.Answered as lemma
+use Rattle.audit_run.proofs.DeltaLemmas.DeltaLengths as delta_lengths
+use Rattle.audit_run.proofs.DeltaLemmas.Exactly as exactly
+use Rattle.audit_run.proofs.SaveLemmas.SaveLengths.{short}
+use Rattle.audit_rules.specs.Bench.{bench}
+use Rattle.audit_rules.specs.Positions.{Position, On, forward, position}
+use Rattle.audit_rules.specs.Valid.{IsInputs, IsPosition}
+use Rattle.command_plan.specs.declared.status.Status.TheVariants.{SaveRefused}
+use Rattle.command_plan.specs.Plan.{LoadsBytes, Plan, Outcome, answers, needs, outcome, unless_refused}
+use Rattle.command_plan.specs.Words.{usage}
+use Rattle.recipe_plan.specs.Recipes.{is_input, needs_apart, needs_inputs}
+use Rattle.audit_commands.specs.Audit.{audited}
+use Rattle.audit_commands.specs.Delta.{are_four_files, delta_resume_files, delta_start_files, needs_position_relative, read_relative, resumes_relative, starts_relative}
+use Rattle.audit_commands.specs.Pause.{came_to, needs_position, read_as}
+use Rattle.audit_commands.specs.PauseTexts.{delta_refused_line, save_refused_line}
+use Rattle.ddc_app.specs.Accepting.{audit}
+use Rattle.ddc_app.specs.Commands.{plan_of}
+use Rattle.ddc_app.specs.Differences.{AreDeltaWords, DeltaPieces, IsSavedRelative, delta_resume, delta_start}
+use Rattle.ddc_app.specs.Pausing.{AreSame, IsStepCount, IsSavedAt}
+use Rattle.ddc_app.proofs.Beginnings.{Case, audit_loaded, four_apart, four_of, three_apart, with_words}
+use Rattle.ddc_app.proofs.Leaving.{delta_resume_stays, delta_start_stays}
+use Rattle.ddc_app.proofs.Loads.{follows, is_loaded, not_equal, two_apart}
+use Rattle.ddc_app.proofs.Openings.{Holds, apart_opens, inputs_open, is_recipe, recipe_opens}
+use Rattle.ddc_app.proofs.Pieces.{Pauses, Settles, alike, settles}
+use Rattle.ddc_app.proofs.Resuming.{audit_opens, goes_on, is_place, reads_again}
+
+-- ---- the delta
+
+-- the delta of a position is read as it beside its base
+module _ (said : RecipeContents) (inputs : List (List ℕ)) (base p : Position) (is : IsRecipe said) (given : IsInputs said inputs) (base_place : IsPosition said base) (place : IsPosition said p) where
+  abbrev whole : List ℕ
+  whole = text_of_save (save_of said inputs base)
+
+  abbrev text : List ℕ
+  text = delta_text_of said inputs base p
+
+  judged_again : judged_relative said inputs whole text ≡ Ok p
+  judged_again =
+      let a = lemma.answered said inputs whole text in
+      lemma.is_answer said inputs whole text a.result a.resumes a.settled
+      ∙ by a.result (exactly.is_only said inputs whole text a.result is given a.resumes base p (base_place, inl refl) place refl) a.settled where
+        by : (result : Result Position DeltaRefusal) → IsResumedRelativeAs p result → result ≢ Err delta.OutOfMemory → result ≡ Ok p
+        by (Ok found) same settled = ap Ok same
+        by (Err delta.OutOfMemory) same settled = absurd (settled refl)
+        by (Err (delta.Base refusal)) same settled = absurd same
+        by (Err (delta.Form offset)) same settled = absurd same
+        by (Err delta.OtherBase) same settled = absurd same
+        by (Err delta.State) same settled = absurd same
+
+  pub reads_relative : read_relative said inputs base text ≡ Ok p
+  unfolding read_relative read_as judged_relative
+  reads_relative = sym (ap (after_base said inputs text) (reads_again said inputs base is given base_place)) ∙ judged_again
+
+-- ---- the words
+
+module _ (recipe base patch report : List ℕ) (files : NamedFiles) (four : IsTrue (are_four_files recipe base patch report)) (said : RecipeContents)
+    (inputs : List (List ℕ)) (h : Holds recipe said inputs files) (clash : Bool) (is : is_input said report ≡ clash) (steps : ℕ) (count : IsStepCount steps) where
+  -- both commands go on from the recipe, and end where the report is one of its inputs
+  pub start_opens : delta_start recipe base patch report steps files
+      ≡ outcome (cond clash usage (needs_apart said base (λ _. needs_apart said patch (λ _. needs base 4_294_967_296 (λ text. needs_inputs said (λ contents.
+      starts_relative said contents text patch report steps)))))) files
+  unfolding delta_start_files
+  start_opens =
+      with_words (are_four_files recipe base patch report) steps (delta_start_files recipe base patch report) files four count
+      ∙ recipe_opens recipe said inputs files h _
+      ∙ apart_opens said report _ files clash is
+
+  pub resume_opens : delta_resume recipe base patch report steps files
+      ≡ outcome (cond clash usage (needs_apart said base (λ _. needs_apart said patch (λ _. needs base 4_294_967_296 (λ text. needs patch 4_294_967_296 (λ delta.
+      needs_inputs said (λ contents. resumes_relative said contents text delta patch report steps))))))) files
+  unfolding delta_resume_files
+  resume_opens =
+      with_words (are_four_files recipe base patch report) steps (delta_resume_files recipe base patch report) files four count
+      ∙ recipe_opens recipe said inputs files h _
+      ∙ apart_opens said report _ files clash is
+
+-- ---- the pieces
+
+-- the audit of a recipe and its inputs by four words, after the position of which the base is the save
+pub record After (recipe base patch report : List ℕ) : Type 0 where
+  pub four : IsTrue (are_four_files recipe base patch report)
+  pub c : Case recipe patch report
+  pub no_base : is_input c.said base ≡ false
+  pub given : IsInputs c.said c.inputs
+  pub first : ℕ
+  pub place : Position
+  pub stands : position c.said c.inputs first ≡ On place
+
+module _ (recipe base patch report : List ℕ) (b : After recipe base patch report) where
+  -- what is kept
+  abbrev pub kept_relative : Position → List ℕ
+  kept_relative = delta_text_of b.c.said b.c.inputs b.place
+
+  -- the base is held
+  abbrev pub IsBaseHeld : NamedFiles → Type 0
+  IsBaseHeld files = finite.get files base ≡ Some (text_of_save (save_of b.c.said b.c.inputs b.place))
+
+  is_base : IsPosition b.c.said b.place
+  is_base = is_place b.c.said b.c.inputs b.first b.place b.c.is b.given b.stands
+
+module _ (recipe base patch report : List ℕ) (b : After recipe base patch report) (files : NamedFiles) (h : Holds recipe b.c.said b.c.inputs files)
+    (base_held : IsBaseHeld recipe base patch report b files) (steps : ℕ) (counted : IsStepCount steps) where
+  -- from the base on
+  pub starts_at : delta_start recipe base patch report steps files
+      ≡ outcome (came_to b.c.said (kept_relative recipe base patch report b) patch report (position b.c.said b.c.inputs (b.first + steps))) files
+  starts_at =
+      let said : RecipeContents = b.c.said in
+      let text : List ℕ = text_of_save (save_of said b.c.inputs b.place) in
+      let place = is_base recipe base patch report b in
+      let last : List (List ℕ) → Position → Plan = λ contents p. came_to said (delta_text_of said contents p) patch report (forward said contents p steps) in
+      let at : List ℕ → List (List ℕ) → Plan = λ text contents. needs_position said contents text (last contents) in
+      let loads : List ℕ → Plan = λ text. needs_inputs said (at text) in
+      let refuse : SaveRefusal → Plan = λ refusal. answers SaveRefused (save_refused_line refusal) in
+      start_opens recipe base patch report files b.four said b.c.inputs h false b.c.no_report steps counted
+      ∙ apart_opens said base (λ _. needs_apart said patch (λ _. needs base 4_294_967_296 loads)) files false b.no_base
+      ∙ apart_opens said patch (λ _. needs base 4_294_967_296 loads) files false b.c.no_save
+      ∙ follows base 4_294_967_296 loads files text (is_loaded files base text 4_294_967_296 base_held (short said b.c.inputs b.place b.c.is b.given place))
+      ∙ inputs_open recipe said b.c.inputs files h (at text)
+      ∙ ap (λ reading. outcome (unless_refused reading refuse (last b.c.inputs)) files) (reads_again said b.c.inputs b.place b.c.is b.given place)
+      ∙ ap (λ o. outcome (came_to said (kept_relative recipe base patch report b) patch report o) files) (goes_on said b.c.inputs b.first steps b.place b.stands)
+
+  -- from a delta on
+  pub resumes_at : (count : ℕ) (p : Position) → position b.c.said b.c.inputs count ≡ On p → finite.get files patch ≡ Some (kept_relative recipe base patch report b p)
+      → delta_resume recipe base patch report steps files
+      ≡ outcome (came_to b.c.said (kept_relative recipe base patch report b) patch report (position b.c.said b.c.inputs (count + steps))) files
+  resumes_at count p stands held =
+      let said : RecipeContents = b.c.said in
+      let text : List ℕ = text_of_save (save_of said b.c.inputs b.place) in
+      let further : List ℕ = delta_text_of said b.c.inputs b.place p in
+      let base_place = is_base recipe base patch report b in
+      let place = is_place said b.c.inputs count p b.c.is b.given stands in
+      let last : List (List ℕ) → Position → Position → Plan = λ contents base p. came_to said (delta_text_of said contents base) patch report (forward said contents p steps) in
+      let relative : List ℕ → List (List ℕ) → Position → Plan = λ delta contents base. needs_position_relative said contents base delta (last contents base) in
+      let at : List ℕ → List ℕ → List (List ℕ) → Plan = λ text delta contents. needs_position said contents text (relative delta contents) in
+      let found : List ℕ → List ℕ → Plan = λ text delta. needs_inputs said (at text delta) in
+      let loads : List ℕ → Plan = λ text. needs patch 4_294_967_296 (found text) in
+      let refuse : SaveRefusal → Plan = λ refusal. answers SaveRefused (save_refused_line refusal) in
+      let refuse_delta : DeltaRefusal → Plan = λ refusal. answers SaveRefused (delta_refused_line refusal) in
+      resume_opens recipe base patch report files b.four said b.c.inputs h false b.c.no_report steps counted
+      ∙ apart_opens said base (λ _. needs_apart said patch (λ _. needs base 4_294_967_296 loads)) files false b.no_base
+      ∙ apart_opens said patch (λ _. needs base 4_294_967_296 loads) files false b.c.no_save
+      ∙ follows base 4_294_967_296 loads files text (is_loaded files base text 4_294_967_296 base_held (short said b.c.inputs b.place b.c.is b.given base_place))
+      ∙ follows patch 4_294_967_296 (found text) files further
+      (is_loaded files patch further 4_294_967_296 held (delta_lengths.short said b.c.inputs b.place p b.c.is b.given base_place place))
+      ∙ inputs_open recipe said b.c.inputs files h (at text further)
+      ∙ ap (λ reading. outcome (unless_refused reading refuse (relative further b.c.inputs)) files) (reads_again said b.c.inputs b.place b.c.is b.given base_place)
+      ∙ ap (λ reading. outcome (unless_refused reading refuse_delta (last b.c.inputs b.place)) files) (reads_relative said b.c.inputs b.place p b.c.is b.given base_place place)
+      ∙ ap (λ o. outcome (came_to said (kept_relative recipe base patch report b) patch report o) files) (goes_on said b.c.inputs count steps p stands)
+
+-- ---- what they leave
+
+-- the base is neither the patch nor the report
+apart_of : (recipe base patch report : List ℕ) → IsTrue (are_four_files recipe base patch report) → (base ≢ patch) × (base ≢ report)
+apart_of recipe base patch report four =
+    let words = four_apart recipe base patch report four in
+    (not_equal base patch (two_apart base patch words.apart), not_equal base report (three_apart recipe base report words.with_base).save_report)
+
+module _ (recipe base patch report : List ℕ) (b : After recipe base patch report) where
+  pub start_leaves_base : (steps : ℕ) (files : NamedFiles) → IsBaseHeld recipe base patch report b files
+      → IsBaseHeld recipe base patch report b (delta_start recipe base patch report steps files).files
+  start_leaves_base steps files held =
+      let apart = apart_of recipe base patch report b.four in
+      delta_start_stays recipe base patch report steps files base apart.0 apart.1 ∙ held
+
+  pub resume_leaves_base : (steps : ℕ) (files : NamedFiles) → IsBaseHeld recipe base patch report b files
+      → IsBaseHeld recipe base patch report b (delta_resume recipe base patch report steps files).files
+  resume_leaves_base steps files held =
+      let apart = apart_of recipe base patch report b.four in
+      delta_resume_stays recipe base patch report steps files base apart.0 apart.1 ∙ held
+
+  -- what pauses, in the words of the laws
+  pub kept_of : (first : NamedFiles) (total : ℕ) (piece : Outcome) → IsBaseHeld recipe base patch report b piece.files
+      → Pauses recipe patch report b.c (kept_relative recipe base patch report b) first total piece → IsSavedRelative recipe base patch piece.files b.first total
+  kept_of first total piece held p = record {
+    whole = record {
+      bytes = p.holds.bytes;
+      recipe_held = p.holds.recipe_held;
+      said = b.c.said;
+      recipe_reads = p.holds.reads;
+      inputs = b.c.inputs;
+      inputs_held = p.holds.inputs_held;
+      position = b.place;
+      stands = b.stands;
+      save_held = held;
+    };
+    position = p.place;
+    stands = p.stands;
+    delta_held = p.kept_held;
+  }
+
+  pub delta_piece_of : (first : NamedFiles) (total : ℕ) (piece : Outcome) → IsBaseHeld recipe base patch report b piece.files
+      → audit recipe report first ≡ outcome (audited b.c.said report (bench b.c.said b.c.inputs)) first
+      → Settles recipe patch report b.c (kept_relative recipe base patch report b) first total piece → DeltaPieces recipe base patch report first b.first total piece
+  delta_piece_of first total piece held benched (inl p) = inl (p.status, kept_of first total piece held p)
+  delta_piece_of first total piece held benched (inr e) = inr (subst (AreSame report piece) (sym benched) e.same)
+
+-- ---- each piece
+
+module _ (recipe base patch report : List ℕ) (first : ℕ) (files : NamedFiles) (words : AreDeltaWords recipe base patch report files)
+    (bytes : LoadsBytes (plan_of (codes "audit" ∷ recipe ∷ report ∷ [])) files) (at : IsSavedAt recipe base files first) where
+  abbrev holds : Holds recipe at.said at.inputs files
+  holds = record { bytes = at.bytes; recipe_held = at.recipe_held; reads = at.recipe_reads; inputs_held = at.inputs_held }
+
+  abbrev following : is_input at.said report ≡ false → After recipe base patch report
+  following no_report = record {
+    four = four_of recipe base patch report words.with_base.three words.with_patch.three words.apart;
+    c = record {
+      words = three_apart recipe patch report words.with_patch.three;
+      said = at.said;
+      inputs = at.inputs;
+      is = is_recipe recipe at.said at.inputs files holds;
+      no_report = no_report;
+      no_save = words.with_patch.apart at.bytes at.said at.recipe_held at.recipe_reads;
+    };
+    no_base = words.with_base.apart at.bytes at.said at.recipe_held at.recipe_reads;
+    given = audit_loaded recipe report at.said at.inputs files (three_apart recipe patch report words.with_patch.three).two holds no_report bytes;
+    first = first;
+    place = at.position;
+    stands = at.stands;
+  }
+
+  -- a piece that ends in Usage, as `audit` does, or settles
+  each : (total : ℕ) (piece : Outcome) → (is_input at.said report ≡ true → piece ≡ outcome usage files)
+      → ((no_report : is_input at.said report ≡ false) → piece ≡ outcome (came_to at.said (delta_text_of at.said at.inputs at.position) patch report (position at.said at.inputs total)) files)
+      → finite.get piece.files base ≡ finite.get files base → DeltaPieces recipe base patch report files first total piece
+  each total piece refused comes stays = by (is_input at.said report) refl where
+    by : (clash : Bool) → is_input at.said report ≡ clash → DeltaPieces recipe base patch report files first total piece
+    by true clash = inr (alike report piece (audit recipe report files)
+        (refused clash ∙ sym (audit_opens recipe patch report files words.with_patch.three at.said at.inputs holds true clash)))
+    by false clash =
+        let b : After recipe base patch report = following clash in
+        delta_piece_of recipe base patch report b files total piece (stays ∙ at.save_held)
+        (audit_opens recipe patch report files words.with_patch.three at.said at.inputs holds false clash
+        ∙ inputs_open recipe at.said at.inputs files holds (λ inputs. audited at.said report (bench at.said inputs)))
+        (subst (Settles recipe patch report b.c (kept_relative recipe base patch report b) files total) (sym (comes clash))
+        (settles recipe patch report b.c files files holds refl (kept_relative recipe base patch report b) total (position at.said at.inputs total) refl))
+
+pub delta_starts : (recipe base patch report : List ℕ) (first steps : ℕ) (files : NamedFiles) → AreDeltaWords recipe base patch report files → IsStepCount steps
+    → LoadsBytes (plan_of (codes "audit" ∷ recipe ∷ report ∷ [])) files
+    → IsSavedAt recipe base files first → DeltaPieces recipe base patch report files first (first + steps) (delta_start recipe base patch report steps files)
+delta_starts recipe base patch report first steps files words counted bytes at =
+    let four = four_of recipe base patch report words.with_base.three words.with_patch.three words.apart in
+    let h = holds recipe base patch report first files words bytes at in
+    each recipe base patch report first files words bytes at (first + steps) (delta_start recipe base patch report steps files)
+    (λ clash. start_opens recipe base patch report files four at.said at.inputs h true clash steps counted)
+    (λ no_report. starts_at recipe base patch report (following recipe base patch report first files words bytes at no_report) files h at.save_held steps counted)
+    (delta_start_stays recipe base patch report steps files base (apart_of recipe base patch report four).0 (apart_of recipe base patch report four).1)
+
+pub delta_resumes : (recipe base patch report : List ℕ) (first count steps : ℕ) (files : NamedFiles) → AreDeltaWords recipe base patch report files → IsStepCount steps
+    → LoadsBytes (plan_of (codes "audit" ∷ recipe ∷ report ∷ [])) files
+    → IsSavedRelative recipe base patch files first count → DeltaPieces recipe base patch report files first (count + steps) (delta_resume recipe base patch report steps files)
+delta_resumes recipe base patch report first count steps files words counted bytes at =
+    let four = four_of recipe base patch report words.with_base.three words.with_patch.three words.apart in
+    let h = holds recipe base patch report first files words bytes at.whole in
+    each recipe base patch report first files words bytes at.whole (count + steps) (delta_resume recipe base patch report steps files)
+    (λ clash. resume_opens recipe base patch report files four at.whole.said at.whole.inputs h true clash steps counted)
+    (λ no_report. resumes_at recipe base patch report (following recipe base patch report first files words bytes at.whole no_report) files h at.whole.save_held steps counted
+    count at.position at.stands at.delta_held)
+    (delta_resume_stays recipe base patch report steps files base (apart_of recipe base patch report four).0 (apart_of recipe base patch report four).1)

@@ -1,5 +1,0 @@
-use Rattle.hex_langs.proofs.LinkLemmas.LinkLaws.{bytes-end-behind-the-last}
-use Rattle.hex_langs.proofs.link.laws.bytes_end_behind_the_last.Goals as goal
-
-pub returns : goal.returns
-returns c = bytes-end-behind-the-last

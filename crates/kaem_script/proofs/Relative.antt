@@ -1,0 +1,89 @@
+-- Lines taken one by one: those of commands that are replayed, and those of the files that are left, which a walk by "the first name after" finds.
+use Rattle.std.proofs.Common.{◌≡◌, ℕ, suc, ◌+◌, ◌-◌, ◌<◌, ◌≤◌, ◌&&◌, Bool, true, false, Bor, Option, Some, None, Result, Ok, List, [], ◌∷◌, length, take, drop, get_or, map, not, is_none, is_some, option_copied, refl, sym, ap, ◌∙◌, arith, All, subst}
+use Rattle.std.specs.FinMap as fin
+use Rattle.std.proofs.lemmas.List.{take_all}
+use Rattle.std.proofs.lemmas.List.Elements.{All-tail}
+use Rattle.mem_files.specs.World.{World}
+use Rattle.mem_files.specs.Calls.{name_after}
+use Rattle.mem_files.specs.Outputs.{left}
+use Rattle.mem_files.proofs.Walks.{names-left, names-rise, walk-end, walk-start, walk-turn}
+use Rattle.report.specs.declared.types.LeftLine.{LeftLine}
+use Rattle.report.specs.declared.script.types.CommandLine.{CommandLine}
+use Rattle.kaem_script.specs.declared.verdict.ScriptPart.{ScriptPart}
+use Rattle.kaem_script.specs.Faults.{commands_fault, fault_after_command, replayed_command, says_file, says_files}
+use Rattle.kaem_script.specs.Kept.{IsCommand}
+use Rattle.kaem_script.specs.FilesListed.{named_in}
+use Rattle.kaem_script.proofs.Renewing.{files_after}
+
+-- ---- the first of some elements, and the others
+
+pub first-at : {X : Type 0} (xs : List X) (d : X) → 1 ≤ length xs → xs ≡ get_or xs 0 d ∷ take (length xs - 1) (drop 1 xs)
+first-at [] d some = absurd (omega arith)
+first-at (x ∷ xs) d some =
+    let fewer : suc (length xs) - 1 ≡ length xs = omega arith in
+    ap (λ rest. x ∷ rest) (sym (ap (λ (n : ℕ). take n xs) fewer ∙ take_all (length xs) xs (omega arith)))
+
+pub first-is : {X : Type 0} (xs : List X) (x : X) → 1 ≤ length xs → x ≡ get_or xs 0 x → xs ≡ x ∷ take (length xs - 1) (drop 1 xs)
+first-is xs x some is = first-at xs x some ∙ ap (λ y. y ∷ take (length xs - 1) (drop 1 xs)) (sym is)
+
+pub empty-is : {X : Type 0} (xs : List X) → length xs < 1 → xs ≡ []
+empty-is [] few = refl
+empty-is (x ∷ xs) few = absurd (omega arith)
+
+-- ---- commands
+
+pub replay-goes-on : (f : World → Option (ScriptPart × ℕ)) (number : ℕ) (world after : World) (ahead rest : List (List (List ℕ))) (words : List (List ℕ))
+    → (lines others : List CommandLine) (line : CommandLine) (whole : Option (ScriptPart × ℕ)) → ahead ≡ words ∷ rest → lines ≡ line ∷ others
+    → replayed_command world words line ≡ Ok after → commands_fault f number world ahead lines ≡ whole → commands_fault f (number + 1) after rest others ≡ whole
+replay-goes-on f number world after ahead rest words lines others line whole ahead_is lines_are is before =
+    sym (ap (λ (r : Result World ScriptPart). fault_after_command number r (λ left. commands_fault f (number + 1) left rest others)) is)
+    ∙ sym (λ i. commands_fault f number world (ahead_is i) (lines_are i)) ∙ before
+
+pub others-are : (ahead rest : List (List (List ℕ))) (words : List (List ℕ)) → ahead ≡ words ∷ rest → All IsCommand ahead → All IsCommand rest
+others-are ahead rest words is each = All-tail IsCommand words rest (subst (All IsCommand) is each)
+
+-- ---- the files that are left
+
+-- before the walk all files are ahead
+pub left-begins : (w : World) → files_after w None ≡ left w
+left-begins w = ap (map (named_in w)) (walk-start (fin.keys w.names)) ∙ names-left w
+
+-- the next name, with its content, is the next file
+left-turns : (w : World) (last : Option (List ℕ)) (name : List ℕ) → name_after w last ≡ Some name → files_after w last ≡ named_in w name ∷ files_after w (Some name)
+left-turns w last name found = ap (map (named_in w)) (walk-turn last name (fin.keys w.names) (names-rise w) found)
+
+-- where there is no next name, no file is ahead
+left-ends : (w : World) (last : Option (List ℕ)) → name_after w last ≡ None → files_after w last ≡ []
+left-ends w last none = ap (map (named_in w)) (walk-end last (fin.keys w.names) none)
+
+-- the next line says the next file, and so on
+pub next-said : (w : World) (last : Option (List ℕ)) (name : List ℕ) (ahead rest : List LeftLine) (line : LeftLine) (says : Bool)
+    → ahead ≡ line ∷ rest → name_after w last ≡ Some name → says_file line (named_in w name) ≡ says
+    → says_files ahead (files_after w last) ≡ (says && says_files rest (files_after w (Some name)))
+next-said w last name ahead rest line says is found said =
+    (λ i. says_files (is i) (left-turns w last name found i)) ∙ ap (λ (b : Bool). b && says_files rest (files_after w (Some name))) said
+
+-- a line without a file
+pub no-file-said : (w : World) (last : Option (List ℕ)) (ahead rest : List LeftLine) (line : LeftLine) → ahead ≡ line ∷ rest → name_after w last ≡ None
+    → says_files ahead (files_after w last) ≡ false
+no-file-said w last ahead rest line is none = λ i. says_files (is i) (left-ends w last none i)
+
+-- after the last line there is no further file, or one without a line
+pub all-said : (w : World) (last : Option (List ℕ)) → says_files [] (files_after w last) ≡ is_none (name_after w last)
+all-said w last = by_next (name_after w last) refl
+  where
+    by_next : (next : Option (List ℕ)) → name_after w last ≡ next → says_files [] (files_after w last) ≡ is_none next
+    by_next None none = ap (says_files []) (left-ends w last none)
+    by_next (Some name) found = ap (says_files []) (left-turns w last name found)
+
+not-true : (b : Bool) → true ≡ not b → b ≡ false
+not-true true is = absurd cc
+not-true false is = refl
+
+not-false : (b : Bool) → false ≡ not b → b ≡ true
+not-false true is = refl
+not-false false is = absurd cc
+
+pub none-told : {X : Type 0} (found : Option (Bor X)) (told : Bool) → is_some found ≡ not told → told ≡ is_none (option_copied found)
+none-told None told is = not-false told is
+none-told (Some x) told is = not-true told is

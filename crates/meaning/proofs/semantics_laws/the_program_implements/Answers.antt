@@ -1,6 +1,0 @@
-use Rattle.meaning.specs.MacroAssembly.{program_of_text}
-use Rattle.meaning.specs.Inside.RunLaws.{own-program}
-use Rattle.meaning.proofs.semantics_laws.the_program_implements.Goals as goal
-
-pub returns : goal.returns
-returns c = own-program program_of_text

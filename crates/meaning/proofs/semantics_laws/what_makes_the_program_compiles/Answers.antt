@@ -1,6 +1,0 @@
-use Rattle.meaning.specs.MacroAssembly.{program_of_text}
-use Rattle.meaning.proofs.Programs.{makes-program}
-use Rattle.meaning.proofs.semantics_laws.what_makes_the_program_compiles.Goals as goal
-
-pub returns : goal.returns
-returns c = makes-program program_of_text

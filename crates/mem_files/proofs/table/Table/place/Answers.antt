@@ -1,9 +1,0 @@
-use Rattle.std.proofs.Common.{sym, ◌∙◌, length, arith}
-use Rattle.mem_files.proofs.Keeping.{lowest_number-le}
-use Rattle.mem_files.proofs.KeepingCalls.{not_full}
-use Rattle.mem_files.proofs.Rules.{kept_of}
-use Rattle.mem_files.proofs.table.Table.place.Goals as goal
-
-pub add_file-requires-clause-few : goal.add_file-requires-clause-few
-add_file-requires-clause-few c =
-    omega (arith, lowest_number-le c.args.self.now (kept_of c.args.self.now c.requires), (not_full c.args.self.now (length c.args.content.now) (sym c.is_full.ensures ∙ c.if-is_full.false)).2)

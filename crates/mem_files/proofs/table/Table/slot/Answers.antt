@@ -1,6 +1,0 @@
-use Rattle.std.proofs.Common.{◌∙◌, sym}
-use Rattle.mem_files.proofs.Changes.{slot-is}
-use Rattle.mem_files.proofs.table.Table.slot.Goals as goal
-
-pub returns : goal.returns
-returns c = c.copied.ensures ∙ rw c.deref.ensures.value at c.cell.ensures ∙ sym (slot-is _ _ c.self.view_is c.self.invariant c.args.fd)

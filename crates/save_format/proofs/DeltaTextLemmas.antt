@@ -1,0 +1,3 @@
+pub mod Relative
+pub mod Stages
+pub mod Texts

@@ -1,0 +1,9 @@
+use Rattle.std.proofs.Common.{◌-◌, None}
+use Rattle.std.specs.Option.{option_copied}
+use Rattle.save_format.specs.ByteFields.Reader.{several}
+use Rattle.save_format.specs.SaveText.{after_left, saved_left_at}
+use Rattle.save_format.proofs.ByteFieldsLemmas.Loop.{Went}
+use Rattle.save_format.proofs.fields.pass_left.Given as goal
+
+abbrev pub invariant-loop : goal.invariant-loop
+invariant-loop l = Went saved_left_at after_left (option_copied l.last) (l.count - l.counter) l.cursor (several saved_left_at after_left None l.count l.fn.cursor)

@@ -1,0 +1,12 @@
+use Rattle.std.proofs.Common.{false}
+use Rattle.save_format.specs.StateText.StateText.{parsed_state, state_at}
+use Rattle.save_format.proofs.StateTextLemmas.Mapped.{whole_told, whole_wrong}
+use Rattle.save_format.proofs.state_text.mapping.is_mappable.Goals as goal
+
+pub returns-in-Ok : goal.returns-in-Ok
+unfolding parsed_state
+returns-in-Ok c = whole_told (λ s. s.runs) state_at c.args.text.now c.new-cursor.result c.in-Ok.mappable c.new-cursor.ensures c.in-Ok.ensures
+
+pub returns-in-Err : goal.returns-in-Err
+unfolding parsed_state
+returns-in-Err c = whole_wrong (λ s. s.runs) state_at c.args.text.now c.new-cursor.result c.in-Err.field-0.left false c.new-cursor.ensures c.in-Err.ensures

@@ -1,0 +1,124 @@
+-- Reading a text from left to right, field by field.
+use Rattle.std.specs.Prelude.{◌≡◌, ℕ, zero, suc, ◌-◌, Bool, ◌||◌, ◌==◌, nat_lt, nat_le, List, [], ◌∷◌, length, take, drop, slice_index, Result, Ok, Err, if◌then◌else◌}
+use Rattle.std.specs.Int.{Width, w16, w32, w64, byte_len, from_le_bytes}
+use Rattle.std.specs.Str.{bytes_eq}
+use Rattle.save_format.specs.declared.byte_fields.form.TextForm.{TextForm}
+use Rattle.save_format.specs.declared.byte_fields.form.TextForm.TheVariants.{First, Second}
+use Rattle.save_format.specs.declared.byte_fields.cursor.WrongField.{WrongField}
+use Rattle.save_format.specs.declared.byte_fields.cursor.ReadStop.{ReadStop}
+use Rattle.save_format.specs.declared.byte_fields.cursor.ReadStop.TheVariants.{Wrong, OutOfMemory}
+
+-- a value and what is left after it, or how many bytes were left at the first byte of the first wrong field
+abbrev pub Read : Type 0 → Type 0
+Read A = Result (A × List ℕ) ℕ
+
+abbrev pub Reader : Type 0 → Type 0
+Reader A = List ℕ → Read A
+
+abbrev pub read_onward : {A B : Type 0} → Read A → (A → Reader B) → Read B
+read_onward (Ok x) next = next x.0 x.1
+read_onward (Err left) next = Err left
+
+infixl 10 ◌>>=◌
+abbrev pub ◌>>=◌ : {A B : Type 0} → Reader A → (A → Reader B) → Reader B
+(field >>= next) left = read_onward (field left) next
+
+abbrev pub done : {A : Type 0} → A → Reader A
+done x left = Ok (x, left)
+
+-- a little-endian number
+unfoldable pub number_of_width : Width → Reader ℕ
+number_of_width w left = if nat_lt (length left) (byte_len w) then Err (length left) else Ok (from_le_bytes w (take (byte_len w) left), drop (byte_len w) left)
+
+abbrev pub u16 : Reader ℕ
+u16 = number_of_width w16
+
+abbrev pub u32 : Reader ℕ
+u32 = number_of_width w32
+
+abbrev pub u64 : Reader ℕ
+u64 = number_of_width w64
+
+-- one byte
+unfoldable pub byte : Reader ℕ
+byte left = if nat_lt (length left) 1 then Err (length left) else Ok (slice_index left 0, drop 1 left)
+
+-- so many bytes
+unfoldable pub bytes : ℕ → Reader (List ℕ)
+bytes count left = if nat_lt (length left) count then Err (length left) else Ok (take count left, drop count left)
+
+abbrev pub tested : {A : Type 0} → (A → Bool) → Read A → ℕ → Read A
+tested test (Ok x) at = if test x.0 then Ok x else Err at
+tested test (Err left) at = Err left
+
+-- a field that meets a test, else it is wrong at its first byte
+abbrev pub that : {A : Type 0} → (A → Bool) → Reader A → Reader A
+that test field left = tested test (field left) (length left)
+
+-- a number of 4 bytes that is at least this
+abbrev pub u32_from : ℕ → Reader ℕ
+u32_from least = that (λ n. nat_le least n) u32
+
+-- the eight bytes that begin each text of a form
+abbrev pub begun : List ℕ → Reader (Unit {0})
+begun magic = do
+  found ← that (bytes_eq magic) (bytes 8)
+  done tt
+
+-- the eight bytes that begin each text of one of two forms: which of them this text has
+abbrev pub begun_in : List ℕ → List ℕ → Reader TextForm
+begun_in first second = do
+  found ← that (λ found. bytes_eq first found || bytes_eq second found) (bytes 8)
+  done (if bytes_eq first found then First else Second)
+
+-- a length, and that many bytes
+unfoldable pub blob : Width → Reader (List ℕ)
+blob w = do
+  count ← number_of_width w
+  bytes count
+
+-- so many items, each read in the light of the one before it
+unfoldable pub several : {A S : Type 0} → (S → Reader A) → (A → S) → S → ℕ → Reader (List A)
+several item next s zero = done []
+several item next s (suc count) = do
+  x ← item s
+  xs ← several item next (next x) count
+  done (x ∷ xs)
+
+-- so many items, each by itself
+abbrev pub alike : {A : Type 0} → Reader A → ℕ → Reader (List A)
+alike item count = several (λ (before : Unit {0}). item) (λ x. tt) tt count
+
+-- a count, and that many items
+abbrev pub counted : {A S : Type 0} → (S → Reader A) → (A → S) → S → Reader (List A)
+counted item next s = do
+  count ← number_of_width w32
+  several item next s count
+
+-- nothing is left after the value
+abbrev pub ended : {A : Type 0} → Read A → Result A ℕ
+ended (Ok x) = if length x.1 == 0 then Ok x.0 else Err (length x.1)
+ended (Err left) = Err left
+
+-- where a field begins of which so many bytes were left
+abbrev pub placed_in : {A : Type 0} → ℕ → Result A ℕ → Result A ℕ
+placed_in size (Ok x) = Ok x
+placed_in size (Err left) = Err (size - left)
+
+-- the value of a whole text, or how many bytes stand before its first wrong field
+abbrev pub whole : {A : Type 0} → Reader A → List ℕ → Result A ℕ
+whole field text = placed_in (length text) (ended (field text))
+
+-- what a function returned, seen by view, with what it left, is what reading gives
+abbrev pub Finds : {X Y : Type 0} → (X → Y) → Result X WrongField → List ℕ → Read Y → Type 0
+Finds view (Ok x) left read = read ≡ Ok (view x, left)
+Finds view (Err field) left read = read ≡ Err field.left
+
+-- the same of a function that takes memory; want of it aside
+abbrev pub FailsField : {Y : Type 0} → ReadStop → Read Y → Type 0
+FailsField (Wrong at) read = read ≡ Err at
+FailsField OutOfMemory read = Unit {0}
+
+abbrev pub GivesField : {X Y : Type 0} → (X → Y) → Result X ReadStop → List ℕ → Read Y → Type 0
+GivesField view (Ok x) left read = read ≡ Ok (view x, left)
+GivesField view (Err e) left read = FailsField e read

@@ -1,0 +1,25 @@
+-- What the code has, as the definitions see it.
+use Rattle.std.specs.Prelude.{◌≡◌, ℕ, map, IsOk, Result, Ok, Err}
+use Rattle.ddc_base.specs.declared.digests.Digest.{Digest}
+use Rattle.save_format.specs.StateText.Seen as state
+use Rattle.save_format.specs.declared.state_text.reading.TextRefusal.{TextRefusal}
+use Rattle.save_format.specs.declared.state_text.reading.TextRefusal.TheVariants.{Form, OutOfMemory}
+use Rattle.save_format.specs.declared.parts.InputPart.{InputPart}
+use Rattle.save_format.specs.declared.parts.Parts.{Parts}
+use Rattle.save_format.specs.declared.parts.StagePart.{StagePart}
+use Rattle.save_format.specs.SaveText.{SaveText, StageText}
+
+abbrev pub input_view : InputPart → Digest
+input_view input = input.digest
+
+abbrev pub stage_view : StagePart → StageText
+stage_view s = record { steps = s.steps; stream1 = s.stream1; stream2 = s.stream2; left = s.left; made = s.made }
+
+abbrev pub save_view : Parts → SaveText
+save_view p = record { recipe = p.recipe; inputs = map input_view p.inputs.items; stages = map stage_view p.done.items; state = state.state_view p.state }
+
+-- what was read is what the text says; want of memory comes only where the text's form holds
+abbrev pub ReadsSaveText : Result Parts TextRefusal → Result SaveText ℕ → Type 0
+ReadsSaveText (Ok p) read = read ≡ Ok (save_view p)
+ReadsSaveText (Err (Form offset)) read = read ≡ Err offset
+ReadsSaveText (Err OutOfMemory) read = IsOk read

@@ -1,0 +1,178 @@
+//! Going past the fields of a delta without keeping them: its form is judged so, with no memory.
+
+ghost use Rattle.std.specs.Prelude.{◌≡◌, ◌==◌, ◌&&◌, None, bytes_eq, drop, length, map, nat_le, option_map};
+ghost use Rattle.std.specs.Option.{option_copied};
+ghost use Rattle.save_format.specs.ByteFields.Reader.{Finds, counted, several};
+ghost use Rattle.save_format.specs.DeltaText.DeltaText.{delta_at, delta_front_at, parsed_delta};
+ghost use Rattle.save_format.specs.DeltaText.Front.{is_of_other_base};
+ghost use Rattle.save_format.specs.DeltaText.Inside.Relative.{IsLeftNext, PassesRelative};
+ghost use Rattle.save_format.specs.DeltaText.Stages.{after_further, equal_lefts, equal_marks, equal_stages, further_at, stages_relative_at};
+ghost use Rattle.save_format.specs.Inside.Fronts.{ReadsFront, stages_and_state_at};
+ghost use Rattle.save_format.specs.Inside.Passing.{GoesPast, JudgesForm};
+ghost use Rattle.save_format.specs.SaveText.{SaveText, after_left, saved_left_at, saved_stage_at};
+ghost use Rattle.save_format.specs.Seen.{save_view, stage_view};
+ghost use Rattle.save_format.specs.Spelled.{IsSaveText};
+
+use crate::byte_fields::{Cursor, WrongField};
+use crate::delta_text::reading::MAGIC;
+use crate::delta_text::stages::{is_same_left, is_same_mark, kept_of, known_at};
+use crate::fields::{digest_of, line_of, pass_stage, stage_front};
+use crate::parts::{Parts, StageFront, StagePart};
+use crate::patch_text::pass_patch;
+use crate::state_text::TextRefusal;
+use ddc_base::digests::Digest;
+use report::{LeftLine, Mark};
+
+/// Whether a text begins as a delta against another base than that of this digest.
+pub fn names_other_base(base: &Digest, text: &[u8]) -> bool
+    ensures { result ≡ is_of_other_base base.now text.now }
+{
+    let mut cursor = Cursor::new(text);
+    match front_of(&mut cursor) {
+        Ok(found) => found != *base,
+        Err(_) => false,
+    }
+}
+
+/// Of which base a text is, by the digest after its magic.
+#[tactic(auto, unfolding(crate::specs::DeltaText::DeltaText::delta_front_at, crate::specs::DeltaText::DeltaText::delta_at, crate::specs::Inside::Fronts::stages_and_state_at))]
+pub(crate) fn front_of(cursor: &mut Cursor<'_>) -> Result<Digest, WrongField>
+    ensures alone { Finds (λ x. x) result cursor.new (delta_front_at cursor.old) }
+    ensures first { (base : SaveText) → ReadsFront (stages_and_state_at base) result cursor.new (delta_at base cursor.old) }
+{
+    cursor.begins_with(&MAGIC)?;
+    digest_of(cursor)
+}
+
+/// Whether both hold.
+fn are_both(first: bool, second: bool) -> bool
+    ensures { result ≡ (first && second) }
+{
+    if first { second } else { false }
+}
+
+/// Whether the file at an index is one of this name and mark.
+fn is_left_at(known: &[LeftLine], index: usize, name: &[u8], mark: Mark) -> bool
+    ensures { IsLeftNext (drop index known.now) (record { name = name.now; mark = mark }) result }
+{
+    match known.get(index) {
+        Some(file) => is_same_left(file, name, mark),
+        None => false,
+    }
+}
+
+/// Whether there are no more files than so many.
+fn is_reached(known: &[LeftLine], count: u32) -> bool
+    ensures { result ≡ nat_le (length known.now) count }
+{
+    known.len() <= count as usize
+}
+
+/// Goes past the files that a stage left, and says whether they are those of the base.
+fn pass_lefts(cursor: &mut Cursor<'_>, count: u32, known: &[LeftLine]) -> Result<bool, WrongField>
+    ensures { PassesRelative (equal_lefts known.now) result cursor.new (several saved_left_at after_left None count cursor.old) }
+{
+    let mut last = None;
+    let mut same = true;
+    for index in 0..count {
+        let (name, mark) = line_of(cursor, last)?;
+        last = Some(name);
+        same = are_both(same, is_left_at(known, index as usize, name, mark));
+    }
+    Ok(are_both(same, is_reached(known, count)))
+}
+
+/// Whether a stage of the base has these steps and marks, and this artefact, where it is known whether the files that were left are the same.
+fn are_same(known: &StagePart, front: StageFront, same_left: bool, made: &[u8]) -> bool
+    ensures { result ≡ (known.now.steps == front.steps && (equal_marks known.now.stream1 front.stream1
+        && (equal_marks known.now.stream2 front.stream2 && (same_left && bytes_eq known.now.made made.now)))) }
+{
+    if known.steps != front.steps {
+        return false;
+    }
+    if !is_same_mark(known.stream1, front.stream1) {
+        return false;
+    }
+    if !is_same_mark(known.stream2, front.stream2) {
+        return false;
+    }
+    are_both(same_left, known.made.as_slice() == made)
+}
+
+/// Goes past a stage that is done, and says whether it is that of the base.
+#[tactic(auto, unfolding(crate::specs::Inside::Fronts::left_and_made_at))]
+fn pass_relative(cursor: &mut Cursor<'_>, known: &StagePart) -> Result<bool, WrongField>
+    ensures { PassesRelative (equal_stages (stage_view known.now)) result cursor.new (saved_stage_at 0 cursor.old) }
+{
+    let front = stage_front(cursor)?;
+    let same_left = pass_lefts(cursor, front.count, known.left.as_slice())?;
+    let made = cursor.blob32()?;
+    Ok(are_same(known, front, same_left, made))
+}
+
+/// Goes past a further stage, which is wrong where it could have been kept.
+#[tactic(auto, unfolding(crate::specs::DeltaText::Stages::further_at))]
+fn pass_further(cursor: &mut Cursor<'_>, known: Option<&StagePart>) -> Result<(), WrongField>
+    ensures { GoesPast result cursor.new (further_at (option_map stage_view (option_copied known.entry)) cursor.old) }
+{
+    let at = cursor.len();
+    match known {
+        None => pass_stage(cursor),
+        Some(known) => {
+            if pass_relative(cursor, known)? {
+                return Err(WrongField { left: at });
+            }
+            Ok(())
+        }
+    }
+}
+
+/// Goes past a count of 4 bytes, and that many further stages.
+fn pass_several(cursor: &mut Cursor<'_>, known: Option<&StagePart>) -> Result<(), WrongField>
+    ensures { GoesPast result cursor.new (counted further_at after_further (option_map stage_view (option_copied known.entry)) cursor.old) }
+{
+    let count = cursor.u32()?;
+    let mut relative = known;
+    for _ in 0..count {
+        pass_further(cursor, relative)?;
+        relative = None;
+    }
+    Ok(())
+}
+
+/// Goes past the stages that are done.
+#[tactic(auto, unfolding(crate::specs::DeltaText::Stages::stages_relative_at))]
+fn pass_stages_relative(cursor: &mut Cursor<'_>, base: &[StagePart]) -> Result<(), WrongField>
+    ensures { GoesPast result cursor.new (stages_relative_at (map stage_view base.now) cursor.old) }
+{
+    let kept = kept_of(cursor, base)?;
+    pass_several(cursor, known_at(base, kept))
+}
+
+/// Goes past a delta.
+#[tactic(auto, unfolding(crate::specs::Inside::Fronts::stages_and_state_at))]
+fn pass_delta<'a>(cursor: &mut Cursor<'a>, base: &Parts<'a>) -> Result<(), WrongField>
+    requires { IsSaveText (save_view base.now) }
+    ensures { GoesPast result cursor.new (delta_at (save_view base.now) cursor.old) }
+{
+    let _digest = front_of(cursor)?;
+    pass_stages_relative(cursor, base.done.as_slice())?;
+    pass_patch(cursor, &base.state)
+}
+
+/// Whether a text has the form of a delta, all of it.
+#[tactic(auto, unfolding(crate::specs::DeltaText::DeltaText::parsed_delta))]
+pub(crate) fn judge<'a>(base: &Parts<'a>, text: &'a [u8]) -> Result<(), TextRefusal>
+    requires { IsSaveText (save_view base.now) }
+    ensures { JudgesForm result (parsed_delta (save_view base.now) text.now) }
+{
+    let mut cursor = Cursor::new(text);
+    match pass_delta(&mut cursor, base) {
+        Ok(()) => {}
+        Err(field) => return Err(TextRefusal::Form((text.len() - field.left) as u64)),
+    }
+    match cursor.len() {
+        0 => Ok(()),
+        left => Err(TextRefusal::Form((text.len() - left) as u64)),
+    }
+}

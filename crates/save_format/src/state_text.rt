@@ -1,0 +1,23 @@
+//! The text of a state: how a guest that stands between two steps is kept in a file.
+//!
+//! docs/reference/save.md has its fields for a reader, and specs/StateText/StateText.antt the same for the prover. What the fields say may still be
+//! no state of any guest: that is judged above.
+
+mod items;
+pub mod laws;
+mod listing;
+mod mapping;
+mod parts;
+mod reading;
+mod writing;
+
+pub(crate) use items::{is_zero, name_of};
+pub use listing::{descriptors_of, files_of};
+pub use mapping::{MOST_PAGES, is_mappable};
+pub(crate) use mapping::{runs_mappable, state_mappable};
+pub(crate) use parts::FrontNumbers;
+pub use parts::{NumberedDescriptor, File, Page, StateParts, Reserved, Run};
+pub(crate) use reading::{heap_of, parts_in, pass_state_in, reservation_of};
+pub use reading::{TextRefusal, read};
+pub use writing::put_parts;
+pub(crate) use writing::{put_heap, put_reservation};

@@ -1,8 +1,0 @@
-use Rattle.std.proofs.Common.{◌-◌}
-use Rattle.save_text.specs.ByteFields.Reader.{counted}
-use Rattle.save_text.proofs.ByteFieldsLemmas.Loop.{Went}
-use Rattle.save_text.proofs.byte_fields.item.pass_counted.Given as goal
-
-abbrev pub invariant-loop : goal.invariant-loop
-invariant-loop g l =
-    Went g.T.Item.read_from g.T.Item.next_least l.least (l.count - l.counter) l.cursor (counted g.T.Item.read_from g.T.Item.next_least 0 l.fn.cursor)

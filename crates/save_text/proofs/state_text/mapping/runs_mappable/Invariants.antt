@@ -1,8 +1,0 @@
-use Rattle.std.proofs.Common.{◌-◌}
-use Rattle.save_text.specs.ByteFields.Reader.{counted}
-use Rattle.save_text.specs.StateText.StateText.{after_run, run_at}
-use Rattle.save_text.proofs.StateTextLemmas.Mapped.{WentBy}
-use Rattle.save_text.proofs.state_text.mapping.runs_mappable.Given as goal
-
-abbrev pub invariant-loop : goal.invariant-loop
-invariant-loop l = WentBy l.left l.least (l.count - l.counter) l.cursor (counted run_at after_run 0 l.fn.cursor)

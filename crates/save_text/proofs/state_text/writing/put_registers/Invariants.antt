@@ -1,6 +1,0 @@
-use Rattle.std.proofs.Common.{◌≡◌, ◌++◌, take}
-use Rattle.save_text.specs.StateText.Spelled.{u64s}
-use Rattle.save_text.proofs.state_text.writing.put_registers.Given as goal
-
-abbrev pub invariant-loop-register : goal.invariant-loop-register
-invariant-loop-register l = l.out ≡ l.fn.out ++ u64s (take l.register-index l.registers)

@@ -1,2 +1,0 @@
--- What serves the split of the code. No promise rests on this file being read.
-pub mod Beside

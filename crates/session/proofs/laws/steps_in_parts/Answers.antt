@@ -1,5 +1,0 @@
-use Rattle.session.proofs.Standing.{in_parts}
-use Rattle.session.proofs.laws.steps_in_parts.Goals as goal
-
-pub returns : goal.returns
-returns c session first more is some = in_parts session first more is some

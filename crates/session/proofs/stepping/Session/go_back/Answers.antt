@@ -1,9 +1,0 @@
-use Rattle.std.proofs.Common.{◌-◌, ◌∙◌, arith, ap}
-use Rattle.session.specs.Sessions.{state_of_step}
-use Rattle.session.proofs.Standing.{back}
-use Rattle.session.proofs.stepping.Session.go_back.Goals as goal
-
-pub invariant_of-self : goal.invariant_of-self
-invariant_of-self c =
-    back _ _ _ c.self.invariant (ap (λ s. state_of_step s (c.steps-steps.result - c.args.count)) c.self.view_is ∙ c.in_ok-guest.ensures.state) c.in_ok-guest.ensures.steps
-    (omega (arith, c.steps-steps.ensures.value))

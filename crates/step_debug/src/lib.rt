@@ -1,0 +1,14 @@
+//! Stepping sessions: a program's run, looked at line by line. Lines are commands (`lines`), and each reply is one line (`replies`).
+//!
+//! The rules for people: docs/reference/step.md.
+#![tactic(auto)]
+
+mod command;
+pub mod laws;
+mod lines;
+mod replies;
+mod stepping;
+
+pub use command::SessionCommand;
+pub use lines::read_command;
+pub use stepping::Session;

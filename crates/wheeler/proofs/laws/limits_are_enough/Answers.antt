@@ -1,6 +1,0 @@
-use Rattle.wheeler.proofs.Closing.{enough-over}
-use Rattle.wheeler.proofs.Rules.{rules}
-use Rattle.wheeler.proofs.laws.limits_are_enough.Goals as goal
-
-pub returns : goal.returns
-returns c = λ recipe inputs p count is ok few. enough-over recipe inputs p count (rules recipe is) ok few

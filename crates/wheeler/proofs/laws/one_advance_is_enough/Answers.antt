@@ -1,9 +1,0 @@
-use Rattle.wheeler.proofs.Closing.{advance-enough, beginning-enough}
-use Rattle.wheeler.proofs.Rules.{rules}
-use Rattle.wheeler.proofs.laws.one_advance_is_enough.Goals as goal
-
-pub returns-clause-position : goal.returns-clause-position
-returns-clause-position c = λ recipe inputs p is ok. advance-enough recipe inputs p (rules recipe is) ok
-
-pub returns-clause-beginning : goal.returns-clause-beginning
-returns-clause-beginning c = λ recipe inputs is. beginning-enough recipe inputs (rules recipe is)

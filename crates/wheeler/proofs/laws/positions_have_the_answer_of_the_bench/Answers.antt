@@ -1,7 +1,0 @@
-use Rattle.wheeler.proofs.Closing.{may-step}
-use Rattle.wheeler.proofs.Continues.{position-bench}
-use Rattle.wheeler.proofs.Rules.{rules}
-use Rattle.wheeler.proofs.laws.positions_have_the_answer_of_the_bench.Goals as goal
-
-pub returns : goal.returns
-returns c = λ recipe inputs count is. position-bench recipe (may-step recipe (rules recipe is)) inputs count

@@ -1,0 +1,35 @@
+ghost use Rattle.std.specs.Prelude.{◌≡◌, ℕ, List};
+ghost use Rattle.mem_files.specs.Outputs.{OutputPlace};
+ghost use Rattle.guest_run.specs.Setting.{Setting};
+ghost use Rattle.audit_rules.specs.Contents.{SourceText};
+ghost use Rattle.wheeler.specs.WithMachineCode.{MachineCodeOr};
+ghost use Rattle.wheeler.specs.Inside.OtherLaws.{fixed-or, literal-or};
+ghost use Rattle.guest_run.proofs.Programs.{one-run};
+
+use crate::semantics::Semantics;
+use std::marker::PhantomData;
+
+/// A deterministic semantics of sources in other languages, as C: any relation that prescribes at most one content. What it says of sources of
+/// hex0, hex1 and hex2 that have a value is not asked. It has nothing that runs.
+pub trait OtherLanguages {
+    /// The source, run as a program with the box, prescribes this content at the output.
+    ghost prescribes: { SourceText → Setting → OutputPlace → List ℕ → Type 0 };
+
+    /// A source prescribes at most one content at an output.
+    ghost fixed: { (source : SourceText) (box : Setting) (output : OutputPlace) (one other : List ℕ)
+        → prescribes source box output one → prescribes source box output other → one ≡ other };
+}
+
+/// A semantics of other languages beside machine code: a source that has a value of hex0, hex1 or hex2 prescribes what runs of the value leave,
+/// and any other what is given.
+pub struct WithMachineCode<L> {
+    others: PhantomData<L>,
+}
+
+impl<L: OtherLanguages> Semantics for WithMachineCode<L> {
+    ghost prescribes = { MachineCodeOr L.prescribes };
+
+    ghost fixed = { fixed-or L.prescribes L.fixed one-run };
+
+    ghost literal = { literal-or L.prescribes };
+}
