@@ -5,11 +5,11 @@ use crate::audits::{REPORT, audit_shelf};
 use crate::scenes::holds;
 use ddc_app::Status;
 use ddc_base::{Bytes, MemShelf, MemSink, OutOfMemory};
-use wheeler::Assembly;
 use prompt::MemPrompt;
 use std::alloc::Global;
 use std::process::Abort;
 use std::test::Fail;
+use wheeler::Assembly;
 
 /// What a session is asked: the first line's reply is the put that fails, and the second line is left for the same call again.
 const LINES: &[u8] = b"where\nwhere\n";

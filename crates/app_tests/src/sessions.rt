@@ -6,11 +6,11 @@ use crate::scenes::are_calls;
 use crate::worked::EXIT;
 use ddc_app::Status;
 use ddc_base::{Bytes, MemShelf, MemSink, OutOfMemory};
-use wheeler::Assembly;
 use prompt::MemPrompt;
 use std::alloc::Global;
 use std::process::Abort;
 use std::test::Fail;
+use wheeler::Assembly;
 
 /// The words of the worked session.
 const WORDS: [&str; 3] = ["step", "a.toml", "two"];

@@ -2,9 +2,9 @@
 
 use ddc_app::Status;
 use ddc_base::{Bytes, MemShelf, MemSink, OutOfMemory, read_hex};
-use wheeler::Assembly;
 use prompt::MemPrompt;
 use std::alloc::Global;
+use wheeler::Assembly;
 
 /// The top call with a prompt that has nothing left.
 pub(crate) fn run(

@@ -10,8 +10,8 @@ ghost use Rattle.audit_rules.specs.Contents.{defined, text_of};
 use crate::link::Link;
 use ddc_base::languages::Language;
 use ddc_base::{Bytes, Name};
-use wheeler::Assumption;
 use recipe::{Content, Input, Recipe, Source, SourceLanguage};
+use wheeler::Assumption;
 
 /// Whether one of the earlier audits shows a line of an audit.
 #[tactic(auto, unfolding(crate::specs::Chain::is_struck))]

@@ -4,9 +4,9 @@ ghost use Rattle.audit_chain.specs.Composed.{EachConcludes, IsTrueAudit, Remaini
 ghost use Rattle.audit_chain.specs.declared.link.Link.{Link};
 ghost use Rattle.std.specs.Prelude.{All, List};
 
+use verifier::laws::one_report;
 use wheeler::Meaning;
 use wheeler::laws::an_equal_bench_concludes;
-use verifier::laws::one_report;
 
 /// Whatever sources mean: of audits in a row, each of which has a true report and comparisons that are all equal, if every line that remains of
 /// all of them together holds, then of each audit every line that is assumed holds, every stage follows, and the audited binary implements the

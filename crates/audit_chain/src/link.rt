@@ -1,6 +1,6 @@
 use ddc_base::ListOf;
-use wheeler::Assumption;
 use recipe::{Inputs, Recipe};
+use wheeler::Assumption;
 
 /// An audit: a recipe, and the contents of its inputs in the recipe's order.
 #[derive(Drop)]

@@ -6,8 +6,8 @@ ghost use Rattle.std.specs.Prelude.{◌≡◌, ◌+◌, ◌++◌, ◌∷◌, ◌
 use crate::giving::is_struck;
 use crate::link::{ChainLine, ChainLines, ChainLinks, Link};
 use ddc_base::{ListOf, OutOfMemory};
-use wheeler::{Assumption, assumptions_with_compared};
 use std::alloc::Global;
+use wheeler::{Assumption, assumptions_with_compared};
 
 /// What remains to be believed of audits in a row: the lines of each, with its number from 1, that none of the earlier audits shows.
 ///

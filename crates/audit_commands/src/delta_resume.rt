@@ -17,7 +17,7 @@ ghost use Rattle.audit_commands.specs.PauseTexts.{delta_refused_line};
 use crate::fetching::{SAVE_LIMIT, fetch_relative, fetch_save};
 use crate::going::{Kept, go_on};
 use crate::pause_texts;
-use crate::words::{RelativeWords, Piece};
+use crate::words::{Piece, RelativeWords};
 use audit_run::{Audit, DeltaRefusal};
 use command_plan::{Answer, Status, Stop, fetch, usage};
 use ddc_base::{Bytes, Shelf};

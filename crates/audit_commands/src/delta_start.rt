@@ -9,7 +9,7 @@ ghost use Rattle.audit_commands.specs.Delta.{delta_start_files, delta_start_plan
 use crate::fetching::{fetch_relative, fetch_save};
 use crate::going::{Kept, go_on};
 use crate::resume::refuse;
-use crate::words::{RelativeWords, Piece};
+use crate::words::{Piece, RelativeWords};
 use audit_run::Audit;
 use command_plan::{Answer, Stop, usage};
 use ddc_base::Shelf;

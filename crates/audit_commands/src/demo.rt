@@ -20,13 +20,13 @@ use audit_run::run_earlier;
 use audit_run::stage::report_of;
 use command_plan::{Answer, Status, Stop, fetch_file, usage};
 use ddc_base::{Bytes, OutOfMemory, Shelf, read_decimal};
-use wheeler::Meaning;
 use recipe::{Input, Inputs, Recipe};
 use recipe_plan::{read_recipe, unfinished};
 use report::{Report, StageLine};
 use std::alloc::Global;
 use verifier::Verdict;
 use verifier::laws::one_report;
+use wheeler::Meaning;
 
 /// The most bytes of a demonstration.
 const MOST_BYTES: u64 = 16_777_216;

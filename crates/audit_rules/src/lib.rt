@@ -11,7 +11,7 @@ mod comparison;
 pub mod laws;
 pub mod source_check;
 
-pub use answer::{AuditAnswer, StageFault, Finished};
+pub use answer::{AuditAnswer, Finished, StageFault};
 pub use cause::{RunCause, StartCause};
 pub use comparison::all_equal;
 

@@ -7,14 +7,14 @@ ghost use Rattle.audit_rules.specs.Positions.{forward_from};
 ghost use Rattle.audit_rules.specs.Valid.{IsInputs};
 
 use crate::entering::enter;
-use crate::place::{EndedGuest, AuditPlace, Progress};
+use crate::place::{AuditPlace, EndedGuest, Progress};
 use crate::stage::Done;
 use crate::stretch::advance_started;
+use audit_rules::{AuditAnswer, StageFault, all_equal};
 use ddc_base::{Bytes, OutOfMemory};
 use recipe::Recipe;
 use report::CompareLine;
 use std::alloc::Global;
-use audit_rules::{AuditAnswer, StageFault, all_equal};
 
 /// At most `most` steps, of an audit that is to stand where memory is wanting.
 pub(crate) fn advance_parts(

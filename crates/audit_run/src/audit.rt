@@ -20,13 +20,13 @@ use crate::place::{AuditPlace, Progress};
 use crate::save::{Resumed, SaveRefusal};
 use crate::setting::setting_of;
 use crate::stage::Done;
+use audit_rules::AuditAnswer;
 use ddc_base::{Bytes, OutOfMemory};
 use guest_run::RunBox;
 use recipe::{Inputs, Recipe};
 use report::Report;
 use std::alloc::Global;
 use std::marker::Model;
-use audit_rules::AuditAnswer;
 
 /// An audit: a recipe, its inputs, and where it stands, which is before the first stage, in a stage, or over.
 ///
@@ -149,7 +149,10 @@ impl Audit {
     {
         match &self.place {
             AuditPlace::Ready => (1, 0),
-            AuditPlace::Running(guest) => (stage_after(&self.recipe, self.done.len()), guest.steps()),
+            AuditPlace::Running(guest) => (
+                stage_after(&self.recipe, self.done.len()),
+                guest.steps(),
+            ),
             AuditPlace::Over(_) => (0, 0),
         }
     }

@@ -7,15 +7,19 @@ ghost use Rattle.audit_rules.specs.Valid.{IsAuditAnswer, IsInputs};
 
 use crate::earlier::run_earlier;
 use crate::stage::report_of;
+use audit_rules::AuditAnswer;
 use ddc_base::{Bytes, OutOfMemory};
 use recipe::Recipe;
 use std::alloc::Global;
-use audit_rules::AuditAnswer;
 
 /// What the audit of a recipe and its inputs comes to.
 ///
 /// Between two stages nothing is kept but what those that are done came to: a stage's guest is given up before the next one starts.
-pub fn run_bench(alloc: Global, recipe: &Recipe, inputs: &[Bytes]) -> Result<AuditAnswer, OutOfMemory>
+pub fn run_bench(
+    alloc: Global,
+    recipe: &Recipe,
+    inputs: &[Bytes],
+) -> Result<AuditAnswer, OutOfMemory>
     requires given { IsInputs recipe.now inputs.now }
     ensures answer { IfOk result (λ answer. answer ≡ bench recipe.now inputs.now) }
     ensures form { IfOk result IsAuditAnswer }

@@ -12,11 +12,11 @@ ghost use Rattle.audit_rules.specs.Valid.{AreDone, IsAt, IsInputs};
 use crate::place::Moved;
 use crate::stage::{Done, start_stage};
 use crate::stage_run::run_slice;
+use audit_rules::{RunCause, StageFault};
 use ddc_base::{Bytes, ListOf, OutOfMemory};
 use guest_run::{Guest, RunRam};
 use recipe::{Recipe, Stage};
 use std::alloc::Global;
-use audit_rules::{StageFault, RunCause};
 
 /// A stage that is not done.
 #[derive(Clone, Copy)]

@@ -9,10 +9,10 @@ ghost use Rattle.audit_rules.specs.Valid.{AreDone};
 
 use crate::place::AuditPlace;
 use crate::stage::{Done, report_of, start_stage};
+use audit_rules::{AuditAnswer, RunCause, StageFault};
 use ddc_base::{Bytes, OutOfMemory};
 use recipe::Recipe;
 use std::alloc::Global;
-use audit_rules::{AuditAnswer, StageFault, RunCause};
 
 /// Starts the stage that follows those that are done; where none does, makes the report.
 pub(crate) fn enter(

@@ -3,9 +3,9 @@
 ghost use Rattle.std.specs.Prelude.{◌≡◌};
 
 use crate::stage::Done;
-use guest_run::{Guest, RunRam};
 use audit_rules::source_check::CheckCause;
-use audit_rules::{AuditAnswer, StageFault, RunCause};
+use audit_rules::{AuditAnswer, RunCause, StageFault};
+use guest_run::{Guest, RunRam};
 
 /// Where an audit stands.
 #[derive(Drop)]

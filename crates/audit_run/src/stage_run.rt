@@ -11,11 +11,11 @@ ghost use Rattle.audit_rules.specs.Valid.{IsAt, IsInputs};
 
 use crate::place::Moved;
 use crate::stage::{Done, exited};
+use audit_rules::{RunCause, StageFault};
 use ddc_base::{Bytes, OutOfMemory};
 use guest_run::{Guest, RunEnd, RunRam};
 use recipe::{Recipe, Stage};
 use std::alloc::Global;
-use audit_rules::{StageFault, RunCause};
 
 /// At most `most` steps of a stage, which end with the stage's run.
 pub(crate) fn run_slice(

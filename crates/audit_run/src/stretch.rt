@@ -7,14 +7,14 @@ ghost use Rattle.audit_rules.specs.Positions.{at, stage_closed, forward_from, to
 ghost use Rattle.audit_rules.specs.Valid.{AreDone, IsInputs, IsPosition};
 
 use crate::entering::enter;
-use crate::place::{EndedGuest, Moved, AuditPlace};
+use crate::place::{AuditPlace, EndedGuest, Moved};
 use crate::stage::Done;
 use crate::stage_run::run_slice;
+use audit_rules::AuditAnswer;
 use ddc_base::{Bytes, OutOfMemory};
 use guest_run::{Guest, RunRam};
 use recipe::Recipe;
 use std::alloc::Global;
-use audit_rules::AuditAnswer;
 
 /// A stage is done: its guest is given up where it is not to be kept.
 fn leave(place: &mut AuditPlace, ended: EndedGuest)
@@ -102,7 +102,14 @@ fn stretch(
         done.new.items place.new) }
 {
     let (taken, moved) = match place {
-        AuditPlace::Running(guest) => run_present(alloc, recipe, inputs, done.as_slice(), guest, most)?,
+        AuditPlace::Running(guest) => run_present(
+            alloc,
+            recipe,
+            inputs,
+            done.as_slice(),
+            guest,
+            most,
+        )?,
         AuditPlace::Ready | AuditPlace::Over(_) => return Ok(most),
     };
     match moved {

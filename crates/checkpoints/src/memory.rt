@@ -10,7 +10,7 @@ ghost use Rattle.checkpoints.specs.Inside.Parts.{RefusesMemory};
 use crate::file_parts::RestoreRefusal;
 use crate::memory_parts::{are_mapped, fill_pages, map_runs};
 use paged_mem::Ram;
-use save_format::state_text::{MOST_PAGES, StateParts, Run};
+use save_format::state_text::{MOST_PAGES, Run, StateParts};
 use std::alloc::Global;
 
 /// The memory that a text says. Its runs are judged before anything is mapped, so that a short text asks for little memory.

@@ -16,7 +16,7 @@ use guest_run::{Guest, fit_together};
 use mem_files::Files;
 use paged_mem::Ram;
 use rv64_machine::{Hart, Reservation};
-use save_format::state_text::{NumberedDescriptor, File, StateParts, Reserved};
+use save_format::state_text::{File, NumberedDescriptor, Reserved, StateParts};
 use std::alloc::Global;
 
 /// The guest that a text says: `Range` where a count or a range is that of no guest, and only then `FileRef`, where a reference is.
@@ -106,7 +106,10 @@ fn push_files<'a>(list: &mut FileParts<'a>, files: &[File<'a>]) -> Result<(), Ou
     Ok(())
 }
 
-fn push_descriptors(list: &mut FileParts<'_>, descriptors: &[NumberedDescriptor]) -> Result<(), OutOfMemory>
+fn push_descriptors(
+    list: &mut FileParts<'_>,
+    descriptors: &[NumberedDescriptor],
+) -> Result<(), OutOfMemory>
     requires none { list.old.open_files ≡ [] }
     requires rise { InTurn IsDescriptor after_descriptor 0 (map descriptor_view descriptors.now) }
     ensures { OnOk result (list.new ≡ record list.old { open_files = map descriptor_view descriptors.now }) }

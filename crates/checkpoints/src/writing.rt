@@ -10,7 +10,7 @@ use ddc_base::{Bytes, OutOfMemory};
 use guest_run::Guest;
 use paged_mem::Ram;
 use rv64_machine::Hart;
-use save_format::state_text::{StateParts, Reserved, descriptors_of, files_of, put_parts};
+use save_format::state_text::{Reserved, StateParts, descriptors_of, files_of, put_parts};
 use std::alloc::Global;
 
 /// The one text of a guest's state that has the second form.
@@ -36,7 +36,10 @@ pub fn put_state<R: Ram>(
 }
 
 /// What a guest's state says. Contents are borrowed.
-pub(crate) fn parts_of<R: Ram>(alloc: Global, guest: &Guest<R>) -> Result<StateParts<'_>, OutOfMemory>
+pub(crate) fn parts_of<R: Ram>(
+    alloc: Global,
+    guest: &Guest<R>,
+) -> Result<StateParts<'_>, OutOfMemory>
     ensures seen { IfOk result (λ parts. state_view parts ≡ state_of guest.now) }
     ensures text { IfOk result (λ parts. IsStateText (state_view parts)) }
 {

@@ -4,11 +4,11 @@
 
 use ddc_app::{Status, run};
 use ddc_base::{DirShelf, OutOfMemory, WriterSink};
-use wheeler::Assembly;
 use prompt::ReaderPrompt;
 use std::env;
 use std::io::{self, ErrorKind, Input};
 use std::process::ExitCode;
+use wheeler::Assembly;
 
 /// The words of the command line without the program's own name. They are none where a word is not UTF-8.
 fn command_line(rt: &HostRuntime) -> Result<Vec<String>, OutOfMemory> {

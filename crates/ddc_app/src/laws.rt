@@ -33,8 +33,8 @@ ghost use Rattle.verify_commands.specs.ChainTexts.{chain_text};
 ghost use Rattle.audit_rules.specs.Bench.{all_equal};
 
 use audit_chain::laws::composed;
-use wheeler::Meaning;
 use verifier::conclusion::laws::a_true_report_shows;
+use wheeler::Meaning;
 
 /// An audit's own report is accepted: where `audit RECIPE REPORT` over files, of which those that it loads are found to be bytes, comes to 0 or 3,
 /// `verify RECIPE REPORT` over the files afterwards comes to the same.

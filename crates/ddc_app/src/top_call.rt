@@ -19,12 +19,12 @@ use crate::laws::{chained, verified};
 use audit_commands::{audit, delta_resume, delta_start, demo, part, resume, show};
 use command_plan::{Answer, Status, Stop, usage};
 use ddc_base::{PutFail, Shelf, Sink};
-use wheeler::Meaning;
 use prompt::Prompt;
 use stage_commands::{cut, ends, left, segment, step};
 use std::alloc::Global;
 use tool_commands::{asm, hex0, kaem, kaem_verify, list, run};
 use verify_commands::{chain, verify};
+use wheeler::Meaning;
 
 /// Everything that the program does: it takes the words of the command line, without the program's own name, and answers the
 /// status that the program ends with. docs/reference/command-line.md has the commands and the statuses.

@@ -3,11 +3,11 @@
 //! The rules, with their public sources, are in docs/reference/running.md.
 #![tactic(auto)]
 
+mod borrowed;
 mod fitting;
 mod given;
 mod guest;
 pub mod laws;
-mod borrowed;
 mod placing;
 mod run;
 mod run_box;

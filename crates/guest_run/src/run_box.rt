@@ -3,8 +3,8 @@ ghost use Rattle.mem_files.specs.Names.{is_file_name, stripped};
 ghost use Rattle.std.specs.FinMap as map;
 ghost use Rattle.std.specs.Prelude.{◌≡◌, ◌^◌, ◌≤◌, [], ◌∷◌, ◌++◌, All, OnErr, OnOk};
 
-use crate::given::GivenFiles;
 use crate::borrowed::Borrowed;
+use crate::given::GivenFiles;
 use ddc_base::OutOfMemory;
 use mem_files::{MAX_CONTENT, MAX_NAMES, PlaceRefusal, is_file_name, strip};
 use std::alloc::Global;

@@ -51,7 +51,11 @@ fn left_after(texts: &[Borrowed], most: u64) -> Option<u64>
 }
 
 /// The stack of a program with these texts, which fit.
-pub(crate) fn stack_of(alloc: Global, args: &[Borrowed], env: &[Borrowed]) -> Result<Stack, OutOfMemory>
+pub(crate) fn stack_of(
+    alloc: Global,
+    args: &[Borrowed],
+    env: &[Borrowed],
+) -> Result<Stack, OutOfMemory>
     requires { start_size args.now env.now ≤ 131072 }
     ensures { IfOk result (λ stack. (stack.at ≡ stack_pointer args.now env.now) × (stack.bytes.items ≡ stack_bytes args.now env.now)) }
 {

@@ -3,9 +3,9 @@
 use ddc_base::{Bytes, MemSink, OutOfMemory, PutFail, read_hex};
 use guest_run::RunBox;
 use prompt::{MemPrompt, converse};
-use step_debug::Session;
 use std::alloc::Global;
 use std::process::Abort;
+use step_debug::Session;
 
 /// copy.elf, 232 bytes: header, one program header, 26 instructions from 0x10078 on, and the names `in` and `out`.
 const COPY: &str =

@@ -132,7 +132,10 @@ fn run(guest: Guest<RunRam>, most: u64) -> Result<Result<Exited, CommandStop>, O
 }
 
 /// Runs a guest up to its exit with 0, within so many steps: the line of the command.
-fn exit(guest: &mut Guest<RunRam>, most: u64) -> Result<Result<CommandLine, CommandStop>, OutOfMemory>
+fn exit(
+    guest: &mut Guest<RunRam>,
+    most: u64,
+) -> Result<Result<CommandLine, CommandStop>, OutOfMemory>
     requires fresh { guest.old.steps ≡ 0 }
     requires some { 1 ≤ most }
     requires few { most ≤ 2 ^ 48 }

@@ -7,7 +7,7 @@ ghost use Rattle.m1_lang.specs.Words.Meanings.{MeansResult, MeansTokens, front_b
 ghost use Rattle.m1_lang.specs.Representation.Passes.{TakesTokens, values_in};
 
 use crate::definitions::Definitions;
-use crate::words::{WordMeaning, WordFault, meaning_of};
+use crate::words::{WordFault, WordMeaning, meaning_of};
 use hex_langs::items::{Begun, Halt, Items, LabelName, Open, byte_of, take, take_byte, take_four};
 
 /// Takes bytes.

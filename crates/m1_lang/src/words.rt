@@ -7,6 +7,6 @@ mod numbers;
 mod splitting;
 mod value;
 
-pub use meaning::{WordMeaning, WordFault, meaning_of};
+pub use meaning::{WordFault, WordMeaning, meaning_of};
 pub use splitting::{Ahead, next_word};
 pub use value::Value;

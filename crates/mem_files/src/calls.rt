@@ -13,7 +13,7 @@ use crate::table::FileTable;
 use crate::{
     Access, EBADF, EEXIST, EFBIG, EINVAL, EMFILE, ENOENT, ENOSPC, ESPIPE, FileRefusal, MAX_CONTENT,
     MAX_NAME, MAX_NAMES, MAX_OPEN_FILES, MAX_TOTAL, Mode, O_ACCMODE, O_APPEND, O_CREAT, O_EXCL,
-    O_RDONLY, O_TRUNC, O_WRONLY, PlaceRefusal, SEEK_CUR, SEEK_END, SEEK_SET, OpenFile,
+    O_RDONLY, O_TRUNC, O_WRONLY, OpenFile, PlaceRefusal, SEEK_CUR, SEEK_END, SEEK_SET,
 };
 use ddc_base::OutOfMemory;
 use std::alloc::{AllocError, Global};

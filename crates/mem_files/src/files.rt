@@ -10,7 +10,7 @@ ghost use Rattle.mem_files.specs.Replies.{Replies, Places, Grows};
 ghost use Rattle.mem_files.specs.Sound.{AreBytes, IsSound};
 
 use crate::table::FileTable;
-use crate::{FileRefusal, FileView, PlaceRefusal, OpenFile};
+use crate::{FileRefusal, FileView, OpenFile, PlaceRefusal};
 use ddc_base::OutOfMemory;
 use std::alloc::Global;
 use std::marker::Model;

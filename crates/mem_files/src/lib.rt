@@ -11,15 +11,15 @@ mod files;
 pub mod laws;
 mod names;
 mod numbers;
-mod restoring;
 mod open_file;
+mod restoring;
 mod stored;
 mod table;
 mod view;
 
 pub use files::Files;
 pub use names::{is_file_name, is_stripped_name, strip};
-pub use open_file::{Access, FileRefusal, Mode, PlaceRefusal, OpenFile};
+pub use open_file::{Access, FileRefusal, Mode, OpenFile, PlaceRefusal};
 pub use view::FileView;
 
 /// No such file (Linux, asm-generic/errno-base.h, as the other error numbers).

@@ -290,7 +290,11 @@ fn programs_have_sources(said: &RecipeContents, stages: &[Stage]) -> Result<(), 
     Ok(())
 }
 
-fn program_has_source(said: &RecipeContents, number: u32, stage: &Stage) -> Result<(), RecipeRefusal>
+fn program_has_source(
+    said: &RecipeContents,
+    number: u32,
+    stage: &Stage,
+) -> Result<(), RecipeRefusal>
     requires few_inputs { length said.now.inputs ≤ 256 }
     requires few_stages { length said.now.stages ≤ 256 }
     ensures refers { Gives (λ x. x) result (program_has_source said.now number stage.now) }

@@ -4,10 +4,10 @@ ghost use Rattle.std.specs.Prelude.{◌≡◌, ◌∷◌, [], IfOk, decimal, str
 ghost use Rattle.command_plan.specs.Causes.Texts.{spaced};
 ghost use Rattle.recipe_plan.specs.NotDone.{start_cause_text, run_cause_text, check_cause_text};
 
-use ddc_base::OutOfMemory;
-use std::alloc::Global;
 use audit_rules::source_check::CheckCause;
 use audit_rules::{RunCause, StartCause};
+use ddc_base::OutOfMemory;
+use std::alloc::Global;
 
 /// A run that made no artefact.
 pub fn run_cause(alloc: Global, cause: RunCause) -> Result<String, OutOfMemory>

@@ -8,11 +8,11 @@ ghost use Rattle.command_plan.specs.Plan.{needs_all};
 ghost use Rattle.command_plan.specs.Steps.{Obtains};
 ghost use Rattle.recipe_plan.specs.Recipes.{needs_inputs, needs_inputs_within};
 
+use audit_rules::MAX_INPUT;
 use command_plan::{Stop, fetch};
 use ddc_base::Shelf;
 use recipe::{Input, Inputs, Recipe};
 use std::alloc::Global;
-use audit_rules::MAX_INPUT;
 
 /// The most bytes of all inputs together that a command takes.
 pub const INPUTS_LIMIT: u64 = 1_073_741_824;

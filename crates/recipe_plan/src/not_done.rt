@@ -7,15 +7,20 @@ ghost use Rattle.command_plan.specs.Steps.{Says};
 ghost use Rattle.recipe_plan.specs.NotDone.{check_failed_line, run_failed_line, stage_name, unfinished};
 
 use crate::causes::{check_cause, run_cause};
+use audit_rules::source_check::CheckCause;
+use audit_rules::{RunCause, StageFault};
 use command_plan::{Answer, Status, Stop};
 use ddc_base::{Bytes, OutOfMemory};
 use recipe::Recipe;
 use std::alloc::Global;
-use audit_rules::source_check::CheckCause;
-use audit_rules::{StageFault, RunCause};
 
 /// The answer of a stage that is not done.
-pub fn unfinished(alloc: Global, recipe: &Recipe, number: u32, fault: StageFault) -> Result<Answer, Stop>
+pub fn unfinished(
+    alloc: Global,
+    recipe: &Recipe,
+    number: u32,
+    fault: StageFault,
+) -> Result<Answer, Stop>
     ensures { Says (unfinished recipe.now number fault) result }
 {
     let stage = stage_name(recipe, number);

@@ -10,11 +10,11 @@ ghost use Rattle.command_plan.specs.Steps.{Obtains, Says};
 ghost use Rattle.recipe_plan.specs.Reports.{compared_status, needs_report};
 ghost use Rattle.command_plan.specs.Texts.{report_line};
 
+use audit_rules::all_equal;
 use command_plan::{Answer, Status, Stop, fetch, texts};
 use ddc_base::{Bytes, Shelf};
 use report::{CompareLine, Report, ReportRefusal};
 use std::alloc::Global;
-use audit_rules::all_equal;
 
 /// The most bytes of a report that is loaded. The text of every report has fewer.
 const REPORT_LIMIT: u64 = 1_073_741_824;

@@ -53,7 +53,11 @@ fn longer_line_of(alloc: Global, text: &[u8]) -> Result<Option<ReportLine>, OutO
 
 /// A line with more than one word, by its first word.
 #[tactic(auto, unfolding(crate::specs::Inside::LinesRead::line_of_kind))]
-fn line_of_kind(alloc: Global, kind: &[u8], fields: &[u8]) -> Result<Option<ReportLine>, OutOfMemory>
+fn line_of_kind(
+    alloc: Global,
+    kind: &[u8],
+    fields: &[u8],
+) -> Result<Option<ReportLine>, OutOfMemory>
     ensures { IfOk result (λ line. line ≡ line_of_kind kind.now fields.now) }
 {
     if kind == "ddc-report".as_bytes() {

@@ -187,7 +187,11 @@ fn after_stream1(
 }
 
 #[tactic(auto, unfolding(crate::specs::Inside::States::step))]
-fn after_stream2(front: Front, mut stage: Opened, line: ReportLine) -> Result<Option<State>, OutOfMemory>
+fn after_stream2(
+    front: Front,
+    mut stage: Opened,
+    line: ReportLine,
+) -> Result<Option<State>, OutOfMemory>
     ensures { IfOk result (λ next. next ≡ step (state.Leaving front stage) line) }
 {
     match line {

@@ -13,7 +13,7 @@ ghost use Rattle.save_format.specs.Inside.Fronts.{ReadsFront, left_and_made_at};
 ghost use Rattle.save_format.specs.Inside.Passing.{GoesPast};
 ghost use Rattle.save_format.specs.Spelled.{digest_text, left_text, mark_text};
 
-use crate::byte_fields::{Cursor, TextItem, ReadStop, WrongField, put_blob16, put_u32};
+use crate::byte_fields::{Cursor, ReadStop, TextItem, WrongField, put_blob16, put_u32};
 use crate::parts::{InputPart, StageFront, StagePart};
 use ddc_base::digests::Digest;
 use ddc_base::{Bytes, OutOfMemory};

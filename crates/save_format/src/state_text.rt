@@ -16,7 +16,7 @@ pub use listing::{descriptors_of, files_of};
 pub use mapping::{MOST_PAGES, is_mappable};
 pub(crate) use mapping::{runs_mappable, state_mappable};
 pub(crate) use parts::FrontNumbers;
-pub use parts::{NumberedDescriptor, File, Page, StateParts, Reserved, Run};
+pub use parts::{File, NumberedDescriptor, Page, Reserved, Run, StateParts};
 pub(crate) use reading::{heap_of, parts_in, pass_state_in, reservation_of};
 pub use reading::{TextRefusal, read};
 pub use writing::put_parts;

@@ -24,6 +24,7 @@ use crate::exits::{output_left, run_failed};
 use crate::names::{MOST_STATES, are_stage_words, piece_name};
 use crate::ready::{Ready, make_ready, stage_after};
 use crate::texts;
+use audit_rules::RunCause;
 use audit_run::stage::start_stage;
 use checkpoints::write_state;
 use command_plan::words::steps_of;
@@ -33,7 +34,6 @@ use guest_run::{Guest, RunEnd, RunRam};
 use mem_files::Files;
 use recipe::Stage;
 use std::alloc::Global;
-use audit_rules::RunCause;
 
 /// Performs the command on the words after its name.
 #[tactic(auto, using(command_plan::proofs::Performing::performing))]

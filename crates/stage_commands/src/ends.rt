@@ -24,6 +24,7 @@ use crate::exits::{output_left, run_failed};
 use crate::names::{are_stage_words, fetch_state, states_of};
 use crate::ready::{Ready, make_ready, stage_after};
 use crate::texts;
+use audit_rules::{RunCause, StartCause};
 use audit_run::stage::{box_of, content};
 use command_plan::{Answer, Status, Stop, usage};
 use ddc_base::Shelf;
@@ -32,7 +33,6 @@ use mem_files::Files;
 use recipe::Stage;
 use segments::{EndAnswer, StartAnswer, StartFault, StateFault, check_end, check_start};
 use std::alloc::Global;
-use audit_rules::{RunCause, StartCause};
 
 /// Performs the command on the words after its name.
 #[tactic(auto, using(command_plan::proofs::Performing::performing))]

@@ -9,11 +9,11 @@ ghost use Rattle.command_plan.specs.Steps.{Says};
 ghost use Rattle.stage_commands.specs.Exits.{output_left, run_failed};
 ghost use Rattle.stage_commands.specs.Inside.Going.{IsLeft};
 
+use audit_rules::RunCause;
 use command_plan::{Answer, Stop};
 use mem_files::Files;
 use recipe::{Output, Stage};
 use std::alloc::Global;
-use audit_rules::RunCause;
 
 /// What stands at the stage's output after an exit with a status, or why nothing does.
 pub(crate) fn output_left<'a>(

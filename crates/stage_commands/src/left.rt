@@ -15,6 +15,7 @@ ghost use Rattle.stage_commands.specs.Inside.Leaving.{left_after};
 ghost use Rattle.stage_commands.specs.Left.{absent_status, are_left_words, run_left, ends_left, bytes_left_at, left_by, left_of_stage, left_files, file_left_line, left_plan, left_status, none_left_line};
 
 use crate::earlier::{run_before, stages_before};
+use audit_rules::{RunCause, StageFault};
 use audit_run::stage::{Done, start_stage};
 use command_plan::words::{are_two_files, has_no_zero_byte};
 use command_plan::{Answer, Status, Stop, keep, usage};
@@ -25,7 +26,6 @@ use recipe::{Inputs, Recipe, Stage};
 use recipe_plan::causes::run_cause;
 use recipe_plan::{about_stage, apart, fetch_inputs, fetch_recipe, unfinished};
 use std::alloc::Global;
-use audit_rules::{StageFault, RunCause};
 
 /// Performs the command on the words after its name.
 #[tactic(auto, using(command_plan::proofs::Performing::performing))]

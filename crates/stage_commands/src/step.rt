@@ -19,6 +19,7 @@ ghost use Rattle.stage_commands.specs.Earlier.{needs_stage};
 ghost use Rattle.stage_commands.specs.Step.{are_step_words, needs_session, session_of, step_plan, step_stage};
 
 use crate::earlier::{run_before, stages_before};
+use audit_rules::{RunCause, StageFault, StartCause};
 use audit_run::stage::{Done, box_of, content};
 use command_plan::words::{has_no_zero_byte, is_file_word};
 use command_plan::{Stop, usage};
@@ -27,9 +28,8 @@ use guest_run::StartRefusal;
 use prompt::{Prompt, converse};
 use recipe::{Inputs, Recipe, Stage};
 use recipe_plan::{fetch_inputs, fetch_recipe, unfinished};
-use step_debug::Session;
 use std::alloc::Global;
-use audit_rules::{StageFault, RunCause, StartCause};
+use step_debug::Session;
 
 /// The most lines of a session.
 const MOST_LINES: u32 = 65_536;

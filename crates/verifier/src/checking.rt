@@ -12,6 +12,7 @@ ghost use Rattle.verifier.specs.Inside.Holdings.{IsHeld, so_far};
 ghost use Rattle.audit_rules.specs.Contents.{check_of, text_of};
 
 use crate::held::Held;
+use audit_rules::source_check::{same_kind, same_name};
 use ddc_base::languages::Language;
 use ddc_base::{Bytes, OutOfMemory};
 use hex_langs::hex0;
@@ -20,7 +21,6 @@ use hex_langs::link::link;
 use m1_lang::{M1Refusal, expand};
 use recipe::{Source, SourceLanguage, Stage};
 use std::alloc::Global;
-use audit_rules::source_check::{same_kind, same_name};
 
 /// Whether an artefact is right by its stage's check, or unchecked.
 #[tactic(auto, unfolding(audit_rules::specs::Contents::check_of))]

@@ -16,11 +16,11 @@ use crate::held::Held;
 use crate::part::{Part, Verdict};
 use crate::replay::replay;
 use crate::stop::JudgingStop;
+use audit_rules::all_equal;
 use ddc_base::{Bytes, ListOf, OutOfMemory, first_difference};
 use recipe::{Inputs, Recipe, Stage};
 use report::{CompareLine, Compared, InputLine, Report, StageLine};
 use std::alloc::Global;
-use audit_rules::all_equal;
 
 /// Replays a report, which it doesn't believe.
 ///

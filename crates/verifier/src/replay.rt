@@ -17,13 +17,13 @@ use crate::held::Held;
 use crate::left::has_left;
 use crate::part::Part;
 use crate::stop::JudgingStop;
+use audit_rules::MAX_ARTEFACTS;
 use ddc_base::{Bytes, OutOfMemory};
 use guest_run::{Guest, RunEnd, RunRam, StartRefusal};
 use mem_files::Files;
 use recipe::{Output, Stage};
 use report::StageLine;
 use std::alloc::Global;
-use audit_rules::MAX_ARTEFACTS;
 
 /// The artefact of a stage whose line is true; `total` is the bytes of the artefacts so far.
 #[tactic(auto, unfolding(crate::specs::Faults::replayed))]
@@ -69,7 +69,12 @@ fn left(
 }
 
 /// The guest of a stage's program, which has exited with 0 at exactly this step.
-fn exited(alloc: Global, held: &Held<'_>, stage: &Stage, step: u64) -> Result<Guest<RunRam>, JudgingStop>
+fn exited(
+    alloc: Global,
+    held: &Held<'_>,
+    stage: &Stage,
+    step: u64,
+) -> Result<Guest<RunRam>, JudgingStop>
     requires held { IsHeld held.now }
     requires known { Contains held.now.recipe.now.stages stage.now }
     ensures { Judged (λ guest. guest.world) (or_fails part.Run (left_at (start_of (program_of held.now.recipe.now (so_far held.now) stage.now) (box_of held.now.recipe.now (so_far held.now) stage.now)) stage.now.steps step)) result }

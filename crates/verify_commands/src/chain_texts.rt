@@ -8,8 +8,8 @@ ghost use Rattle.verify_commands.specs.ChainTexts.{audit_line, chain_text, remai
 use crate::texts::{put_pair, put_word};
 use audit_chain::{ChainLine, ChainLinks, remaining};
 use ddc_base::{Bytes, Name, OutOfMemory};
-use wheeler::Assumption;
 use std::alloc::Global;
+use wheeler::Assumption;
 
 /// A text after the line that says of which audit it is.
 #[tactic(auto, unfolding(crate::specs::ChainTexts::audit_line))]

@@ -7,14 +7,14 @@ ghost use Rattle.verify_commands.specs.Texts.{assumed_text, assumption_line, hea
 ghost use Rattle.wheeler.specs.Routes.{assumed_named};
 ghost use Rattle.recipe.specs.Lookups.{stage_at};
 
+use audit_rules::all_equal;
 use ddc_base::{Bytes, Name, OutOfMemory};
-use wheeler::{Assumption, Assumptions, assumptions, assumptions_for};
 use recipe::Recipe;
 use recipe_plan::texts::compared_lines;
 use report::CompareLine;
 use std::alloc::Global;
 use verifier::Part;
-use audit_rules::all_equal;
+use wheeler::{Assumption, Assumptions, assumptions, assumptions_for};
 
 /// The first part of a report that is not true.
 #[tactic(auto, unfolding(crate::specs::Texts::refuted_line))]

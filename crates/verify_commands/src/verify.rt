@@ -17,12 +17,12 @@ use crate::texts;
 use command_plan::words::are_two_files;
 use command_plan::{Answer, Status, Stop, usage};
 use ddc_base::Shelf;
-use wheeler::Meaning;
 use recipe::{Inputs, Recipe};
 use recipe_plan::{apart, compared_status, fetch_inputs, fetch_recipe, fetch_report};
 use report::{CompareLine, Report};
 use std::alloc::Global;
 use verifier::{Part, Verdict};
+use wheeler::Meaning;
 
 /// Performs the command on the words after its name. It does the same whatever sources mean.
 #[tactic(auto, using(command_plan::proofs::Performing::performing))]

@@ -8,6 +8,7 @@ ghost use Rattle.audit_rules.specs.declared.source_check.cause.CheckCause.TheVar
 ghost use Rattle.std.specs.Prelude.{◌≡◌, ◌≤◌, ◌^◌, IfOk, Some};
 
 use crate::check::items::first_other_item;
+use audit_rules::source_check::{CheckCause, HexCause, M1Cause};
 use ddc_base::languages::Language;
 use ddc_base::{OutOfMemory, first_difference};
 use hex_langs::hex0;
@@ -15,7 +16,6 @@ use hex_langs::items::{HexRefusal, Items, items1, items2};
 use hex_langs::link::link;
 use m1_lang::{M1Refusal, expand};
 use std::alloc::Global;
-use audit_rules::source_check::{CheckCause, HexCause, M1Cause};
 
 /// What is wrong with an artefact of a source in a language, from the address `base` on, which hex0 and M1 don't know; `None` where
 /// nothing is.

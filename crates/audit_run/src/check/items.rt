@@ -4,8 +4,8 @@ ghost use Rattle.hex_langs.specs.declared.items.item.Item.{Item as ItemOf};
 ghost use Rattle.audit_rules.specs.SourceCheck.Checks.{first_other_item, same_item};
 ghost use Rattle.std.specs.Prelude.{◌≡◌, ◌<◌, length, slice_index_or};
 
-use hex_langs::items::{Item, Items};
 use audit_rules::source_check::{same_kind, same_name};
+use hex_langs::items::{Item, Items};
 
 /// The number, from 0, of the first item at which two lists differ or exactly one of them has ended.
 pub(crate) fn first_other_item(ours: &Items<'_>, theirs: &Items<'_>) -> Option<u64>

@@ -12,10 +12,10 @@ ghost use Rattle.audit_rules.specs.Stages.{artefact_bytes};
 ghost use Rattle.audit_rules.specs.Valid.{AreDone, AreFinished, HasMark, IsFinished, IsLeftLine, IsSmallMark};
 
 use crate::stage::Done;
+use audit_rules::MAX_ARTEFACTS;
 use mem_files::{MAX_CONTENT, MAX_NAMES, is_stripped_name};
 use recipe::{Output, Recipe, Stage};
 use report::{LeftLine, Mark};
-use audit_rules::MAX_ARTEFACTS;
 
 /// Whether these can be the first stages of the recipe that are done.
 pub(crate) fn are_done(recipe: &Recipe, done: &[Done]) -> bool

@@ -18,6 +18,7 @@ ghost use Rattle.audit_rules.specs.Valid.{IsInputs, IsPosition};
 use crate::save::judging::are_done;
 use crate::save::origin::is_text_of;
 use crate::stage::Done;
+use audit_rules::Finished;
 use checkpoints::{RestoreRefusal, are_mappable, patched_guest_of};
 use ddc_base::digests::Digest;
 use ddc_base::{Bytes, OutOfMemory, digest};
@@ -27,7 +28,6 @@ use save_format::state_text::{self, TextRefusal};
 use save_format::{InputPart, Parts, StagePart, is_mappable};
 use std::alloc::Global;
 use std::marker::Model;
-use audit_rules::Finished;
 
 /// Why a text is no save of an audit.
 #[derive(Clone, Copy, Debug, PartialEq, Eq)]

@@ -1,9 +1,9 @@
 ghost use Rattle.std.specs.Prelude.{◌≡◌};
 ghost use Rattle.report.specs.Marks.{mark_of};
 
+use audit_rules::Finished;
 use report::Mark;
 use std::marker::Model;
-use audit_rules::Finished;
 
 /// A stage that is done, seen as `Finished`, with the mark of its artefact, so that this is taken once.
 #[derive(Drop)]

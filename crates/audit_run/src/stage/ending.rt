@@ -11,12 +11,12 @@ ghost use Rattle.audit_rules.specs.Stages.{artefact_bytes, exited_with, finished
 use crate::stage::done::Done;
 use crate::stage::left::{Known, left_lines};
 use crate::stage::sources::check_of;
+use audit_rules::{Finished, MAX_ARTEFACTS, RunCause, StageFault};
 use ddc_base::{Bytes, OutOfMemory};
 use mem_files::Files;
 use recipe::{Output, Recipe, Stage};
 use report::Mark;
 use std::alloc::Global;
-use audit_rules::{StageFault, Finished, MAX_ARTEFACTS, RunCause};
 
 /// What a stage's run comes to whose program exited with a status at a step, counted from 1.
 ///

@@ -13,12 +13,12 @@ ghost use Rattle.audit_rules.specs.Stages.{contents, start_stage};
 
 use crate::stage::contents::content;
 use crate::stage::done::Done;
+use audit_rules::StartCause;
 use ddc_base::{Bytes, OutOfMemory};
 use guest_run::{Guest, RunBox, RunRam, StartRefusal};
 use mem_files::PlaceRefusal;
 use recipe::{Recipe, Stage};
 use std::alloc::Global;
-use audit_rules::StartCause;
 
 /// What a stage's program is given; texts and contents are borrowed.
 pub fn box_of<'a>(

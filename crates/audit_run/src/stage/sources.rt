@@ -9,11 +9,11 @@ ghost use Rattle.audit_rules.specs.Stages.{contents};
 use crate::check::check;
 use crate::stage::contents::content;
 use crate::stage::done::Done;
+use audit_rules::source_check::CheckCause;
 use ddc_base::languages::Language;
 use ddc_base::{Bytes, Name, OutOfMemory};
 use recipe::{Recipe, Source, SourceLanguage, Stage};
 use std::alloc::Global;
-use audit_rules::source_check::CheckCause;
 
 /// What is wrong with a stage's artefact; `None` where it is right, or unchecked.
 #[tactic(auto, unfolding(audit_rules::specs::Contents::check_of))]

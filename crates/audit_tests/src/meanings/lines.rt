@@ -3,11 +3,11 @@
 use crate::meanings::recipes::{CHECKED, FRONT, INPUTS, KEYS, UNCHECKED};
 use crate::meanings::with_stages;
 use ddc_base::{Name, OutOfMemory};
-use wheeler::{Assembly, Assumption, assumptions, laws};
 use recipe::{Recipe, read};
 use std::alloc::Global;
 use std::mem::drop;
 use std::process::Abort;
+use wheeler::{Assembly, Assumption, assumptions, laws};
 
 fn text(name: &Name) -> &str {
     std::str::from_utf8(name.bytes()).unwrap_or("no text")

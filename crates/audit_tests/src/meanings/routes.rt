@@ -4,11 +4,11 @@ ghost use Rattle.std.specs.Prelude.{◌≤◌, length};
 
 use crate::meanings::lines::{put_lines, recipe_text};
 use ddc_base::OutOfMemory;
-use wheeler::assumptions_for;
 use recipe::{Recipe, read};
 use std::alloc::Global;
 use std::mem::drop;
 use std::process::Abort;
+use wheeler::assumptions_for;
 
 /// Stages, and for each stage a line with its number and the lines of its route.
 type Row = (&'static str, &'static str);

@@ -10,7 +10,9 @@ ghost use Rattle.checkpoints.specs.FileParts.Inside.Judged.{content_size, stream
 ghost use Rattle.checkpoints.specs.FileParts.Inside.Views.{view_of};
 ghost use Rattle.std.specs.Borrow.{Bor};
 
-use mem_files::{FileView, MAX_CONTENT, MAX_NAMES, MAX_OPEN_FILES, MAX_TOTAL, OpenFile, is_stripped_name};
+use mem_files::{
+    FileView, MAX_CONTENT, MAX_NAMES, MAX_OPEN_FILES, MAX_TOTAL, OpenFile, is_stripped_name,
+};
 
 /// A file has a name or a descriptor, so its number is below the most of both together.
 const MAX_FILES: u32 = 5_120;
@@ -54,7 +56,9 @@ fn is_good_open_file(fd: u32, open_file: OpenFile) -> bool
 fn are_good_open_files(open_files: &[(u32, OpenFile)]) -> bool
     ensures { result ≡ list_all is_good_open_file open_files.now }
 {
-    open_files.iter().all(|(fd, open_file)| is_good_open_file(*fd, *open_file))
+    open_files
+        .iter()
+        .all(|(fd, open_file)| is_good_open_file(*fd, *open_file))
 }
 
 fn are_good_streams(streams: &[&[u8]]) -> bool
@@ -188,7 +192,9 @@ fn is_of(number: u32, open_file: OpenFile) -> bool
 fn is_open(open_files: &[(u32, OpenFile)], number: u32) -> bool
     ensures { result ≡ list_any (λ held. is_of number held.1) open_files.now }
 {
-    open_files.iter().any(|(_, open_file)| is_of(number, *open_file))
+    open_files
+        .iter()
+        .any(|(_, open_file)| is_of(number, *open_file))
 }
 
 /// Does a file have a name, or one of these descriptors?
@@ -201,7 +207,9 @@ fn is_used(open_files: &[(u32, OpenFile)], file: &FileView<'_>) -> bool
 fn are_all_listed(files: &[FileView<'_>], open_files: &[(u32, OpenFile)]) -> bool
     ensures { result ≡ list_all (λ held. is_listed (map listed files.now) held.1) open_files.now }
 {
-    open_files.iter().all(|(_, open_file)| is_listed(files, *open_file))
+    open_files
+        .iter()
+        .all(|(_, open_file)| is_listed(files, *open_file))
 }
 
 fn are_all_used(files: &[FileView<'_>], open_files: &[(u32, OpenFile)]) -> bool
@@ -212,7 +220,11 @@ fn are_all_used(files: &[FileView<'_>], open_files: &[(u32, OpenFile)]) -> bool
 
 /// Do counts and ranges allow these?
 #[tactic(auto, using(crate::proofs::FilePartsLemmas::Tests::all_map, crate::proofs::FilePartsLemmas::Tests::sum_map, crate::proofs::FilePartsLemmas::Tests::names_count), unfolding(crate::specs::FileParts::Inside::Judged::in_range))]
-pub(crate) fn are_in_range(files: &[FileView<'_>], open_files: &[(u32, OpenFile)], streams: &[&[u8]]) -> bool
+pub(crate) fn are_in_range(
+    files: &[FileView<'_>],
+    open_files: &[(u32, OpenFile)],
+    streams: &[&[u8]],
+) -> bool
     ensures { result ≡ in_range (view_of files.now open_files.now streams.now) }
 {
     are_good_files(files)

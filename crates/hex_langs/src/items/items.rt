@@ -172,7 +172,10 @@ fn copied<'s>(item: &Item<'s>) -> Item<'s>
         Item::Label(name) => Item::Label(LabelName::new(name.bytes())),
         Item::Word(value, kind, name) => Item::Word(*value, *kind, LabelName::new(name.bytes())),
         Item::Rel(name) => Item::Rel(LabelName::new(name.bytes())),
-        Item::Gap(name, other) => Item::Gap(LabelName::new(name.bytes()), LabelName::new(other.bytes())),
+        Item::Gap(name, other) => Item::Gap(
+            LabelName::new(name.bytes()),
+            LabelName::new(other.bytes()),
+        ),
         Item::Abs(name) => Item::Abs(LabelName::new(name.bytes())),
         Item::Pad => Item::Pad,
     }

@@ -248,7 +248,10 @@ fn gap_after<'s>(size: usize, rest: &'s [u8]) -> Result<(Token<'s>, usize), Toke
     if more == 0 {
         return Err(TokenFault::BadField);
     }
-    let gap = Item::Gap(LabelName::new(&rest[..size]), LabelName::new(&second[..more]));
+    let gap = Item::Gap(
+        LabelName::new(&rest[..size]),
+        LabelName::new(&second[..more]),
+    );
     Ok((Token::Alone(gap), size + 1 + more))
 }
 

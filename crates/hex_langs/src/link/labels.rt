@@ -74,7 +74,11 @@ fn add_label<'s>(
     ensures { Adds result item.now address table.old table.new }
 {
     match item {
-        Item::Label(name) => Ok(table.insert(LabelName::new(name.bytes()), address)?.is_some()),
+        Item::Label(name) => Ok(
+            table
+                .insert(LabelName::new(name.bytes()), address)?
+                .is_some(),
+        ),
         _ => Ok(false),
     }
 }

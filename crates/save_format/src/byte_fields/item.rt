@@ -85,7 +85,10 @@ pub(crate) fn pass_counted<'a, T: TextItem<'a>>(cursor: &mut Cursor<'a>) -> Resu
 }
 
 /// A count of 4 bytes, and that many items.
-pub fn counted<'a, T: TextItem<'a>>(alloc: Global, cursor: &mut Cursor<'a>) -> Result<Vec<T>, ReadStop>
+pub fn counted<'a, T: TextItem<'a>>(
+    alloc: Global,
+    cursor: &mut Cursor<'a>,
+) -> Result<Vec<T>, ReadStop>
     ensures { GivesField (λ v. map T.seen v.items) result cursor.new (counted T.read_from T.next_least 0 cursor.old) }
 {
     let count = cursor.u32()?;

@@ -14,7 +14,9 @@ use crate::patch_text::change::Change;
 use crate::patch_text::merging::{are_same, bytes_of};
 use crate::patch_text::numbered::{from_number, taken};
 use crate::patch_text::reading::MAGIC;
-use crate::state_text::{File, FrontNumbers, Page, StateParts, heap_of, is_zero, name_of, reservation_of};
+use crate::state_text::{
+    File, FrontNumbers, Page, StateParts, heap_of, is_zero, name_of, reservation_of,
+};
 
 /// A register: another value than the base's where it is marked, else the base's.
 #[tactic(auto, unfolding(crate::specs::PatchText::PatchText::register_at))]
@@ -60,7 +62,10 @@ fn registers_of(cursor: &mut Cursor<'_>, base: &[u64; 31]) -> Result<[u64; 31], 
 
 /// The magic of a patch, and the numbers after it.
 #[tactic(auto, unfolding(crate::specs::PatchText::PatchText::patch_at, crate::specs::PatchText::PatchText::patch_body_at, crate::specs::Inside::Fronts::lists_relative_at))]
-pub(crate) fn numbers_of(cursor: &mut Cursor<'_>, base: &StateParts<'_>) -> Result<FrontNumbers, WrongField>
+pub(crate) fn numbers_of(
+    cursor: &mut Cursor<'_>,
+    base: &StateParts<'_>,
+) -> Result<FrontNumbers, WrongField>
     ensures { ReadsFront (lists_relative_at (state_view base.now)) result cursor.new (patch_at (state_view base.now) cursor.old) }
 {
     cursor.begins_with(&MAGIC)?;

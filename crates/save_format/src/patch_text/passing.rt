@@ -12,7 +12,7 @@ ghost use Rattle.save_format.specs.Inside.Fronts.{lists_relative_at};
 
 use crate::byte_fields::{Cursor, WrongField, pass_counted};
 use crate::patch_text::fields::{change_of, content, file_of, numbers_of};
-use crate::state_text::{NumberedDescriptor, File, Page, StateParts, Run, TextRefusal};
+use crate::state_text::{File, NumberedDescriptor, Page, Run, StateParts, TextRefusal};
 
 /// Goes past the changes of pages.
 #[tactic(auto, unfolding(crate::specs::PatchText::PatchText::changed_pages_at))]
@@ -49,7 +49,10 @@ fn pass_files<'a>(cursor: &mut Cursor<'a>, base: &[File<'a>]) -> Result<(), Wron
 
 /// Goes past a patch's text at the front of what is left.
 #[tactic(auto, unfolding(crate::specs::Inside::Fronts::lists_relative_at))]
-pub(crate) fn pass_patch<'a>(cursor: &mut Cursor<'a>, base: &StateParts<'a>) -> Result<(), WrongField>
+pub(crate) fn pass_patch<'a>(
+    cursor: &mut Cursor<'a>,
+    base: &StateParts<'a>,
+) -> Result<(), WrongField>
     requires { IsStateText (state_view base.now) }
     ensures { GoesPast result cursor.new (patch_at (state_view base.now) cursor.old) }
 {

@@ -117,7 +117,11 @@ pub(crate) fn patch_of<'a>(
 
 /// The state that a patch says beside its base. Contents are borrowed: what stays the base's is the base's. Each field is judged given those
 /// before it and the base, so an offset is that of the first wrong one. The form is judged first, which takes no memory.
-pub fn read<'a>(alloc: Global, base: &StateParts<'a>, text: &'a [u8]) -> Result<StateParts<'a>, TextRefusal>
+pub fn read<'a>(
+    alloc: Global,
+    base: &StateParts<'a>,
+    text: &'a [u8],
+) -> Result<StateParts<'a>, TextRefusal>
     requires { IsStateText (state_view base.now) }
     // What is read is spelled so beside the base.
     ensures found { IfOk result (λ p. IsPatched (state_view base.now) (state_view p) × (text.now ≡ text_of_patch (state_view base.now) (state_view p))) }
@@ -130,7 +134,11 @@ pub fn read<'a>(alloc: Global, base: &StateParts<'a>, text: &'a [u8]) -> Result<
 }
 
 #[tactic(auto, unfolding(crate::specs::PatchText::PatchText::parsed_patch))]
-fn all<'a>(alloc: Global, base: &StateParts<'a>, text: &'a [u8]) -> Result<StateParts<'a>, TextRefusal>
+fn all<'a>(
+    alloc: Global,
+    base: &StateParts<'a>,
+    text: &'a [u8],
+) -> Result<StateParts<'a>, TextRefusal>
     requires { IsStateText (state_view base.now) }
     ensures { ReadsStateText result (parsed_patch (state_view base.now) text.now) }
 {

@@ -210,7 +210,11 @@ fn put_files(out: &mut Bytes, base: &[File<'_>], files: &[File<'_>]) -> Result<(
 
 /// The pc, the registers that differ, and what is reserved.
 #[tactic(auto, using(crate::proofs::PatchTextLemmas::Written::written, crate::proofs::ByteFieldsLemmas::Kept::kept))]
-fn put_hart(out: &mut Bytes, base: &StateParts<'_>, parts: &StateParts<'_>) -> Result<(), OutOfMemory>
+fn put_hart(
+    out: &mut Bytes,
+    base: &StateParts<'_>,
+    parts: &StateParts<'_>,
+) -> Result<(), OutOfMemory>
     requires { length base.now.registers ≤ 31 }
     ensures ok { OnOk result (out.new ≡ out.old ++ (number_text w64 parts.now.pc ++ (marked_registers_text base.now.registers parts.now.registers
         ++ reservation_text Second (option_map reserved_view parts.now.reservation)))) }
@@ -223,7 +227,11 @@ fn put_hart(out: &mut Bytes, base: &StateParts<'_>, parts: &StateParts<'_>) -> R
 
 /// The pc, the registers that differ, what is reserved, and the heap.
 #[tactic(auto, using(crate::proofs::PatchTextLemmas::Written::written, crate::proofs::ByteFieldsLemmas::Kept::kept))]
-fn put_machine(out: &mut Bytes, base: &StateParts<'_>, parts: &StateParts<'_>) -> Result<(), OutOfMemory>
+fn put_machine(
+    out: &mut Bytes,
+    base: &StateParts<'_>,
+    parts: &StateParts<'_>,
+) -> Result<(), OutOfMemory>
     requires { length base.now.registers ≤ 31 }
     ensures ok { OnOk result (out.new ≡ out.old ++ (number_text w64 parts.now.pc
         ++ (marked_registers_text base.now.registers parts.now.registers ++ (reservation_text Second (option_map reserved_view parts.now.reservation) ++ heap_text parts.now.heap)))) }
@@ -235,7 +243,11 @@ fn put_machine(out: &mut Bytes, base: &StateParts<'_>, parts: &StateParts<'_>) -
 
 /// The numbers after the magic.
 #[tactic(auto, using(crate::proofs::PatchTextLemmas::Written::written, crate::proofs::ByteFieldsLemmas::Kept::kept))]
-fn put_numbers(out: &mut Bytes, base: &StateParts<'_>, parts: &StateParts<'_>) -> Result<(), OutOfMemory>
+fn put_numbers(
+    out: &mut Bytes,
+    base: &StateParts<'_>,
+    parts: &StateParts<'_>,
+) -> Result<(), OutOfMemory>
     requires { length base.now.registers ≤ 31 }
     ensures ok { OnOk result (out.new ≡ out.old ++ (number_text w64 parts.now.steps ++ (number_text w64 parts.now.pc
         ++ (marked_registers_text base.now.registers parts.now.registers ++ (reservation_text Second (option_map reserved_view parts.now.reservation) ++ heap_text parts.now.heap))))) }

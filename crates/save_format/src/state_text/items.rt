@@ -8,7 +8,7 @@ ghost use Rattle.save_format.specs.StateText.StateText.{access_at, are_flags, is
 ghost use Rattle.save_format.specs.StateText.Spelled.{flags_of, kind_of, open_file_text};
 
 use crate::byte_fields::{Cursor, TextItem, WrongField, put_blob16, put_blob32, put_u32, put_u64};
-use crate::state_text::parts::{NumberedDescriptor, File, Page, Run};
+use crate::state_text::parts::{File, NumberedDescriptor, Page, Run};
 use ddc_base::{Bytes, OutOfMemory};
 use mem_files::{Access, Mode, OpenFile};
 

@@ -4,7 +4,7 @@ ghost use Rattle.std.specs.Prelude.{◌≡◌, IfOk, map};
 ghost use Rattle.mem_files.specs.Lists.{AreInRange, lists_of};
 ghost use Rattle.save_format.specs.StateText.Seen.{descriptor_view, file_view};
 
-use crate::state_text::parts::{NumberedDescriptor, File};
+use crate::state_text::parts::{File, NumberedDescriptor};
 use ddc_base::OutOfMemory;
 use mem_files::Files;
 use std::alloc::Global;

@@ -7,7 +7,7 @@ ghost use Rattle.save_format.specs.StateText.Mappable.{AreMappable};
 ghost use Rattle.save_format.specs.StateText.StateText.{StateText, after_run, body_at, parsed_state, run_at, state_at, state_in};
 ghost use Rattle.save_format.specs.declared.state_text.parts.Run.{Run as RunText};
 
-use crate::byte_fields::{Cursor, TextItem, TextForm, WrongField};
+use crate::byte_fields::{Cursor, TextForm, TextItem, WrongField};
 use crate::state_text::parts::Run;
 use crate::state_text::reading::{MAGIC, OLD_MAGIC, begin, numbers_of};
 

@@ -7,7 +7,9 @@ ghost use Rattle.save_format.specs.Inside.Passing.{GoesPast, JudgesForm};
 ghost use Rattle.save_format.specs.Inside.Fronts.{ReadsFront, lists_at};
 
 use crate::byte_fields::{Cursor, ReadStop, TextForm, WrongField, counted, pass_counted};
-use crate::state_text::parts::{NumberedDescriptor, File, FrontNumbers, Page, StateParts, Reserved, Run};
+use crate::state_text::parts::{
+    File, FrontNumbers, NumberedDescriptor, Page, Reserved, Run, StateParts,
+};
 use linux_calls::Heap;
 use paged_mem::Width;
 use std::alloc::Global;
@@ -70,7 +72,10 @@ pub(crate) fn heap_of(cursor: &mut Cursor<'_>) -> Result<Heap, WrongField>
 
 /// The numbers after the magic of a form.
 #[tactic(auto, unfolding(crate::specs::StateText::StateText::body_at, crate::specs::Inside::Fronts::lists_at))]
-pub(crate) fn numbers_of(cursor: &mut Cursor<'_>, form: TextForm) -> Result<FrontNumbers, WrongField>
+pub(crate) fn numbers_of(
+    cursor: &mut Cursor<'_>,
+    form: TextForm,
+) -> Result<FrontNumbers, WrongField>
     ensures { ReadsFront lists_at result cursor.new (body_at form cursor.old) }
 {
     let steps = cursor.u64()?;
@@ -89,7 +94,11 @@ pub(crate) fn numbers_of(cursor: &mut Cursor<'_>, form: TextForm) -> Result<Fron
 
 /// What stands after the magic of a form.
 #[tactic(auto, unfolding(crate::specs::Inside::Fronts::lists_at))]
-fn body_of<'a>(alloc: Global, cursor: &mut Cursor<'a>, form: TextForm) -> Result<StateParts<'a>, ReadStop>
+fn body_of<'a>(
+    alloc: Global,
+    cursor: &mut Cursor<'a>,
+    form: TextForm,
+) -> Result<StateParts<'a>, ReadStop>
     ensures { GivesField state_view result cursor.new (body_at form cursor.old) }
 {
     let numbers = numbers_of(cursor, form)?;

@@ -7,7 +7,7 @@ ghost use Rattle.save_format.specs.StateText.Spelled.{IsShortFile, IsStateText, 
 ghost use Rattle.save_format.specs.StateText.Seen.{file_view, reserved_view, state_view};
 
 use crate::byte_fields::{all_or_none, put_blob32, put_counted, put_u64};
-use crate::state_text::parts::{File, StateParts, Reserved};
+use crate::state_text::parts::{File, Reserved, StateParts};
 use crate::state_text::reading::MAGIC;
 use ddc_base::{Bytes, OutOfMemory};
 use linux_calls::Heap;

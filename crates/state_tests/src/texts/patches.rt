@@ -221,7 +221,11 @@ fn put_contents(out: &mut Bytes, parts: &StateParts<'_>) -> Result<(), OutOfMemo
     out.extend(parts.stream2)
 }
 
-fn has_contents(alloc: Global, parts: &StateParts<'_>, said: &RecipeContents) -> Result<bool, OutOfMemory> {
+fn has_contents(
+    alloc: Global,
+    parts: &StateParts<'_>,
+    said: &RecipeContents,
+) -> Result<bool, OutOfMemory> {
     let mut out = Bytes::new(alloc);
     put_contents(&mut out, parts)?;
     Ok(out.as_slice() == said.contents)

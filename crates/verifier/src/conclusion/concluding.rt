@@ -5,10 +5,10 @@ ghost use Rattle.audit_rules.specs.Valid.{IsInputs};
 
 use crate::Verdict;
 use crate::conclusion::laws::a_true_report_shows;
-use wheeler::Meaning;
 use recipe::{Inputs, Recipe};
 use report::Report;
 use std::alloc::Global;
+use wheeler::Meaning;
 
 /// Replays a report, as `crate::verify` does, with the same verdict.
 ///
