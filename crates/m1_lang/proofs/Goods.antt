@@ -213,17 +213,17 @@ reading-good values (word ∷ words) are =
 
 -- ---- the words of a source
 
-words-bytes : (at inside : ℕ) (left : List ℕ) → IsOfBytes left → AreByteWords (word_list (words_from at inside left))
+words-bytes : (at inside : ℕ) (remaining : List ℕ) → IsOfBytes remaining → AreByteWords (word_list (words_from at inside remaining))
 unfolding words_from
 words-bytes at inside [] are = tt
-words-bytes at (suc inside) (byte ∷ left) are = words-bytes (at + 1) inside left are.1
-words-bytes at zero (byte ∷ left) are = by (opens_gap byte) (word_more byte left) (λ inside. words-bytes (at + 1) inside left are.1)
+words-bytes at (suc inside) (byte ∷ remaining) are = words-bytes (at + 1) inside remaining are.1
+words-bytes at zero (byte ∷ remaining) are = by (opens_gap byte) (word_more byte remaining) (λ inside. words-bytes (at + 1) inside remaining are.1)
   where
-    by : (gap : Bool) (more : Option ℕ) → ((inside : ℕ) → AreByteWords (word_list (words_from (at + 1) inside left)))
-        → AreByteWords (word_list (cond gap (words_from (at + 1) (gap_length (byte ∷ left) - 1) left)
-        (elim more as (λ _. Words) [ Some size ↦ Found (record { at = at; text = byte ∷ take size left }) (words_from (at + 1) size left) | None ↦ Unclosed at ])))
-    by true more later = later (gap_length (byte ∷ left) - 1)
-    by false (Some size) later = ((are.0, take-bytes size left are.1), later size)
+    by : (gap : Bool) (more : Option ℕ) → ((inside : ℕ) → AreByteWords (word_list (words_from (at + 1) inside remaining)))
+        → AreByteWords (word_list (cond gap (words_from (at + 1) (gap_length (byte ∷ remaining) - 1) remaining)
+        (elim more as (λ _. Words) [ Some size ↦ Found (record { at = at; text = byte ∷ take size remaining }) (words_from (at + 1) size remaining) | None ↦ Unclosed at ])))
+    by true more later = later (gap_length (byte ∷ remaining) - 1)
+    by false (Some size) later = ((are.0, take-bytes size remaining are.1), later size)
     by false None later = tt
 
 plain-bytes : (words : List Word) → AreByteWords words → AreByteWords (plain_words (parts words))

@@ -14,22 +14,22 @@ use Rattle.m1_lang.specs.Laws.{AreBlanks, IsLayout, IsOneWord, laid_out, Layout,
 no-comment : (byte : ℕ) → is_blank byte ≡ true → begins_comment byte ≡ false
 no-comment byte is = grind (arith, nat_tests)
 
-gap-blank : (byte : ℕ) (left : List ℕ) → is_blank byte ≡ true → gap_length (byte ∷ left) ≡ suc (gap_length left)
+gap-blank : (byte : ℕ) (remaining : List ℕ) → is_blank byte ≡ true → gap_length (byte ∷ remaining) ≡ suc (gap_length remaining)
 unfolding gap_length
-gap-blank byte left is = let code = no-comment byte is in rw code (rw is refl)
+gap-blank byte remaining is = let code = no-comment byte is in rw code (rw is refl)
 
-one-blank : (at byte : ℕ) (left : List ℕ) → is_blank byte ≡ true → words_from at 0 (byte ∷ left) ≡ words_from (at + 1) 0 left
+one-blank : (at byte : ℕ) (remaining : List ℕ) → is_blank byte ≡ true → words_from at 0 (byte ∷ remaining) ≡ words_from (at + 1) 0 remaining
 unfolding words_from
-one-blank at byte left is =
+one-blank at byte remaining is =
     let opens : opens_gap byte ≡ true = ap (λ (b : Bool). b || begins_comment byte) is in
-    let size : gap_length (byte ∷ left) - 1 ≡ gap_length left = omega (arith, gap-blank byte left is) in
-    rw opens (ap (λ (n : ℕ). words_from (at + 1) n left) size ∙ passed (at + 1) left)
+    let size : gap_length (byte ∷ remaining) - 1 ≡ gap_length remaining = omega (arith, gap-blank byte remaining is) in
+    rw opens (ap (λ (n : ℕ). words_from (at + 1) n remaining) size ∙ passed (at + 1) remaining)
 
-pub past-blanks : (at : ℕ) (blanks left : List ℕ) → AreBlanks blanks → words_from at 0 (blanks ++ left) ≡ words_from (at + length blanks) 0 left
-past-blanks at [] left are = ap (λ (n : ℕ). words_from n 0 left) (omega arith)
-past-blanks at (byte ∷ blanks) left are =
+pub past-blanks : (at : ℕ) (blanks remaining : List ℕ) → AreBlanks blanks → words_from at 0 (blanks ++ remaining) ≡ words_from (at + length blanks) 0 remaining
+past-blanks at [] remaining are = ap (λ (n : ℕ). words_from n 0 remaining) (omega arith)
+past-blanks at (byte ∷ blanks) remaining are =
     let place : at + 1 + length blanks ≡ at + length (byte ∷ blanks) = omega arith in
-    one-blank at byte (blanks ++ left) are.0 ∙ past-blanks (at + 1) blanks left are.1 ∙ ap (λ (n : ℕ). words_from n 0 left) place
+    one-blank at byte (blanks ++ remaining) are.0 ∙ past-blanks (at + 1) blanks remaining are.1 ∙ ap (λ (n : ℕ). words_from n 0 remaining) place
 
 -- ---- one word
 
@@ -54,51 +54,51 @@ none-then p (x ∷ xs) ys y none is = by (p x) (none-then p xs ys y) none
     by true later same = same
     by false later same = omega (arith, later (omega (arith, same)) is)
 
-closed-some : (size more : ℕ) (left : List ℕ) → until_closed size left ≡ Some more → (size < length left) × (more ≡ size + 1)
-closed-some size more left is = by (nat_lt size (length left)) refl is
+closed-some : (size more : ℕ) (remaining : List ℕ) → until_closed size remaining ≡ Some more → (size < length remaining) × (more ≡ size + 1)
+closed-some size more remaining is = by (nat_lt size (length remaining)) refl is
   where
-    by : (within : Bool) → nat_lt size (length left) ≡ within → cond within (Some (size + 1)) None ≡ Some more → (size < length left) × (more ≡ size + 1)
+    by : (within : Bool) → nat_lt size (length remaining) ≡ within → cond within (Some (size + 1)) None ≡ Some more → (size < length remaining) × (more ≡ size + 1)
     by true tested same = (grind (arith, nat_tests), cc)
     by false tested same = absurd (cc)
 
-closed-at : (size : ℕ) (left : List ℕ) → size < length left → until_closed size left ≡ Some (size + 1)
-closed-at size left within = let test : nat_lt size (length left) ≡ true = grind (arith, nat_tests) in ap (λ (b : Bool). cond b (Some (size + 1)) None) test
+closed-at : (size : ℕ) (remaining : List ℕ) → size < length remaining → until_closed size remaining ≡ Some (size + 1)
+closed-at size remaining within = let test : nat_lt size (length remaining) ≡ true = grind (arith, nat_tests) in ap (λ (b : Bool). cond b (Some (size + 1)) None) test
 
 -- a word ends before the blank after it
-more-same : (byte : ℕ) (more left : List ℕ) (blank : ℕ) → is_blank blank ≡ true → word_more byte more ≡ Some (length more)
-    → word_more byte (more ++ blank ∷ left) ≡ Some (length more)
+more-same : (byte : ℕ) (more remaining : List ℕ) (blank : ℕ) → is_blank blank ≡ true → word_more byte more ≡ Some (length more)
+    → word_more byte (more ++ blank ∷ remaining) ≡ Some (length more)
 unfolding word_more
-more-same byte more left blank is one = by (is_quote byte) one
+more-same byte more remaining blank is one = by (is_quote byte) one
   where
     quoted : until_closed (position_or_len (λ b. b == byte) more) more ≡ Some (length more)
-        → until_closed (position_or_len (λ b. b == byte) (more ++ blank ∷ left)) (more ++ blank ∷ left) ≡ Some (length more)
+        → until_closed (position_or_len (λ b. b == byte) (more ++ blank ∷ remaining)) (more ++ blank ∷ remaining) ≡ Some (length more)
     quoted same =
         let found = closed-some (position_or_len (λ b. b == byte) more) (length more) more same in
-        let place = found-more (λ b. b == byte) more (blank ∷ left) found.0 in
-        ap (λ (n : ℕ). until_closed n (more ++ blank ∷ left)) place
-        ∙ closed-at (position_or_len (λ b. b == byte) more) (more ++ blank ∷ left) (omega (arith, found.0, length-more))
+        let place = found-more (λ b. b == byte) more (blank ∷ remaining) found.0 in
+        ap (λ (n : ℕ). until_closed n (more ++ blank ∷ remaining)) place
+        ∙ closed-at (position_or_len (λ b. b == byte) more) (more ++ blank ∷ remaining) (omega (arith, found.0, length-more))
         ∙ ap Some (sym found.1)
       where
-        length-more : length more ≤ length (more ++ blank ∷ left)
-        length-more = omega (arith, length-append more (blank ∷ left))
+        length-more : length more ≤ length (more ++ blank ∷ remaining)
+        length-more = omega (arith, length-append more (blank ∷ remaining))
 
-    plain : Some (position_or_len is_blank more) ≡ Some (length more) → Some (position_or_len is_blank (more ++ blank ∷ left)) ≡ Some (length more)
-    plain same = let none : position_or_len is_blank more ≡ length more = cc in ap Some (none-then is_blank more left blank none is)
+    plain : Some (position_or_len is_blank more) ≡ Some (length more) → Some (position_or_len is_blank (more ++ blank ∷ remaining)) ≡ Some (length more)
+    plain same = let none : position_or_len is_blank more ≡ length more = cc in ap Some (none-then is_blank more remaining blank none is)
 
     by : (quote : Bool) → cond quote (until_closed (position_or_len (λ b. b == byte) more) more) (Some (position_or_len is_blank more)) ≡ Some (length more)
-        → cond quote (until_closed (position_or_len (λ b. b == byte) (more ++ blank ∷ left)) (more ++ blank ∷ left)) (Some (position_or_len is_blank (more ++ blank ∷ left)))
+        → cond quote (until_closed (position_or_len (λ b. b == byte) (more ++ blank ∷ remaining)) (more ++ blank ∷ remaining)) (Some (position_or_len is_blank (more ++ blank ∷ remaining)))
         ≡ Some (length more)
     by true same = quoted same
     by false same = plain same
 
-one-word : (at byte blank : ℕ) (rest left : List ℕ) → IsOneWord (byte ∷ rest) → is_blank blank ≡ true
-    → words_from at 0 (byte ∷ (rest ++ blank ∷ left)) ≡ Found (record { at = at; text = byte ∷ rest }) (words_from (at + 1 + length rest) 0 (blank ∷ left))
+one-word : (at byte blank : ℕ) (rest remaining : List ℕ) → IsOneWord (byte ∷ rest) → is_blank blank ≡ true
+    → words_from at 0 (byte ∷ (rest ++ blank ∷ remaining)) ≡ Found (record { at = at; text = byte ∷ rest }) (words_from (at + 1 + length rest) 0 (blank ∷ remaining))
 unfolding words_from
-one-word at byte blank rest left one is =
-    rw one.0 (rw (more-same byte rest left blank is one.1) (
-    ap (λ (text : List ℕ). Found (record { at = at; text = byte ∷ text }) (words_from (at + 1) (length rest) (rest ++ blank ∷ left))) (take-append_seam rest (blank ∷ left))
+one-word at byte blank rest remaining one is =
+    rw one.0 (rw (more-same byte rest remaining blank is one.1) (
+    ap (λ (text : List ℕ). Found (record { at = at; text = byte ∷ text }) (words_from (at + 1) (length rest) (rest ++ blank ∷ remaining))) (take-append_seam rest (blank ∷ remaining))
     ∙ ap (Found (record { at = at; text = byte ∷ rest }))
-    (split-inside (at + 1) (length rest) (rest ++ blank ∷ left) ∙ ap (words_from (at + 1 + length rest) 0) (drop-append_seam rest (blank ∷ left)))))
+    (split-inside (at + 1) (length rest) (rest ++ blank ∷ remaining) ∙ ap (words_from (at + 1 + length rest) 0) (drop-append_seam rest (blank ∷ remaining)))))
 
 -- ---- many words
 
@@ -111,17 +111,17 @@ Reads words texts = (texts_of words ≡ texts) × (open_quote words ≡ None)
 reads-by : (one other : Words) (texts : List (List ℕ)) → one ≡ other → Reads other texts → Reads one texts
 reads-by one other texts same reads = subst (λ (words : Words). Reads words texts) (sym same) reads
 
-laid : (at : ℕ) (word blanks left : List ℕ) (texts : List (List ℕ)) → IsOneWord word → 0 < length blanks → AreBlanks blanks
-    → ((next : ℕ) → Reads (words_from next 0 left) texts) → Reads (words_from at 0 ((word ++ blanks) ++ left)) (word ∷ texts)
-laid at [] blanks left texts one some are later = absurd one
-laid at (byte ∷ rest) [] left texts one some are later = absurd (omega (arith, some))
-laid at (byte ∷ rest) (blank ∷ blanks) left texts one some are later =
+laid : (at : ℕ) (word blanks remaining : List ℕ) (texts : List (List ℕ)) → IsOneWord word → 0 < length blanks → AreBlanks blanks
+    → ((next : ℕ) → Reads (words_from next 0 remaining) texts) → Reads (words_from at 0 ((word ++ blanks) ++ remaining)) (word ∷ texts)
+laid at [] blanks remaining texts one some are later = absurd one
+laid at (byte ∷ rest) [] remaining texts one some are later = absurd (omega (arith, some))
+laid at (byte ∷ rest) (blank ∷ blanks) remaining texts one some are later =
     let place : ℕ = at + 1 + length rest in
     let following = later (place + length (blank ∷ blanks)) in
-    reads-by (words_from at 0 (((byte ∷ rest) ++ blank ∷ blanks) ++ left)) (Found (record { at = at; text = byte ∷ rest }) (words_from (place + length (blank ∷ blanks)) 0 left)) _
-    (ap (λ (l : List ℕ). words_from at 0 (byte ∷ l)) (append_assoc rest (blank ∷ blanks) left)
-    ∙ one-word at byte blank rest (blanks ++ left) one are.0
-    ∙ ap (Found (record { at = at; text = byte ∷ rest })) (past-blanks place (blank ∷ blanks) left are))
+    reads-by (words_from at 0 (((byte ∷ rest) ++ blank ∷ blanks) ++ remaining)) (Found (record { at = at; text = byte ∷ rest }) (words_from (place + length (blank ∷ blanks)) 0 remaining)) _
+    (ap (λ (l : List ℕ). words_from at 0 (byte ∷ l)) (append_assoc rest (blank ∷ blanks) remaining)
+    ∙ one-word at byte blank rest (blanks ++ remaining) one are.0
+    ∙ ap (Found (record { at = at; text = byte ∷ rest })) (past-blanks place (blank ∷ blanks) remaining are))
     (ap (λ (l : List (List ℕ)). (byte ∷ rest) ∷ l) following.0, following.1)
 
 layout-reads : (at : ℕ) (layout : Layout) → IsLayout layout → Reads (words_from at 0 (laid_out layout)) (map (λ (laid : List ℕ × List ℕ). laid.0) layout)

@@ -44,5 +44,5 @@ no-word (next.Open place) source at is none = ap word_list is
 no-word (next.Word start text after) source at is none = absurd (none start text after refl)
 
 -- nothing is left at the end
-pub nothing-left : (source : List ℕ) → plain_words (parts_at source (length source)) ≡ []
-nothing-left source = ap (λ (w : Words). plain_words (parts (word_list w))) (words-end source (length source) (omega arith))
+pub nothing-remaining : (source : List ℕ) → plain_words (parts_at source (length source)) ≡ []
+nothing-remaining source = ap (λ (w : Words). plain_words (parts (word_list w))) (words-end source (length source) (omega arith))

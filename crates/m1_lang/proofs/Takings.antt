@@ -63,21 +63,21 @@ takes-one (Err halt.OutOfMemory) word at token old new few takes = tt
 -- ---- more tokens
 
 -- where some of the tokens were taken, what is left of them makes up the whole
-abbrev pub Left : Option Open → List Token → List Item → Option Open → List Token → List Item → Type 0
-Left word tokens old next left items =
-    (at : ℕ) (later : Reading WordFault) → with_front old (formed word (at_once at tokens later)) ≡ with_front items (formed next (at_once at left later))
+abbrev pub Remaining : Option Open → List Token → List Item → Option Open → List Token → List Item → Type 0
+Remaining word tokens old next remaining items =
+    (at : ℕ) (later : Reading WordFault) → with_front old (formed word (at_once at tokens later)) ≡ with_front items (formed next (at_once at remaining later))
 
-pub left-more : (word next then : Option Open) (tokens left : List Token) (token : Token) (old items new : List Item)
-    → Left word tokens old next (token ∷ left) items → ((at : ℕ) → TakesTokens (Ok then) next at (token ∷ []) items new) → Left word tokens old then left new
-left-more word next then tokens left token old items new so_far one at later = so_far at later ∙ one at (at_once at left later)
+pub remaining-more : (word next then : Option Open) (tokens remaining : List Token) (token : Token) (old items new : List Item)
+    → Remaining word tokens old next (token ∷ remaining) items → ((at : ℕ) → TakesTokens (Ok then) next at (token ∷ []) items new) → Remaining word tokens old then remaining new
+remaining-more word next then tokens remaining token old items new so_far one at later = so_far at later ∙ one at (at_once at remaining later)
 
-pub left-refused : (why : Halt) (word next : Option Open) (tokens left : List Token) (token : Token) (old items new : List Item)
-    → Left word tokens old next (token ∷ left) items → ((at : ℕ) → TakesTokens (Err why) next at (token ∷ []) items new)
+pub remaining-refused : (why : Halt) (word next : Option Open) (tokens remaining : List Token) (token : Token) (old items new : List Item)
+    → Remaining word tokens old next (token ∷ remaining) items → ((at : ℕ) → TakesTokens (Err why) next at (token ∷ []) items new)
     → (at : ℕ) → TakesTokens (Err why) word at tokens old new
-left-refused (halt.Dangling first) word next tokens left token old items new so_far one at = λ later. ap counted_items (so_far at later) ∙ one at (at_once at left later)
-left-refused (halt.Second place) word next tokens left token old items new so_far one at = λ later. ap counted_items (so_far at later) ∙ one at (at_once at left later)
-left-refused halt.TooLong word next tokens left token old items new so_far one at = λ later. ap counted_items (so_far at later) ∙ one at (at_once at left later)
-left-refused halt.OutOfMemory word next tokens left token old items new so_far one at = tt
+remaining-refused (halt.Dangling first) word next tokens remaining token old items new so_far one at = λ later. ap counted_items (so_far at later) ∙ one at (at_once at remaining later)
+remaining-refused (halt.Second place) word next tokens remaining token old items new so_far one at = λ later. ap counted_items (so_far at later) ∙ one at (at_once at remaining later)
+remaining-refused halt.TooLong word next tokens remaining token old items new so_far one at = λ later. ap counted_items (so_far at later) ∙ one at (at_once at remaining later)
+remaining-refused halt.OutOfMemory word next tokens remaining token old items new so_far one at = tt
 
 -- ---- bytes
 
@@ -111,9 +111,9 @@ append-taken (Err halt.TooLong) word next at xs ys old mid new one two = λ late
 append-taken (Err halt.OutOfMemory) word next at xs ys old mid new one two = tt
 
 pub zeros-more : (count done : ℕ) → done < count → replicate {A = ℕ} (count - done) 0 ≡ 0 ∷ replicate {A = ℕ} (count - (done + 1)) 0
-zeros-more count done left = let more : count - done ≡ suc (count - (done + 1)) = omega (arith, left) in ap (λ (n : ℕ). replicate {A = ℕ} n 0) more
+zeros-more count done remaining = let more : count - done ≡ suc (count - (done + 1)) = omega (arith, remaining) in ap (λ (n : ℕ). replicate {A = ℕ} n 0) more
 
-pub front-short : (left : List ℕ) → length left ≤ 1 → front_bytes left ≡ []
+pub front-short : (remaining : List ℕ) → length remaining ≤ 1 → front_bytes remaining ≡ []
 front-short [] short = refl
 front-short (alone ∷ []) short = refl
 front-short (high ∷ low ∷ rest) short = absurd (omega (arith, short))

@@ -277,15 +277,15 @@ pub act-amo_access : (hart next : HartState) (operation : AmoOperation) (width :
     → (old : ℕ) × (reads hart.memory at (count_of width) ≡ Some old)
     × (reads next.memory at (count_of width) ≡ Some (amo_result operation (8 * count_of width) old value % 256 ^ count_of width))
 act-amo_access hart next operation width at value goes is =
-    let (old, there, left) = act-amo_found hart next operation width at value goes is in
-    (old, there, ap (λ m. reads m at (count_of width)) left ∙ reads-writes hart.memory at (count_of width) (amo_result operation (8 * count_of width) old value))
+    let (old, there, remaining) = act-amo_found hart next operation width at value goes is in
+    (old, there, ap (λ m. reads m at (count_of width)) remaining ∙ reads-writes hart.memory at (count_of width) (amo_result operation (8 * count_of width) old value))
 
 pub act-amo_other : (hart next : HartState) (operation : AmoOperation) (width : Width) (at value : ℕ)
     → act hart ≡ GoesOn next → effect_at hart ≡ Some (Amo operation width at value)
     → (address : ℕ) → (address < at) ⊎ (at + count_of width ≤ address) → get next.memory address ≡ get hart.memory address
 act-amo_other hart next operation width at value goes is address outside =
-    let (old, there, left) = act-amo_found hart next operation width at value goes is in
-    ap (λ m. get m address) left
+    let (old, there, remaining) = act-amo_found hart next operation width at value goes is in
+    ap (λ m. get m address) remaining
     ∙ get-writes_other hart.memory at (count_of width) (amo_result operation (8 * count_of width) old value) address outside
 
 -- a word that is stored over the next instruction is the next instruction

@@ -93,29 +93,29 @@ in_a_row old new most done (end.Trap cause) (few, there, how) = (few, acted-pass
 in_a_row old new most done end.OutOfMemory (few, there, how) = (few, acted-passed old new done there, how)
 
 -- the code's count down, with a stop and with none
-up_to : (stop most left : ℕ) (old new : HartState) (how : StepEnd) → ActsDown stop old most left how new → ActsTo (Some stop) old most (most - left) how new
-up_to stop most left old new end.Done (inl (none, all)) =
-    let whole : most - left ≡ most = omega (arith, none) in
+up_to : (stop most remaining : ℕ) (old new : HartState) (how : StepEnd) → ActsDown stop old most remaining how new → ActsTo (Some stop) old most (most - remaining) how new
+up_to stop most remaining old new end.Done (inl (none, all)) =
+    let whole : most - remaining ≡ most = omega (arith, none) in
     inl (whole, ap (passed (Some stop) old) whole ∙ all)
-up_to stop most left old new end.Done (inr (come, some, even)) = inr come
-up_to stop most left old new end.Call (some, few, there, how) = (omega (arith, some, few), there, how)
-up_to stop most left old new (end.Trap cause) (some, few, there, how) = (omega (arith, some, few), there, how)
-up_to stop most left old new end.OutOfMemory (some, few, there, how) = (omega (arith, some, few), there, how)
+up_to stop most remaining old new end.Done (inr (come, some, even)) = inr come
+up_to stop most remaining old new end.Call (some, few, there, how) = (omega (arith, some, few), there, how)
+up_to stop most remaining old new (end.Trap cause) (some, few, there, how) = (omega (arith, some, few), there, how)
+up_to stop most remaining old new end.OutOfMemory (some, few, there, how) = (omega (arith, some, few), there, how)
 
-unstopped : (stop most left : ℕ) (old new : HartState) (how : StepEnd) → stop ≡ 1 → ActsDown stop old most left how new → ActsTo None old most (most - left) how new
-unstopped stop most left old new end.Done odd (inl (none, all)) =
-    let whole : most - left ≡ most = omega (arith, none) in
+unstopped : (stop most remaining : ℕ) (old new : HartState) (how : StepEnd) → stop ≡ 1 → ActsDown stop old most remaining how new → ActsTo None old most (most - remaining) how new
+unstopped stop most remaining old new end.Done odd (inl (none, all)) =
+    let whole : most - remaining ≡ most = omega (arith, none) in
     inl (whole, ap (passed None old) whole ∙ passed-any (Some stop) old new most all)
-unstopped stop most left old new end.Done odd (inr (come, some, even)) = absurd (omega (arith, odd, even))
-unstopped stop most left old new end.Call odd (some, few, there, how) = (omega (arith, some, few), passed-any (Some stop) old new _ there, how)
-unstopped stop most left old new (end.Trap cause) odd (some, few, there, how) = (omega (arith, some, few), passed-any (Some stop) old new _ there, how)
-unstopped stop most left old new end.OutOfMemory odd (some, few, there, how) = (omega (arith, some, few), passed-any (Some stop) old new _ there, how)
+unstopped stop most remaining old new end.Done odd (inr (come, some, even)) = absurd (omega (arith, odd, even))
+unstopped stop most remaining old new end.Call odd (some, few, there, how) = (omega (arith, some, few), passed-any (Some stop) old new _ there, how)
+unstopped stop most remaining old new (end.Trap cause) odd (some, few, there, how) = (omega (arith, some, few), passed-any (Some stop) old new _ there, how)
+unstopped stop most remaining old new end.OutOfMemory odd (some, few, there, how) = (omega (arith, some, few), passed-any (Some stop) old new _ there, how)
 
-pub acts_to : (stop : Option ℕ) (address most left : ℕ) (old new : HartState) (how : StepEnd) → address ≡ unwrap_or stop 1 → ActsDown address old most left how new
-    → ActsTo stop old most (most - left) how new
-acts_to None address most left old new how is down = unstopped address most left old new how is down
-acts_to (Some stop) address most left old new how is down =
-    up_to stop most left old new how (subst (λ a. ActsDown a old most left how new) is down)
+pub acts_to : (stop : Option ℕ) (address most remaining : ℕ) (old new : HartState) (how : StepEnd) → address ≡ unwrap_or stop 1 → ActsDown address old most remaining how new
+    → ActsTo stop old most (most - remaining) how new
+acts_to None address most remaining old new how is down = unstopped address most remaining old new how is down
+acts_to (Some stop) address most remaining old new how is down =
+    up_to stop most remaining old new how (subst (λ a. ActsDown a old most remaining how new) is down)
 
 pub is_equal : (a b : ℕ) → a ≡ b → (a == b) ≡ true
 is_equal a b same =

@@ -178,8 +178,8 @@ impl<R: Ram> Hart<R> {
         ensures mapping { (address : ℕ)
             → contains_key self.new.memory address ≡ contains_key self.old.memory address }
     {
-        let (end, left) = self.run_down(most, stop.unwrap_or(NO_PC));
-        (end, most - left)
+        let (end, remaining) = self.run_down(most, stop.unwrap_or(NO_PC));
+        (end, most - remaining)
     }
 
     /// Acts until one does not go on or comes to the address, at most `most` of them: how the last one ended, and how many were left then.
@@ -191,20 +191,20 @@ impl<R: Ram> Hart<R> {
         ensures mapping { (address : ℕ)
             → contains_key self.new.memory address ≡ contains_key self.old.memory address }
     {
-        let mut left = most;
-        while left != 0 {
+        let mut remaining = most;
+        while remaining != 0 {
             match self.step() {
                 StepEnd::Done => {}
-                StepEnd::Call => return (StepEnd::Call, left),
-                StepEnd::Trap(cause) => return (StepEnd::Trap(cause), left),
-                StepEnd::OutOfMemory => return (StepEnd::OutOfMemory, left),
+                StepEnd::Call => return (StepEnd::Call, remaining),
+                StepEnd::Trap(cause) => return (StepEnd::Trap(cause), remaining),
+                StepEnd::OutOfMemory => return (StepEnd::OutOfMemory, remaining),
             }
-            left -= 1;
+            remaining -= 1;
             if self.pc() == stop {
                 break;
             }
         }
-        (StepEnd::Done, left)
+        (StepEnd::Done, remaining)
     }
 
     /// A step as its act says it.

@@ -22,17 +22,17 @@ use Rattle.hex_langs.proofs.ItemsLemmas.Readings.{gap_length-some, items_of-judg
 
 -- what is left is plain ahead of a reader that stands in a line's code, or in its comment
 abbrev plain_ahead : Bool → List ℕ → Bool
-plain_ahead false left = list_all is_plain_line (lines_of left)
-plain_ahead true left = list_all is_plain_line (drop 1 (lines_of left))
+plain_ahead false remaining = list_all is_plain_line (lines_of remaining)
+plain_ahead true remaining = list_all is_plain_line (drop 1 (lines_of remaining))
 
-plain-line_feed : (in_comment : Bool) (left : List ℕ) → plain_ahead in_comment (line_feed ∷ left) ≡ plain_ahead false left
-plain-line_feed false left = refl
-plain-line_feed true left = refl
+plain-line_feed : (in_comment : Bool) (remaining : List ℕ) → plain_ahead in_comment (line_feed ∷ remaining) ≡ plain_ahead false remaining
+plain-line_feed false remaining = refl
+plain-line_feed true remaining = refl
 
-plain-in_comment : (byte : ℕ) (left : List ℕ) → (byte == line_feed) ≡ false → plain_ahead true (byte ∷ left) ≡ plain_ahead true left
-plain-in_comment byte left other =
-    ap (λ (lines : List (List ℕ)). list_all is_plain_line (drop 1 lines)) (slice_split-cons_no (λ b. b == line_feed) byte left other)
-    ∙ ap (list_all is_plain_line) (drop_onto byte (lines_of left))
+plain-in_comment : (byte : ℕ) (remaining : List ℕ) → (byte == line_feed) ≡ false → plain_ahead true (byte ∷ remaining) ≡ plain_ahead true remaining
+plain-in_comment byte remaining other =
+    ap (λ (lines : List (List ℕ)). list_all is_plain_line (drop 1 lines)) (slice_split-cons_no (λ b. b == line_feed) byte remaining other)
+    ∙ ap (list_all is_plain_line) (drop_onto byte (lines_of remaining))
 
 onto-comment : (byte : ℕ) (lines : List (List ℕ)) → begins_comment byte ≡ true
     → list_all is_plain_line (onto_first byte lines) ≡ list_all is_plain_line (drop 1 lines)
@@ -40,10 +40,10 @@ onto-comment byte [] is = ap (λ (l : List ℕ). list_all (λ b. is_hex_digit b 
 onto-comment byte (line ∷ lines) is =
     ap (λ (l : List ℕ). list_all (λ b. is_hex_digit b || is_blank b) l && list_all is_plain_line lines) (before_first-yes begins_comment byte line is)
 
-plain-comment : (byte : ℕ) (left : List ℕ) → (byte == line_feed) ≡ false → begins_comment byte ≡ true
-    → plain_ahead false (byte ∷ left) ≡ plain_ahead true left
-plain-comment byte left other is =
-    ap (list_all is_plain_line) (slice_split-cons_no (λ b. b == line_feed) byte left other) ∙ onto-comment byte (lines_of left) is
+plain-comment : (byte : ℕ) (remaining : List ℕ) → (byte == line_feed) ≡ false → begins_comment byte ≡ true
+    → plain_ahead false (byte ∷ remaining) ≡ plain_ahead true remaining
+plain-comment byte remaining other is =
+    ap (list_all is_plain_line) (slice_split-cons_no (λ b. b == line_feed) byte remaining other) ∙ onto-comment byte (lines_of remaining) is
 
 and-both : (a b c : Bool) → (a && b) && c ≡ a && (b && c)
 and-both true b c = refl
@@ -58,43 +58,43 @@ onto-code byte (line ∷ lines) code =
     ap (λ (l : List ℕ). list_all (λ b. is_hex_digit b || is_blank b) l && list_all is_plain_line lines) (before_first-no begins_comment byte line code)
     ∙ and-both (is_hex_digit byte || is_blank byte) (is_plain_line line) (list_all is_plain_line lines)
 
-plain-code : (byte : ℕ) (left : List ℕ) → (byte == line_feed) ≡ false → begins_comment byte ≡ false
-    → plain_ahead false (byte ∷ left) ≡ (is_hex_digit byte || is_blank byte) && plain_ahead false left
-plain-code byte left other code =
-    ap (list_all is_plain_line) (slice_split-cons_no (λ b. b == line_feed) byte left other) ∙ onto-code byte (lines_of left) code
+plain-code : (byte : ℕ) (remaining : List ℕ) → (byte == line_feed) ≡ false → begins_comment byte ≡ false
+    → plain_ahead false (byte ∷ remaining) ≡ (is_hex_digit byte || is_blank byte) && plain_ahead false remaining
+plain-code byte remaining other code =
+    ap (list_all is_plain_line) (slice_split-cons_no (λ b. b == line_feed) byte remaining other) ∙ onto-code byte (lines_of remaining) code
 
 -- ---- the gap at the front of what is left
 
-gap_none : (byte : ℕ) (left : List ℕ) → begins_comment byte ≡ false → is_blank byte ≡ false → gap_length (byte ∷ left) ≡ 0
+gap_none : (byte : ℕ) (remaining : List ℕ) → begins_comment byte ≡ false → is_blank byte ≡ false → gap_length (byte ∷ remaining) ≡ 0
 unfolding gap_length
-gap_none byte left comment blank = gap_from-other byte left comment blank
+gap_none byte remaining comment blank = gap_from-other byte remaining comment blank
 
 gap-end : gap_length [] ≡ 0
 unfolding gap_length
 gap-end = refl
 
 -- a gap may be passed over first
-appended-gap : (dialect : Dialect) (at : ℕ) (left : List ℕ)
-    → reading dialect at 0 left ≡ reading dialect (at + gap_length left) 0 (drop (gap_length left) left)
+appended-gap : (dialect : Dialect) (at : ℕ) (remaining : List ℕ)
+    → reading dialect at 0 remaining ≡ reading dialect (at + gap_length remaining) 0 (drop (gap_length remaining) remaining)
 appended-gap dialect at [] = reading-end dialect at ∙ sym (ap (λ (n : ℕ). reading dialect (at + n) 0 (drop n [])) gap-end ∙ reading-end dialect (at + 0))
-appended-gap dialect at (byte ∷ left) = by (opens_gap byte) refl
+appended-gap dialect at (byte ∷ remaining) = by (opens_gap byte) refl
   where
     by : (opens : Bool) → opens_gap byte ≡ opens
-        → reading dialect at 0 (byte ∷ left) ≡ reading dialect (at + gap_length (byte ∷ left)) 0 (drop (gap_length (byte ∷ left)) (byte ∷ left))
+        → reading dialect at 0 (byte ∷ remaining) ≡ reading dialect (at + gap_length (byte ∷ remaining)) 0 (drop (gap_length (byte ∷ remaining)) (byte ∷ remaining))
     by true opens =
-        let some = gap_length-some byte left opens in
+        let some = gap_length-some byte remaining opens in
         let more : some.0 + 1 ≡ suc some.0 = omega arith in
         let next : at + (some.0 + 1) ≡ at + 1 + some.0 = omega arith in
-        reading-gap dialect at some.0 (at + (some.0 + 1)) byte left opens some.1 next
-        ∙ ap (λ (n : ℕ). reading dialect (at + (some.0 + 1)) 0 (drop n (byte ∷ left))) (sym more)
-        ∙ ap (λ (n : ℕ). reading dialect (at + n) 0 (drop n (byte ∷ left))) (sym some.1)
+        reading-gap dialect at some.0 (at + (some.0 + 1)) byte remaining opens some.1 next
+        ∙ ap (λ (n : ℕ). reading dialect (at + (some.0 + 1)) 0 (drop n (byte ∷ remaining))) (sym more)
+        ∙ ap (λ (n : ℕ). reading dialect (at + n) 0 (drop n (byte ∷ remaining))) (sym some.1)
     by false none =
         let comment : begins_comment byte ≡ false = grind (arith, nat_tests, none) in
         let blank : is_blank byte ≡ false = grind (arith, nat_tests, none) in
-        let nothing : gap_length (byte ∷ left) ≡ 0 = gap_none byte left comment blank in
+        let nothing : gap_length (byte ∷ remaining) ≡ 0 = gap_none byte remaining comment blank in
         let same : at ≡ at + 0 = omega arith in
-        ap (λ (n : ℕ). reading dialect n 0 (byte ∷ left)) same
-        ∙ ap (λ (n : ℕ). reading dialect (at + n) 0 (drop n (byte ∷ left))) (sym nothing)
+        ap (λ (n : ℕ). reading dialect n 0 (byte ∷ remaining)) same
+        ∙ ap (λ (n : ℕ). reading dialect (at + n) 0 (drop n (byte ∷ remaining))) (sym nothing)
 
 -- ---- what is read and what hex0 gives, together
 
@@ -104,31 +104,31 @@ bytes_alone bytes = record { items = map item.Byte bytes; end = Whole }
 
 -- with an even number of digits left the rest gives their pairs
 abbrev Even : Dialect → Bool → List ℕ → Type 0
-Even dialect in_comment left =
-    IsTrue (plain_ahead in_comment left) → length (ahead in_comment left) % 2 ≡ 0 → (at : ℕ)
-    → formed None (reading dialect at 0 (drop (gap_from in_comment left) left)) ≡ bytes_alone (pairs (ahead in_comment left))
+Even dialect in_comment remaining =
+    IsTrue (plain_ahead in_comment remaining) → length (ahead in_comment remaining) % 2 ≡ 0 → (at : ℕ)
+    → formed None (reading dialect at 0 (drop (gap_from in_comment remaining) remaining)) ≡ bytes_alone (pairs (ahead in_comment remaining))
 
 -- with an odd number one digit stands after the gap, and the pairs of the others follow
-record Odd (dialect : Dialect) (in_comment : Bool) (left : List ℕ) : Type 0 where
+record Odd (dialect : Dialect) (in_comment : Bool) (remaining : List ℕ) : Type 0 where
   low : ℕ
   rest : List ℕ
-  digits : ahead in_comment left ≡ low ∷ rest
-  here : low_digit (drop (gap_from in_comment left) left) ≡ Some low
-  later : (at : ℕ) → formed None (reading dialect at 0 (drop (gap_from in_comment left + 1) left)) ≡ bytes_alone (pairs rest)
+  digits : ahead in_comment remaining ≡ low ∷ rest
+  here : low_digit (drop (gap_from in_comment remaining) remaining) ≡ Some low
+  later : (at : ℕ) → formed None (reading dialect at 0 (drop (gap_from in_comment remaining + 1) remaining)) ≡ bytes_alone (pairs rest)
 
 abbrev Both : Dialect → Bool → List ℕ → Type 0
-Both dialect in_comment left =
-    Even dialect in_comment left × (IsTrue (plain_ahead in_comment left) → length (ahead in_comment left) % 2 ≡ 1 → Odd dialect in_comment left)
+Both dialect in_comment remaining =
+    Even dialect in_comment remaining × (IsTrue (plain_ahead in_comment remaining) → length (ahead in_comment remaining) % 2 ≡ 1 → Odd dialect in_comment remaining)
 
 -- a byte of a gap takes nothing away
-both-skip : (dialect : Dialect) (now next : Bool) (byte : ℕ) (left : List ℕ) → gap_from now (byte ∷ left) ≡ 1 + gap_from next left
-    → ahead now (byte ∷ left) ≡ ahead next left → plain_ahead now (byte ∷ left) ≡ plain_ahead next left
-    → Both dialect next left → Both dialect now (byte ∷ left)
-both-skip dialect now next byte left gap digits plain both =
-    let more : 1 + gap_from next left ≡ suc (gap_from next left) = omega arith in
+both-skip : (dialect : Dialect) (now next : Bool) (byte : ℕ) (remaining : List ℕ) → gap_from now (byte ∷ remaining) ≡ 1 + gap_from next remaining
+    → ahead now (byte ∷ remaining) ≡ ahead next remaining → plain_ahead now (byte ∷ remaining) ≡ plain_ahead next remaining
+    → Both dialect next remaining → Both dialect now (byte ∷ remaining)
+both-skip dialect now next byte remaining gap digits plain both =
+    let more : 1 + gap_from next remaining ≡ suc (gap_from next remaining) = omega arith in
     let size = gap ∙ more in
-    let size_on : gap_from now (byte ∷ left) + 1 ≡ suc (gap_from next left + 1) = omega (arith, gap) in (
-      λ is even at. ap (λ (n : ℕ). formed None (reading dialect at 0 (drop n (byte ∷ left)))) size
+    let size_on : gap_from now (byte ∷ remaining) + 1 ≡ suc (gap_from next remaining + 1) = omega (arith, gap) in (
+      λ is even at. ap (λ (n : ℕ). formed None (reading dialect at 0 (drop n (byte ∷ remaining)))) size
           ∙ both.0 (subst IsTrue plain is) (sym (ap (λ (l : List ℕ). length l % 2) digits) ∙ even) at
           ∙ sym (ap (λ (l : List ℕ). bytes_alone (pairs l)) digits),
       λ is odd.
@@ -137,17 +137,17 @@ both-skip dialect now next byte left gap digits plain both =
             low = found.low;
             rest = found.rest;
             digits = digits ∙ found.digits;
-            here = ap (λ (n : ℕ). low_digit (drop n (byte ∷ left))) size ∙ found.here;
-            later = λ at. ap (λ (n : ℕ). formed None (reading dialect at 0 (drop n (byte ∷ left)))) size_on ∙ found.later at;
+            here = ap (λ (n : ℕ). low_digit (drop n (byte ∷ remaining))) size ∙ found.here;
+            later = λ at. ap (λ (n : ℕ). formed None (reading dialect at 0 (drop n (byte ∷ remaining)))) size_on ∙ found.later at;
           },
     )
 
 -- the pair of a digit and of the one after the gap
-token-pair : (dialect : Dialect) (byte value : ℕ) (left : List ℕ) (low : ℕ) → hex_digit_value byte ≡ Some value
-    → low_digit (drop (gap_length left) left) ≡ Some low
-    → token_at dialect byte left ≡ Ok (Byte (16 * value + low), gap_length left + 1)
+token-pair : (dialect : Dialect) (byte value : ℕ) (remaining : List ℕ) (low : ℕ) → hex_digit_value byte ≡ Some value
+    → low_digit (drop (gap_length remaining) remaining) ≡ Some low
+    → token_at dialect byte remaining ≡ Ok (Byte (16 * value + low), gap_length remaining + 1)
 unfolding token_at pair_at
-token-pair dialect byte value left low digit here = rw digit (rw here refl)
+token-pair dialect byte value remaining low digit here = rw digit (rw here refl)
 
 odd-after : (n : ℕ) → suc n % 2 ≡ 0 → n % 2 ≡ 1
 odd-after n even = omega (arith, even)
@@ -156,49 +156,49 @@ even-after : (n : ℕ) → suc n % 2 ≡ 1 → n % 2 ≡ 0
 even-after n odd = omega (arith, odd)
 
 -- a gap in code is the gap at the front
-here-by : (left : List ℕ) (low : ℕ) → low_digit (drop (gap_from false left) left) ≡ Some low → low_digit (drop (gap_length left) left) ≡ Some low
+here-by : (remaining : List ℕ) (low : ℕ) → low_digit (drop (gap_from false remaining) remaining) ≡ Some low → low_digit (drop (gap_length remaining) remaining) ≡ Some low
 unfolding gap_length
-here-by left low here = here
+here-by remaining low here = here
 
-later-by : (dialect : Dialect) (left rest : List ℕ)
-    → ((at : ℕ) → formed None (reading dialect at 0 (drop (gap_from false left + 1) left)) ≡ bytes_alone (pairs rest))
-    → (at : ℕ) → formed None (reading dialect at 0 (drop (gap_length left + 1) left)) ≡ bytes_alone (pairs rest)
+later-by : (dialect : Dialect) (remaining rest : List ℕ)
+    → ((at : ℕ) → formed None (reading dialect at 0 (drop (gap_from false remaining + 1) remaining)) ≡ bytes_alone (pairs rest))
+    → (at : ℕ) → formed None (reading dialect at 0 (drop (gap_length remaining + 1) remaining)) ≡ bytes_alone (pairs rest)
 unfolding gap_length
-later-by dialect left rest later = later
+later-by dialect remaining rest later = later
 
-even-by : (dialect : Dialect) (left : List ℕ)
-    → ((at : ℕ) → formed None (reading dialect at 0 (drop (gap_from false left) left)) ≡ bytes_alone (pairs (ahead false left)))
-    → (at : ℕ) → formed None (reading dialect at 0 (drop (gap_length left) left)) ≡ bytes_alone (pairs (ahead false left))
+even-by : (dialect : Dialect) (remaining : List ℕ)
+    → ((at : ℕ) → formed None (reading dialect at 0 (drop (gap_from false remaining) remaining)) ≡ bytes_alone (pairs (ahead false remaining)))
+    → (at : ℕ) → formed None (reading dialect at 0 (drop (gap_length remaining) remaining)) ≡ bytes_alone (pairs (ahead false remaining))
 unfolding gap_length
-even-by dialect left even = even
+even-by dialect remaining even = even
 
 -- at a digit
-both-digit : (dialect : Dialect) (byte value : ℕ) (left : List ℕ) → hex_digit_value byte ≡ Some value
-    → Both dialect false left → Both dialect false (byte ∷ left)
-both-digit dialect byte value left digit both =
+both-digit : (dialect : Dialect) (byte value : ℕ) (remaining : List ℕ) → hex_digit_value byte ≡ Some value
+    → Both dialect false remaining → Both dialect false (byte ∷ remaining)
+both-digit dialect byte value remaining digit both =
     let code = digit-is_code byte value digit in
     let blank : is_blank byte ≡ false = grind (arith, nat_tests, digit) in
     let opens : opens_gap byte ≡ false = rw blank (rw code.1 refl) in
-    let size = gap_from-other byte left code.1 blank in
-    let digits : ahead false (byte ∷ left) ≡ value ∷ ahead false left = ahead-code byte left code.0 code.1 ∙ ap (λ (o : Option ℕ). cons_option o (ahead false left)) digit in
+    let size = gap_from-other byte remaining code.1 blank in
+    let digits : ahead false (byte ∷ remaining) ≡ value ∷ ahead false remaining = ahead-code byte remaining code.0 code.1 ∙ ap (λ (o : Option ℕ). cons_option o (ahead false remaining)) digit in
     let test : is_hex_digit byte ≡ true = ap is_some digit in
-    let plain : plain_ahead false (byte ∷ left) ≡ plain_ahead false left = plain-code byte left code.0 code.1 ∙ ap (λ (t : Bool). (t || is_blank byte) && plain_ahead false left) test in (
+    let plain : plain_ahead false (byte ∷ remaining) ≡ plain_ahead false remaining = plain-code byte remaining code.0 code.1 ∙ ap (λ (t : Bool). (t || is_blank byte) && plain_ahead false remaining) test in (
       λ is even at.
           let found = both.1 (subst IsTrue plain is) (odd-after _ (sym (ap (λ (l : List ℕ). length l % 2) digits) ∙ even)) in
-          let read = reading-token dialect at byte left (Byte (16 * value + found.low)) (gap_length left + 1) opens (token-pair dialect byte value left found.low digit (here-by left found.low found.here)) in
-          ap (λ (n : ℕ). formed None (reading dialect at 0 (drop n (byte ∷ left)))) size
+          let read = reading-token dialect at byte remaining (Byte (16 * value + found.low)) (gap_length remaining + 1) opens (token-pair dialect byte value remaining found.low digit (here-by remaining found.low found.here)) in
+          ap (λ (n : ℕ). formed None (reading dialect at 0 (drop n (byte ∷ remaining)))) size
           ∙ ap (formed None) read
-          ∙ ap (with_front (item.Byte (16 * value + found.low) ∷ [])) (later-by dialect left found.rest found.later (at + 1 + (gap_length left + 1)))
+          ∙ ap (with_front (item.Byte (16 * value + found.low) ∷ [])) (later-by dialect remaining found.rest found.later (at + 1 + (gap_length remaining + 1)))
           ∙ sym (ap (λ (l : List ℕ). bytes_alone (pairs l)) (digits ∙ ap (λ (l : List ℕ). value ∷ l) found.digits)),
       λ is odd. record {
         low = value;
-        rest = ahead false left;
+        rest = ahead false remaining;
         digits = digits;
-        here = ap (λ (n : ℕ). low_digit (drop n (byte ∷ left))) size ∙ digit;
+        here = ap (λ (n : ℕ). low_digit (drop n (byte ∷ remaining))) size ∙ digit;
         later = λ at.
-            ap (λ (n : ℕ). formed None (reading dialect at 0 (drop (n + 1) (byte ∷ left)))) size
-            ∙ ap (formed None) (appended-gap dialect at left)
-            ∙ even-by dialect left (both.0 (subst IsTrue plain is) (even-after _ (sym (ap (λ (l : List ℕ). length l % 2) digits) ∙ odd))) (at + gap_length left);
+            ap (λ (n : ℕ). formed None (reading dialect at 0 (drop (n + 1) (byte ∷ remaining)))) size
+            ∙ ap (formed None) (appended-gap dialect at remaining)
+            ∙ even-by dialect remaining (both.0 (subst IsTrue plain is) (even-after _ (sym (ap (λ (l : List ℕ). length l % 2) digits) ∙ odd))) (at + gap_length remaining);
       },
     )
 
@@ -206,55 +206,55 @@ not-plain : {test : Bool} → test ≡ false → IsTrue test → ⊥
 not-plain is plain = absurd (cc)
 
 -- at another byte of code, which is a blank
-both-blank : (dialect : Dialect) (byte : ℕ) (left : List ℕ) → (byte == line_feed) ≡ false → begins_comment byte ≡ false → hex_digit_value byte ≡ None
-    → Both dialect false left → Both dialect false (byte ∷ left)
-both-blank dialect byte left other code none both = by (is_blank byte) refl
+both-blank : (dialect : Dialect) (byte : ℕ) (remaining : List ℕ) → (byte == line_feed) ≡ false → begins_comment byte ≡ false → hex_digit_value byte ≡ None
+    → Both dialect false remaining → Both dialect false (byte ∷ remaining)
+both-blank dialect byte remaining other code none both = by (is_blank byte) refl
   where
-    plain_is : plain_ahead false (byte ∷ left) ≡ is_blank byte && plain_ahead false left
-    plain_is = plain-code byte left other code ∙ ap (λ (o : Option ℕ). (is_some o || is_blank byte) && plain_ahead false left) none
+    plain_is : plain_ahead false (byte ∷ remaining) ≡ is_blank byte && plain_ahead false remaining
+    plain_is = plain-code byte remaining other code ∙ ap (λ (o : Option ℕ). (is_some o || is_blank byte) && plain_ahead false remaining) none
 
-    by : (blank : Bool) → is_blank byte ≡ blank → Both dialect false (byte ∷ left)
+    by : (blank : Bool) → is_blank byte ≡ blank → Both dialect false (byte ∷ remaining)
     by true is =
-        both-skip dialect false false byte left (gap_from-blank byte left code is)
-        (ahead-code byte left other code ∙ ap (λ (o : Option ℕ). cons_option o (ahead false left)) none)
-        (plain_is ∙ ap (λ (t : Bool). t && plain_ahead false left) is) both
+        both-skip dialect false false byte remaining (gap_from-blank byte remaining code is)
+        (ahead-code byte remaining other code ∙ ap (λ (o : Option ℕ). cons_option o (ahead false remaining)) none)
+        (plain_is ∙ ap (λ (t : Bool). t && plain_ahead false remaining) is) both
     by false is =
-        let never : plain_ahead false (byte ∷ left) ≡ false = plain_is ∙ ap (λ (t : Bool). t && plain_ahead false left) is in
+        let never : plain_ahead false (byte ∷ remaining) ≡ false = plain_is ∙ ap (λ (t : Bool). t && plain_ahead false remaining) is in
         (λ plain even at. absurd (not-plain never plain), λ plain odd. absurd (not-plain never plain))
 
-both-code : (dialect : Dialect) (byte : ℕ) (left : List ℕ) → (byte == line_feed) ≡ false → begins_comment byte ≡ false → (value : Option ℕ)
-    → hex_digit_value byte ≡ value → Both dialect false left → Both dialect false (byte ∷ left)
-both-code dialect byte left other code (Some value) is both = both-digit dialect byte value left is both
-both-code dialect byte left other code None is both = both-blank dialect byte left other code is both
+both-code : (dialect : Dialect) (byte : ℕ) (remaining : List ℕ) → (byte == line_feed) ≡ false → begins_comment byte ≡ false → (value : Option ℕ)
+    → hex_digit_value byte ≡ value → Both dialect false remaining → Both dialect false (byte ∷ remaining)
+both-code dialect byte remaining other code (Some value) is both = both-digit dialect byte value remaining is both
+both-code dialect byte remaining other code None is both = both-blank dialect byte remaining other code is both
 
 line_feed-is : (byte : ℕ) → (byte == line_feed) ≡ true → byte ≡ line_feed
 line_feed-is byte is = grind (arith, nat_tests, is)
 
-line_feed-gap : (now : Bool) (left : List ℕ) → gap_from now (line_feed ∷ left) ≡ 1 + gap_from false left
-line_feed-gap true left = gap_from-comment line_feed left
-line_feed-gap false left = gap_from-blank line_feed left refl refl
+line_feed-gap : (now : Bool) (remaining : List ℕ) → gap_from now (line_feed ∷ remaining) ≡ 1 + gap_from false remaining
+line_feed-gap true remaining = gap_from-comment line_feed remaining
+line_feed-gap false remaining = gap_from-blank line_feed remaining refl refl
 
-both : (dialect : Dialect) (in_comment : Bool) (left : List ℕ) → Both dialect in_comment left
+both : (dialect : Dialect) (in_comment : Bool) (remaining : List ℕ) → Both dialect in_comment remaining
 both dialect false [] = (λ plain even at. ap (formed None) (reading-end dialect at), λ plain odd. absurd (omega (arith, odd)))
 both dialect true [] = (λ plain even at. ap (formed None) (reading-end dialect at), λ plain odd. absurd (omega (arith, odd)))
-both dialect in_comment (byte ∷ left) = ends (byte == line_feed) refl (both dialect false left) (both dialect true left) in_comment
+both dialect in_comment (byte ∷ remaining) = ends (byte == line_feed) refl (both dialect false remaining) (both dialect true remaining) in_comment
   where
-    code_or_comment : (comment : Bool) → begins_comment byte ≡ comment → (byte == line_feed) ≡ false → Both dialect false left → Both dialect true left
-        → Both dialect false (byte ∷ left)
+    code_or_comment : (comment : Bool) → begins_comment byte ≡ comment → (byte == line_feed) ≡ false → Both dialect false remaining → Both dialect true remaining
+        → Both dialect false (byte ∷ remaining)
     code_or_comment true is other in_code in_comment =
-        both-skip dialect false true byte left (gap_from-sign byte left is) (ahead-comment byte left other is) (plain-comment byte left other is) in_comment
-    code_or_comment false is other in_code in_comment = both-code dialect byte left other is (hex_digit_value byte) refl in_code
+        both-skip dialect false true byte remaining (gap_from-sign byte remaining is) (ahead-comment byte remaining other is) (plain-comment byte remaining other is) in_comment
+    code_or_comment false is other in_code in_comment = both-code dialect byte remaining other is (hex_digit_value byte) refl in_code
 
-    ends : (end : Bool) → (byte == line_feed) ≡ end → Both dialect false left → Both dialect true left → (in_comment : Bool)
-        → Both dialect in_comment (byte ∷ left)
+    ends : (end : Bool) → (byte == line_feed) ≡ end → Both dialect false remaining → Both dialect true remaining → (in_comment : Bool)
+        → Both dialect in_comment (byte ∷ remaining)
     ends true is in_code in_comment now =
         let is_end = line_feed-is byte is in
-        subst (λ (b : ℕ). Both dialect now (b ∷ left)) (sym is_end)
-        (both-skip dialect now false line_feed left (line_feed-gap now left) (ahead-line_feed now left) (plain-line_feed now left) in_code)
+        subst (λ (b : ℕ). Both dialect now (b ∷ remaining)) (sym is_end)
+        (both-skip dialect now false line_feed remaining (line_feed-gap now remaining) (ahead-line_feed now remaining) (plain-line_feed now remaining) in_code)
     ends false is in_code in_comment false = code_or_comment (begins_comment byte) refl is in_code in_comment
     ends false is in_code in_comment true =
-        both-skip dialect true true byte left (gap_from-comment byte left ∙ ap (λ (t : Bool). 1 + gap_from (not t) left) is) (ahead-in_comment byte left is)
-        (plain-in_comment byte left is) in_comment
+        both-skip dialect true true byte remaining (gap_from-comment byte remaining ∙ ap (λ (t : Bool). 1 + gap_from (not t) remaining) is) (ahead-in_comment byte remaining is)
+        (plain-in_comment byte remaining is) in_comment
 
 -- ---- the whole
 
@@ -268,24 +268,24 @@ cons_option-few None l = omega arith
 cons_option-few (Some x) l = omega arith
 
 -- a digit is a byte
-ahead-few : (in_comment : Bool) (left : List ℕ) → length (ahead in_comment left) ≤ length left
+ahead-few : (in_comment : Bool) (remaining : List ℕ) → length (ahead in_comment remaining) ≤ length remaining
 ahead-few false [] = omega arith
 ahead-few true [] = omega arith
-ahead-few in_comment (byte ∷ left) = by (byte == line_feed) refl (ahead-few false left) (ahead-few true left) in_comment
+ahead-few in_comment (byte ∷ remaining) = by (byte == line_feed) refl (ahead-few false remaining) (ahead-few true remaining) in_comment
   where
-    code_or_comment : (comment : Bool) → begins_comment byte ≡ comment → (byte == line_feed) ≡ false → length (ahead false left) ≤ length left
-        → length (ahead true left) ≤ length left → length (ahead false (byte ∷ left)) ≤ length (byte ∷ left)
-    code_or_comment true is other in_code in_comment = omega (arith, in_comment, ap length (ahead-comment byte left other is))
+    code_or_comment : (comment : Bool) → begins_comment byte ≡ comment → (byte == line_feed) ≡ false → length (ahead false remaining) ≤ length remaining
+        → length (ahead true remaining) ≤ length remaining → length (ahead false (byte ∷ remaining)) ≤ length (byte ∷ remaining)
+    code_or_comment true is other in_code in_comment = omega (arith, in_comment, ap length (ahead-comment byte remaining other is))
     code_or_comment false is other in_code in_comment =
-        omega (arith, in_code, ap length (ahead-code byte left other is), cons_option-few (hex_digit_value byte) (ahead false left))
+        omega (arith, in_code, ap length (ahead-code byte remaining other is), cons_option-few (hex_digit_value byte) (ahead false remaining))
 
-    by : (end : Bool) → (byte == line_feed) ≡ end → length (ahead false left) ≤ length left → length (ahead true left) ≤ length left → (in_comment : Bool)
-        → length (ahead in_comment (byte ∷ left)) ≤ length (byte ∷ left)
+    by : (end : Bool) → (byte == line_feed) ≡ end → length (ahead false remaining) ≤ length remaining → length (ahead true remaining) ≤ length remaining → (in_comment : Bool)
+        → length (ahead in_comment (byte ∷ remaining)) ≤ length (byte ∷ remaining)
     by true is in_code in_comment now =
         let is_end = line_feed-is byte is in
-        omega (arith, in_code, ap (λ (b : ℕ). length (ahead now (b ∷ left))) is_end, ap length (ahead-line_feed now left))
+        omega (arith, in_code, ap (λ (b : ℕ). length (ahead now (b ∷ remaining))) is_end, ap length (ahead-line_feed now remaining))
     by false is in_code in_comment false = code_or_comment (begins_comment byte) refl is in_code in_comment
-    by false is in_code in_comment true = omega (arith, in_comment, ap length (ahead-in_comment byte left is))
+    by false is in_code in_comment true = omega (arith, in_comment, ap length (ahead-in_comment byte remaining is))
 
 length-bytes : (bytes : List ℕ) → length (map item.Byte bytes) ≡ length bytes
 length-bytes [] = refl

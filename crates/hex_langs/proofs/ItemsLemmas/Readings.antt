@@ -21,40 +21,40 @@ use Rattle.hex_langs.specs.Items.Words.{Step, taken, Takes}
 use Rattle.hex_langs.specs.Items.Reading.{answer, Ending, NoToken, Faulty, Formed, fault_at, formed, after_step, Halted, halted, items_of, limited_items, Reading, ReadsItems, reading, Then, with_front}
 
 -- what is read already is passed over
-pub reading-inside : (dialect : Dialect) (at inside : ℕ) (left : List ℕ)
-    → reading dialect at inside left ≡ reading dialect (at + inside) 0 (drop inside left)
+pub reading-inside : (dialect : Dialect) (at inside : ℕ) (remaining : List ℕ)
+    → reading dialect at inside remaining ≡ reading dialect (at + inside) 0 (drop inside remaining)
 unfolding reading
-reading-inside dialect at zero left = ap (λ (n : ℕ). reading dialect n 0 left) (omega arith)
+reading-inside dialect at zero remaining = ap (λ (n : ℕ). reading dialect n 0 remaining) (omega arith)
 reading-inside dialect at (suc inside) [] = refl
-reading-inside dialect at (suc inside) (byte ∷ left) =
+reading-inside dialect at (suc inside) (byte ∷ remaining) =
     let moved : at + 1 + inside ≡ at + suc inside = omega arith in
-    reading-inside dialect (at + 1) inside left ∙ ap (λ (n : ℕ). reading dialect n 0 (drop inside left)) moved
+    reading-inside dialect (at + 1) inside remaining ∙ ap (λ (n : ℕ). reading dialect n 0 (drop inside remaining)) moved
 
 -- at a gap
-pub reading-gap : (dialect : Dialect) (at inside next : ℕ) (byte : ℕ) (left : List ℕ) → opens_gap byte ≡ true
-    → gap_length (byte ∷ left) ≡ inside + 1 → next ≡ at + 1 + inside
-    → reading dialect at 0 (byte ∷ left) ≡ reading dialect next 0 (drop inside left)
+pub reading-gap : (dialect : Dialect) (at inside next : ℕ) (byte : ℕ) (remaining : List ℕ) → opens_gap byte ≡ true
+    → gap_length (byte ∷ remaining) ≡ inside + 1 → next ≡ at + 1 + inside
+    → reading dialect at 0 (byte ∷ remaining) ≡ reading dialect next 0 (drop inside remaining)
 unfolding reading
-reading-gap dialect at inside next byte left opens size is =
+reading-gap dialect at inside next byte remaining opens size is =
     rw opens (rw size (
     let counted : inside + 1 - 1 ≡ inside = omega arith in
-    ap (λ (n : ℕ). reading dialect (at + 1) n left) counted
-    ∙ reading-inside dialect (at + 1) inside left
-    ∙ ap (λ (n : ℕ). reading dialect n 0 (drop inside left)) (sym is)))
+    ap (λ (n : ℕ). reading dialect (at + 1) n remaining) counted
+    ∙ reading-inside dialect (at + 1) inside remaining
+    ∙ ap (λ (n : ℕ). reading dialect n 0 (drop inside remaining)) (sym is)))
 
 -- at a token
-pub reading-token : (dialect : Dialect) (at : ℕ) (byte : ℕ) (left : List ℕ) (token : Token) (more : ℕ) → opens_gap byte ≡ false
-    → token_at dialect byte left ≡ Ok (token, more)
-    → reading dialect at 0 (byte ∷ left) ≡ Then at token (reading dialect (at + 1 + more) 0 (drop more left))
+pub reading-token : (dialect : Dialect) (at : ℕ) (byte : ℕ) (remaining : List ℕ) (token : Token) (more : ℕ) → opens_gap byte ≡ false
+    → token_at dialect byte remaining ≡ Ok (token, more)
+    → reading dialect at 0 (byte ∷ remaining) ≡ Then at token (reading dialect (at + 1 + more) 0 (drop more remaining))
 unfolding reading
-reading-token dialect at byte left token more code found =
-    rw code (rw found (ap (Then at token) (reading-inside dialect (at + 1) more left)))
+reading-token dialect at byte remaining token more code found =
+    rw code (rw found (ap (Then at token) (reading-inside dialect (at + 1) more remaining)))
 
 -- at a place without one
-pub reading-fault : (dialect : Dialect) (at : ℕ) (byte : ℕ) (left : List ℕ) (why : TokenFault) → opens_gap byte ≡ false
-    → token_at dialect byte left ≡ Err why → reading dialect at 0 (byte ∷ left) ≡ Faulty why at
+pub reading-fault : (dialect : Dialect) (at : ℕ) (byte : ℕ) (remaining : List ℕ) (why : TokenFault) → opens_gap byte ≡ false
+    → token_at dialect byte remaining ≡ Err why → reading dialect at 0 (byte ∷ remaining) ≡ Faulty why at
 unfolding reading
-reading-fault dialect at byte left why code found = rw code (rw found refl)
+reading-fault dialect at byte remaining why code found = rw code (rw found refl)
 
 pub with_front-twice : {F : Type 0} (front more : List Item) (later : Formed F) → with_front front (with_front more later) ≡ with_front (front ++ more) later
 with_front-twice front more later = ap (λ (items : List Item). record { items = items; end = later.end }) (sym (append_assoc front more later.items))
@@ -70,9 +70,9 @@ pub formed-halt : {F : Type 0} (word : Option Open) (at : ℕ) (token : Token) (
 formed-halt word at token later why is = ap (λ (step : Step). after_step step (λ then. formed then later)) is
 
 -- a digit begins a byte
-pub token-digit : (dialect : Dialect) (byte : ℕ) (left : List ℕ) → is_hex_digit byte ≡ true → token_at dialect byte left ≡ pair_at byte left
+pub token-digit : (dialect : Dialect) (byte : ℕ) (remaining : List ℕ) → is_hex_digit byte ≡ true → token_at dialect byte remaining ≡ pair_at byte remaining
 unfolding token_at
-token-digit dialect byte left is = rw is refl
+token-digit dialect byte remaining is = rw is refl
 
 -- ---- from one offset of a source to the next
 
@@ -88,9 +88,9 @@ gap-some true blank a b opens = (a, omega arith)
 gap-some false true a b opens = (b, omega arith)
 gap-some false false a b opens = absurd (cc)
 
-pub gap_length-some : (byte : ℕ) (left : List ℕ) → opens_gap byte ≡ true → (inside : ℕ) × (gap_length (byte ∷ left) ≡ inside + 1)
+pub gap_length-some : (byte : ℕ) (remaining : List ℕ) → opens_gap byte ≡ true → (inside : ℕ) × (gap_length (byte ∷ remaining) ≡ inside + 1)
 unfolding gap_length
-gap_length-some byte left opens = gap-some (begins_comment byte) (is_blank byte) (gap_from true left) (gap_from false left) opens
+gap_length-some byte remaining opens = gap-some (begins_comment byte) (is_blank byte) (gap_from true remaining) (gap_from false remaining) opens
 
 -- a gap takes at least one byte, and what is read after it is what was read before it
 pub moves-gap : (dialect : Dialect) (source : List ℕ) (at size : ℕ) → at < length source → opens_gap (get_or source at 0) ≡ true
@@ -102,8 +102,8 @@ moves-gap dialect source at size within opens is =
     let size_is : size ≡ some.0 + 1 = is ∙ ap gap_length front ∙ some.1 in
     let next_is : at + size ≡ at + 1 + some.0 = omega arith in
     let moved = reading-gap dialect at some.0 (at + size) (get_or source at 0) (drop (at + 1) source) opens some.1 next_is in
-    let left_is : drop some.0 (drop (at + 1) source) ≡ drop (at + size) source = drop-drop some.0 (at + 1) source ∙ ap (λ (n : ℕ). drop n source) (sym next_is) in
-    (omega arith, ap (reading dialect at 0) front ∙ moved ∙ ap (reading dialect (at + size) 0) left_is)
+    let remaining_is : drop some.0 (drop (at + 1) source) ≡ drop (at + size) source = drop-drop some.0 (at + 1) source ∙ ap (λ (n : ℕ). drop n source) (sym next_is) in
+    (omega arith, ap (reading dialect at 0) front ∙ moved ∙ ap (reading dialect (at + size) 0) remaining_is)
 
 pub moves-token : (dialect : Dialect) (source : List ℕ) (at more : ℕ) (token : Token) → at < length source
     → opens_gap (get_or source at 0) ≡ false
@@ -113,10 +113,10 @@ moves-token dialect source at more token within code found =
     let front = front_is source at within in
     let next_is : at + 1 + more ≡ at + (1 + more) = omega arith in
     let moved = reading-token dialect at (get_or source at 0) (drop (at + 1) source) token more code found in
-    let left_is : drop more (drop (at + 1) source) ≡ drop (at + (1 + more)) source = drop-drop more (at + 1) source ∙ ap (λ (n : ℕ). drop n source) next_is in
+    let remaining_is : drop more (drop (at + 1) source) ≡ drop (at + (1 + more)) source = drop-drop more (at + 1) source ∙ ap (λ (n : ℕ). drop n source) next_is in
     ap (reading dialect at 0) front ∙ moved
     ∙ ap (λ (n : ℕ). Then at token (reading dialect n 0 (drop more (drop (at + 1) source)))) next_is
-    ∙ ap (λ (left : List ℕ). Then at token (reading dialect (at + (1 + more)) 0 left)) left_is
+    ∙ ap (λ (remaining : List ℕ). Then at token (reading dialect (at + (1 + more)) 0 remaining)) remaining_is
 
 pub moves-fault : (dialect : Dialect) (source : List ℕ) (at : ℕ) (why : TokenFault) → at < length source
     → opens_gap (get_or source at 0) ≡ false

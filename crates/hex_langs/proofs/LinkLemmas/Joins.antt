@@ -43,29 +43,29 @@ size-small place (Gap name other) = omega arith
 size-small place (Abs name) = omega arith
 
 -- the whole, one item on
-pub joined-more : (labels : Labels) (base index : ℕ) (it : Item) (left : List Item) (old new : List ℕ) (whole : Result (List ℕ) HexRefusal)
-    → whole ≡ onto old (bytes_from labels (base + length old) index (it ∷ left))
+pub joined-more : (labels : Labels) (base index : ℕ) (it : Item) (remaining : List Item) (old new : List ℕ) (whole : Result (List ℕ) HexRefusal)
+    → whole ≡ onto old (bytes_from labels (base + length old) index (it ∷ remaining))
     → Puts (Ok tt) (item_bytes labels (base + length old) it) old new
-    → (whole ≡ onto new (bytes_from labels (base + length new) (index + 1) left)) × (length new ≤ length old + 4)
-joined-more labels base index it left old new whole is puts =
+    → (whole ≡ onto new (bytes_from labels (base + length new) (index + 1) remaining)) × (length new ≤ length old + 4)
+joined-more labels base index it remaining old new whole is puts =
     let put = puts-ok (item_bytes labels (base + length old) it) old new puts in
     let size = bytes-size labels (base + length old) it put.0 put.1 in
     let length_is : length new ≡ length old + length put.0 = ap length put.2 ∙ length-append old put.0 in
     let next_is : base + length old + size_at (base + length old) it ≡ base + length new = omega (arith, size, length_is) in
-    let rest = bytes_from labels (base + length old + size_at (base + length old) it) (index + 1) left in (
+    let rest = bytes_from labels (base + length old + size_at (base + length old) it) (index + 1) remaining in (
       is ∙ ap (λ (b : Result (List ℕ) Miss). onto old (appended b index rest)) put.1
           ∙ onto-twice old put.0 rest
           ∙ ap (λ (bytes : List ℕ). onto bytes rest) (sym put.2)
-          ∙ ap (λ (n : ℕ). onto new (bytes_from labels n (index + 1) left)) next_is,
+          ∙ ap (λ (n : ℕ). onto new (bytes_from labels n (index + 1) remaining)) next_is,
       omega (arith, size, length_is, size-small (base + length old) it),
     )
 
 -- at an item that has no bytes
-pub joined-refused : (labels : Labels) (base index : ℕ) (it : Item) (left : List Item) (old : List ℕ) (miss : Miss) (whole : Result (List ℕ) HexRefusal)
-    → whole ≡ onto old (bytes_from labels (base + length old) index (it ∷ left))
+pub joined-refused : (labels : Labels) (base index : ℕ) (it : Item) (remaining : List Item) (old : List ℕ) (miss : Miss) (whole : Result (List ℕ) HexRefusal)
+    → whole ≡ onto old (bytes_from labels (base + length old) index (it ∷ remaining))
     → item_bytes labels (base + length old) it ≡ Err miss → whole ≡ Err (refused miss index)
-joined-refused labels base index it left old miss whole is none =
-    is ∙ ap (λ (b : Result (List ℕ) Miss). onto old (appended b index (bytes_from labels (base + length old + size_at (base + length old) it) (index + 1) left))) none
+joined-refused labels base index it remaining old miss whole is none =
+    is ∙ ap (λ (b : Result (List ℕ) Miss). onto old (appended b index (bytes_from labels (base + length old + size_at (base + length old) it) (index + 1) remaining))) none
 
 -- ---- the whole
 

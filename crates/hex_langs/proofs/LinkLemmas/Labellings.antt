@@ -57,9 +57,9 @@ or_later (Some at) later = Some at
 or_later None later = later
 
 -- what a table tells of items, of which those from a number on, at an address, are left
-pub record IsTableOf (items : List Item) (base : ℕ) (table : LabelMap) (index address : ℕ) (left : List Item) : Type 0 where
-  pub once : first_repeat [] 0 items ≡ repeat_by (has table) index left
-  pub found : (name : List ℕ) → address_of base items name ≡ or_later (address_in table name) (address_of address left name)
+pub record IsTableOf (items : List Item) (base : ℕ) (table : LabelMap) (index address : ℕ) (remaining : List Item) : Type 0 where
+  pub once : first_repeat [] 0 items ≡ repeat_by (has table) index remaining
+  pub found : (name : List ℕ) → address_of base items name ≡ or_later (address_in table name) (address_of address remaining name)
 
 pub of-empty : (items : List Item) (base : ℕ) (table : LabelMap) → table.entries ≡ [] → IsTableOf items base table 0 base items
 of-empty items base table none =
@@ -81,26 +81,26 @@ adds-label E name key it address again before old new it_is key_is again_is befo
     )
 
 -- an item's label goes into the table, which has its name
-pub repeated : (E : Type 0) (it : Item) (items left : List Item) (base : ℕ) (old new : LabelMap) (index address : ℕ)
-    → IsTableOf items base old index address (it ∷ left) → Adds {E = E} (Ok true) it address old new → first_repeat [] 0 items ≡ Some index
-repeated E (item.Label name) items left base old new index address is adds =
-    is.once ∙ ap (λ (t : Bool). cond t (Some index) (repeat_by (λ other. cond (bytes_eq name other) true (has old other)) (index + 1) left)) (sym adds.0)
-repeated E (item.Byte byte) items left base old new index address is adds = absurd (true≢false adds.0)
-repeated E (item.Word value kind name) items left base old new index address is adds = absurd (true≢false adds.0)
-repeated E (item.Rel name) items left base old new index address is adds = absurd (true≢false adds.0)
-repeated E (item.Gap one other) items left base old new index address is adds = absurd (true≢false adds.0)
-repeated E (item.Abs name) items left base old new index address is adds = absurd (true≢false adds.0)
-repeated E item.Pad items left base old new index address is adds = absurd (true≢false adds.0)
+pub repeated : (E : Type 0) (it : Item) (items remaining : List Item) (base : ℕ) (old new : LabelMap) (index address : ℕ)
+    → IsTableOf items base old index address (it ∷ remaining) → Adds {E = E} (Ok true) it address old new → first_repeat [] 0 items ≡ Some index
+repeated E (item.Label name) items remaining base old new index address is adds =
+    is.once ∙ ap (λ (t : Bool). cond t (Some index) (repeat_by (λ other. cond (bytes_eq name other) true (has old other)) (index + 1) remaining)) (sym adds.0)
+repeated E (item.Byte byte) items remaining base old new index address is adds = absurd (true≢false adds.0)
+repeated E (item.Word value kind name) items remaining base old new index address is adds = absurd (true≢false adds.0)
+repeated E (item.Rel name) items remaining base old new index address is adds = absurd (true≢false adds.0)
+repeated E (item.Gap one other) items remaining base old new index address is adds = absurd (true≢false adds.0)
+repeated E (item.Abs name) items remaining base old new index address is adds = absurd (true≢false adds.0)
+repeated E item.Pad items remaining base old new index address is adds = absurd (true≢false adds.0)
 
 -- or which does not have it
-pub more : (E : Type 0) (it : Item) (items left : List Item) (base : ℕ) (old new : LabelMap) (index address : ℕ)
-    → IsTableOf items base old index address (it ∷ left) → Adds {E = E} (Ok false) it address old new
-    → IsTableOf items base new (index + 1) (address + size_at address it) left
-more E (item.Label name) items left base old new index address is adds = record {
-  once = is.once ∙ ap (λ (t : Bool). cond t (Some index) (repeat_by (λ other. cond (bytes_eq name other) true (has old other)) (index + 1) left)) (sym adds.0)
-      ∙ (λ i. repeat_by (λ other. (seen (bytes_eq name other) (address_in old other) ∙ ap is_some (sym (adds.1 other))) i) (index + 1) left);
-  found = λ other. is.found other ∙ found other (bytes_eq name other) refl (address_in old other) refl (address_of (address + 0) left other)
-      ∙ ap (λ (o : Option ℕ). or_later o (address_of (address + 0) left other)) (sym (adds.1 other));
+pub more : (E : Type 0) (it : Item) (items remaining : List Item) (base : ℕ) (old new : LabelMap) (index address : ℕ)
+    → IsTableOf items base old index address (it ∷ remaining) → Adds {E = E} (Ok false) it address old new
+    → IsTableOf items base new (index + 1) (address + size_at address it) remaining
+more E (item.Label name) items remaining base old new index address is adds = record {
+  once = is.once ∙ ap (λ (t : Bool). cond t (Some index) (repeat_by (λ other. cond (bytes_eq name other) true (has old other)) (index + 1) remaining)) (sym adds.0)
+      ∙ (λ i. repeat_by (λ other. (seen (bytes_eq name other) (address_in old other) ∙ ap is_some (sym (adds.1 other))) i) (index + 1) remaining);
+  found = λ other. is.found other ∙ found other (bytes_eq name other) refl (address_in old other) refl (address_of (address + 0) remaining other)
+      ∙ ap (λ (o : Option ℕ). or_later o (address_of (address + 0) remaining other)) (sym (adds.1 other));
 }
   where
     seen : (test : Bool) (before : Option ℕ) → cond test true (is_some before) ≡ is_some (cond test (Some address) before)
@@ -115,12 +115,12 @@ more E (item.Label name) items left base old new index address is adds = record 
     found other true is (Some at) old_is later =
         let same : name ≡ other = (bytes_eq-Decides name other).0 is in
         absurd (true≢false (sym (ap is_some old_is) ∙ sym (ap (has old) same) ∙ sym adds.0))
-more E (item.Byte byte) items left base old new index address is adds = subst (λ (t : LabelMap). IsTableOf items base t (index + 1) (address + 1) left) (sym adds.1) (record { once = is.once; found = is.found })
-more E (item.Word value kind name) items left base old new index address is adds = subst (λ (t : LabelMap). IsTableOf items base t (index + 1) (address + 4) left) (sym adds.1) (record { once = is.once; found = is.found })
-more E (item.Rel name) items left base old new index address is adds = subst (λ (t : LabelMap). IsTableOf items base t (index + 1) (address + 4) left) (sym adds.1) (record { once = is.once; found = is.found })
-more E (item.Gap one other) items left base old new index address is adds = subst (λ (t : LabelMap). IsTableOf items base t (index + 1) (address + 4) left) (sym adds.1) (record { once = is.once; found = is.found })
-more E (item.Abs name) items left base old new index address is adds = subst (λ (t : LabelMap). IsTableOf items base t (index + 1) (address + 4) left) (sym adds.1) (record { once = is.once; found = is.found })
-more E item.Pad items left base old new index address is adds = subst (λ (t : LabelMap). IsTableOf items base t (index + 1) (address + size_at address item.Pad) left) (sym adds.1) (record { once = is.once; found = is.found })
+more E (item.Byte byte) items remaining base old new index address is adds = subst (λ (t : LabelMap). IsTableOf items base t (index + 1) (address + 1) remaining) (sym adds.1) (record { once = is.once; found = is.found })
+more E (item.Word value kind name) items remaining base old new index address is adds = subst (λ (t : LabelMap). IsTableOf items base t (index + 1) (address + 4) remaining) (sym adds.1) (record { once = is.once; found = is.found })
+more E (item.Rel name) items remaining base old new index address is adds = subst (λ (t : LabelMap). IsTableOf items base t (index + 1) (address + 4) remaining) (sym adds.1) (record { once = is.once; found = is.found })
+more E (item.Gap one other) items remaining base old new index address is adds = subst (λ (t : LabelMap). IsTableOf items base t (index + 1) (address + 4) remaining) (sym adds.1) (record { once = is.once; found = is.found })
+more E (item.Abs name) items remaining base old new index address is adds = subst (λ (t : LabelMap). IsTableOf items base t (index + 1) (address + 4) remaining) (sym adds.1) (record { once = is.once; found = is.found })
+more E item.Pad items remaining base old new index address is adds = subst (λ (t : LabelMap). IsTableOf items base t (index + 1) (address + size_at address item.Pad) remaining) (sym adds.1) (record { once = is.once; found = is.found })
 
 -- the table after all items
 pub tabled : (items : List Item) (base : ℕ) (table : LabelMap) (index address : ℕ) → base ≤ 2 ^ 37 → length items ≤ 33554432

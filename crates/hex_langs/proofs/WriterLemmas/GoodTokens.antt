@@ -50,15 +50,15 @@ pair-good : (gap : ℕ) (byte : Option ℕ) → IsBelow 256 byte → IsGoodFound
 pair-good gap None below = tt
 pair-good gap (Some byte) below = below
 
-low-below : (left : List ℕ) → IsBelow 16 (low_digit left)
+low-below : (remaining : List ℕ) → IsBelow 16 (low_digit remaining)
 low-below [] = tt
-low-below (byte ∷ left) = digit-below byte
+low-below (byte ∷ remaining) = digit-below byte
 
-pair_at-good : (digit : ℕ) (left : List ℕ) → IsGoodFound (pair_at digit left)
+pair_at-good : (digit : ℕ) (remaining : List ℕ) → IsGoodFound (pair_at digit remaining)
 unfolding pair_at
-pair_at-good digit left =
-    pair-good (gap_length left) (byte_of (hex_digit_value digit) (low_digit (drop (gap_length left) left)))
-    (byte-below (hex_digit_value digit) (low_digit (drop (gap_length left) left)) (digit-below digit) (low-below (drop (gap_length left) left)))
+pair_at-good digit remaining =
+    pair-good (gap_length remaining) (byte_of (hex_digit_value digit) (low_digit (drop (gap_length remaining) remaining)))
+    (byte-below (hex_digit_value digit) (low_digit (drop (gap_length remaining) remaining)) (digit-below digit) (low-below (drop (gap_length remaining) remaining)))
 
 field-good : (a b c d : Option ℕ) → IsBelow 256 a → IsBelow 256 b → IsBelow 256 c → IsBelow 256 d → IsGoodFound (field_of a b c d)
 field-good None b c d below_a below_b below_c below_d = tt
@@ -67,98 +67,98 @@ field-good (Some a) (Some b) None d below_a below_b below_c below_d = tt
 field-good (Some a) (Some b) (Some c) None below_a below_b below_c below_d = tt
 field-good (Some a) (Some b) (Some c) (Some d) below_a below_b below_c below_d = omega (arith, below_a, below_b, below_c, below_d)
 
-at-below : (left : List ℕ) (place : ℕ) → IsBelow 256 (byte_at left place)
-at-below left place =
-    byte-below (hex_digit_value (slice_index left place)) (hex_digit_value (slice_index left (place + 1))) (digit-below (slice_index left place)) (digit-below (slice_index left (place + 1)))
+at-below : (remaining : List ℕ) (place : ℕ) → IsBelow 256 (byte_at remaining place)
+at-below remaining place =
+    byte-below (hex_digit_value (slice_index remaining place)) (hex_digit_value (slice_index remaining (place + 1))) (digit-below (slice_index remaining place)) (digit-below (slice_index remaining (place + 1)))
 
-field_at-good : (left : List ℕ) → IsGoodFound (field_at left)
+field_at-good : (remaining : List ℕ) → IsGoodFound (field_at remaining)
 unfolding field_at
-field_at-good left =
-    either (nat_lt (length left) 8) _ (field_of (byte_at left 0) (byte_at left 2) (byte_at left 4) (byte_at left 6)) tt
-    (field-good (byte_at left 0) (byte_at left 2) (byte_at left 4) (byte_at left 6) (at-below left 0) (at-below left 2) (at-below left 4) (at-below left 6))
+field_at-good remaining =
+    either (nat_lt (length remaining) 8) _ (field_of (byte_at remaining 0) (byte_at remaining 2) (byte_at remaining 4) (byte_at remaining 6)) tt
+    (field-good (byte_at remaining 0) (byte_at remaining 2) (byte_at remaining 4) (byte_at remaining 6) (at-below remaining 0) (at-below remaining 2) (at-below remaining 4) (at-below remaining 6))
 
 -- ---- names
 
 -- what stands before the first byte of a kind has none of it
-no-blank : (p : ℕ → Bool) (left : List ℕ) → list_any p (take (position_or_len p left) left) ≡ false
+no-blank : (p : ℕ → Bool) (remaining : List ℕ) → list_any p (take (position_or_len p remaining) remaining) ≡ false
 no-blank p [] = refl
-no-blank p (byte ∷ left) = by (p byte) refl (no-blank p left)
+no-blank p (byte ∷ remaining) = by (p byte) refl (no-blank p remaining)
   where
-    by : (test : Bool) → p byte ≡ test → list_any p (take (position_or_len p left) left) ≡ false → list_any p (take (position_or_len p (byte ∷ left)) (byte ∷ left)) ≡ false
+    by : (test : Bool) → p byte ≡ test → list_any p (take (position_or_len p remaining) remaining) ≡ false → list_any p (take (position_or_len p (byte ∷ remaining)) (byte ∷ remaining)) ≡ false
     by true is rest = rw is refl
     by false is rest =
-        let one : 1 + position_or_len p left ≡ suc (position_or_len p left) = omega arith in
-        let open_is : take (position_or_len p (byte ∷ left)) (byte ∷ left) ≡ byte ∷ take (position_or_len p left) left =
-        rw is (ap (λ (n : ℕ). take n (byte ∷ left)) one) in
-        ap (list_any p) open_is ∙ ap (λ (b : Bool). b || list_any p (take (position_or_len p left) left)) is ∙ rest
+        let one : 1 + position_or_len p remaining ≡ suc (position_or_len p remaining) = omega arith in
+        let open_is : take (position_or_len p (byte ∷ remaining)) (byte ∷ remaining) ≡ byte ∷ take (position_or_len p remaining) remaining =
+        rw is (ap (λ (n : ℕ). take n (byte ∷ remaining)) one) in
+        ap (list_any p) open_is ∙ ap (λ (b : Bool). b || list_any p (take (position_or_len p remaining) remaining)) is ∙ rest
 
-size-within : (p : ℕ → Bool) (left : List ℕ) → position_or_len p left ≤ length left
+size-within : (p : ℕ → Bool) (remaining : List ℕ) → position_or_len p remaining ≤ length remaining
 size-within p [] = omega arith
-size-within p (byte ∷ left) = by (p byte) (size-within p left)
+size-within p (byte ∷ remaining) = by (p byte) (size-within p remaining)
   where
-    by : (test : Bool) → position_or_len p left ≤ length left → cond (not test) (1 + position_or_len p left) 0 ≤ length (byte ∷ left)
+    by : (test : Bool) → position_or_len p remaining ≤ length remaining → cond (not test) (1 + position_or_len p remaining) 0 ≤ length (byte ∷ remaining)
     by true rest = omega arith
     by false rest = omega (arith, rest)
 
-front-some : (size : ℕ) (left : List ℕ) → (size == 0) ≡ false → size ≤ length left → 0 < length (take size left)
+front-some : (size : ℕ) (remaining : List ℕ) → (size == 0) ≡ false → size ≤ length remaining → 0 < length (take size remaining)
 front-some size [] some within = absurd (grind (arith, nat_tests))
-front-some zero (byte ∷ left) some within = absurd (cc)
-front-some (suc size) (byte ∷ left) some within = omega arith
+front-some zero (byte ∷ remaining) some within = absurd (cc)
+front-some (suc size) (byte ∷ remaining) some within = omega arith
 
-front-name : (size : ℕ) (left : List ℕ) → size ≡ position_or_len ends_name left → (size == 0) ≡ false → IsHexName (take size left)
-front-name size left is some = record {
-  some = front-some size left some (omega (arith, is, size-within ends_name left));
-  whole = ap (λ (n : ℕ). list_any ends_name (take n left)) is ∙ no-blank ends_name left;
+front-name : (size : ℕ) (remaining : List ℕ) → size ≡ position_or_len ends_name remaining → (size == 0) ≡ false → IsHexName (take size remaining)
+front-name size remaining is some = record {
+  some = front-some size remaining some (omega (arith, is, size-within ends_name remaining));
+  whole = ap (λ (n : ℕ). list_any ends_name (take n remaining)) is ∙ no-blank ends_name remaining;
 }
 
-name-good : (left : List ℕ) → (name_length Hex2 left == 0) ≡ false → IsHexName (take (name_length Hex2 left) left)
+name-good : (remaining : List ℕ) → (name_length Hex2 remaining == 0) ≡ false → IsHexName (take (name_length Hex2 remaining) remaining)
 unfolding name_length
-name-good left some = front-name (position_or_len ends_name left) left refl some
+name-good remaining some = front-name (position_or_len ends_name remaining) remaining refl some
 
-named-good : (make : List ℕ → Token) (left : List ℕ) → ((name : List ℕ) → IsHexName name → IsGood (make name)) → IsGoodFound (named_by make (name_length Hex2 left) left)
-named-good make left good = by (name_length Hex2 left == 0) refl
+named-good : (make : List ℕ → Token) (remaining : List ℕ) → ((name : List ℕ) → IsHexName name → IsGood (make name)) → IsGoodFound (named_by make (name_length Hex2 remaining) remaining)
+named-good make remaining good = by (name_length Hex2 remaining == 0) refl
   where
-    by : (none : Bool) → (name_length Hex2 left == 0) ≡ none → IsGoodFound (cond none (Err BadField) (Ok (make (take (name_length Hex2 left) left), name_length Hex2 left)))
+    by : (none : Bool) → (name_length Hex2 remaining == 0) ≡ none → IsGoodFound (cond none (Err BadField) (Ok (make (take (name_length Hex2 remaining) remaining), name_length Hex2 remaining)))
     by true is = tt
-    by false is = good (take (name_length Hex2 left) left) (name-good left is)
+    by false is = good (take (name_length Hex2 remaining) remaining) (name-good remaining is)
 
-second-good : (left : List ℕ) → (name_length Hex2 left == 0) ≡ false
-    → IsGoodFound (second_name (name_length Hex2 left) (name_length Hex2 (drop (name_length Hex2 left + 1) left)) left)
-second-good left some = by (name_length Hex2 (drop (name_length Hex2 left + 1) left) == 0) refl
+second-good : (remaining : List ℕ) → (name_length Hex2 remaining == 0) ≡ false
+    → IsGoodFound (second_name (name_length Hex2 remaining) (name_length Hex2 (drop (name_length Hex2 remaining + 1) remaining)) remaining)
+second-good remaining some = by (name_length Hex2 (drop (name_length Hex2 remaining + 1) remaining) == 0) refl
   where
     rest : List ℕ
-    rest = drop (name_length Hex2 left + 1) left
+    rest = drop (name_length Hex2 remaining + 1) remaining
 
     by : (none : Bool) → (name_length Hex2 rest == 0) ≡ none
-        → IsGoodFound (cond none (Err BadField) (Ok (Alone (item.Gap (take (name_length Hex2 left) left) (take (name_length Hex2 rest) rest)), name_length Hex2 left + 1 + name_length Hex2 rest)))
+        → IsGoodFound (cond none (Err BadField) (Ok (Alone (item.Gap (take (name_length Hex2 remaining) remaining) (take (name_length Hex2 rest) rest)), name_length Hex2 remaining + 1 + name_length Hex2 rest)))
     by true is = tt
-    by false is = (name-good left some, name-good rest is)
+    by false is = (name-good remaining some, name-good rest is)
 
-rel-good : (left : List ℕ) → IsGoodFound (rel_at Hex2 left)
-rel-good left = by (slice_index left (name_length Hex2 left) == 62) (name_length Hex2 left == 0) refl
+rel-good : (remaining : List ℕ) → IsGoodFound (rel_at Hex2 remaining)
+rel-good remaining = by (slice_index remaining (name_length Hex2 remaining) == 62) (name_length Hex2 remaining == 0) refl
   where
-    alone : IsGoodFound (named_by (λ name. Alone (item.Rel name)) (name_length Hex2 left) left)
-    alone = named-good (λ name. Alone (item.Rel name)) left (λ name is. is)
+    alone : IsGoodFound (named_by (λ name. Alone (item.Rel name)) (name_length Hex2 remaining) remaining)
+    alone = named-good (λ name. Alone (item.Rel name)) remaining (λ name is. is)
 
-    by : (gap none : Bool) → (name_length Hex2 left == 0) ≡ none
-        → IsGoodFound (cond (gap && not none) (second_name (name_length Hex2 left) (name_length Hex2 (drop (name_length Hex2 left + 1) left)) left)
-        (named_by (λ name. Alone (item.Rel name)) (name_length Hex2 left) left))
+    by : (gap none : Bool) → (name_length Hex2 remaining == 0) ≡ none
+        → IsGoodFound (cond (gap && not none) (second_name (name_length Hex2 remaining) (name_length Hex2 (drop (name_length Hex2 remaining + 1) remaining)) remaining)
+        (named_by (λ name. Alone (item.Rel name)) (name_length Hex2 remaining) remaining))
     by true true is = alone
-    by true false is = second-good left is
+    by true false is = second-good remaining is
     by false none is = alone
 
 -- ---- the table
 
-pub token-good : (byte : ℕ) (left : List ℕ) → IsGoodFound (token_at Hex2 byte left)
+pub token-good : (byte : ℕ) (remaining : List ℕ) → IsGoodFound (token_at Hex2 byte remaining)
 unfolding token_at
-token-good byte left =
-    either (is_hex_digit byte) (pair_at byte left) _ (pair_at-good byte left)
-    (either (byte == 46) (field_at left) _ (field_at-good left)
-    (either (byte == 58) _ _ (named-good (λ name. Alone (item.Label name)) left (λ name is. is))
-    (either (byte == 33) _ _ (named-good (Reference I) left (λ name is. is))
-    (either (byte == 64) _ _ (named-good (Reference B) left (λ name is. is))
-    (either (byte == 36) _ _ (named-good (Reference J) left (λ name is. is))
-    (either (byte == 126) _ _ (named-good (Reference U) left (λ name is. is))
-    (either (byte == 38) _ _ (named-good (λ name. Alone (item.Abs name)) left (λ name is. is))
-    (either (byte == 37) (rel_at Hex2 left) _ (rel-good left)
+token-good byte remaining =
+    either (is_hex_digit byte) (pair_at byte remaining) _ (pair_at-good byte remaining)
+    (either (byte == 46) (field_at remaining) _ (field_at-good remaining)
+    (either (byte == 58) _ _ (named-good (λ name. Alone (item.Label name)) remaining (λ name is. is))
+    (either (byte == 33) _ _ (named-good (Reference I) remaining (λ name is. is))
+    (either (byte == 64) _ _ (named-good (Reference B) remaining (λ name is. is))
+    (either (byte == 36) _ _ (named-good (Reference J) remaining (λ name is. is))
+    (either (byte == 126) _ _ (named-good (Reference U) remaining (λ name is. is))
+    (either (byte == 38) _ _ (named-good (λ name. Alone (item.Abs name)) remaining (λ name is. is))
+    (either (byte == 37) (rel_at Hex2 remaining) _ (rel-good remaining)
     (either (byte == 60) _ _ tt tt)))))))))

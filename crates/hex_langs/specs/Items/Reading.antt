@@ -24,11 +24,11 @@ pub data Reading (F : Type 0) : Type 0 where
 -- what stands from an offset on, of which the first bytes belong to a token or gap that is already read
 unfoldable pub reading : Dialect → ℕ → ℕ → List ℕ → Reading TokenFault
 reading dialect at inside [] = NoToken
-reading dialect at (suc inside) (byte ∷ left) = reading dialect (at + 1) inside left
-reading dialect at zero (byte ∷ left) =
-    if opens_gap byte then reading dialect (at + 1) (gap_length (byte ∷ left) - 1) left
-    else elim (token_at dialect byte left) [
-      | Ok found ↦ Then at found.0 (reading dialect (at + 1) found.1 left)
+reading dialect at (suc inside) (byte ∷ remaining) = reading dialect (at + 1) inside remaining
+reading dialect at zero (byte ∷ remaining) =
+    if opens_gap byte then reading dialect (at + 1) (gap_length (byte ∷ remaining) - 1) remaining
+    else elim (token_at dialect byte remaining) [
+      | Ok found ↦ Then at found.0 (reading dialect (at + 1) found.1 remaining)
       | Err why ↦ Faulty why at
     ]
 

@@ -23,14 +23,14 @@ is_blank byte = byte == 32 || byte == 9 || byte == 10 || byte == 13
 -- how many bytes of blanks and comments stand at the front; `true`: the front lies in a comment, which runs up to and over the next LF
 abbrev pub gap_from : Bool → List ℕ → ℕ
 gap_from in_comment [] = 0
-gap_from true (byte ∷ left) = suc (gap_from (not (byte == 10)) left)
-gap_from false (byte ∷ left) =
-    if begins_comment byte then suc (gap_from true left)
-    else if is_blank byte then suc (gap_from false left)
+gap_from true (byte ∷ remaining) = suc (gap_from (not (byte == 10)) remaining)
+gap_from false (byte ∷ remaining) =
+    if begins_comment byte then suc (gap_from true remaining)
+    else if is_blank byte then suc (gap_from false remaining)
     else 0
 
 unfoldable pub gap_length : List ℕ → ℕ
-gap_length left = gap_from false left
+gap_length remaining = gap_from false remaining
 
 abbrev pub opens_gap : ℕ → Bool
 opens_gap byte = is_blank byte || begins_comment byte
@@ -42,12 +42,12 @@ ends_name byte = is_blank byte || byte == 62
 -- a name of hex1 is the one next byte, which is no blank
 abbrev pub one_byte : List ℕ → ℕ
 one_byte [] = 0
-one_byte (byte ∷ left) = if is_blank byte then 0 else 1
+one_byte (byte ∷ remaining) = if is_blank byte then 0 else 1
 
 -- how many bytes the name at the front has; 0: there is none
 unfoldable pub name_length : Dialect → List ℕ → ℕ
-name_length Hex1 left = one_byte left
-name_length Hex2 left = position_or_len ends_name left
+name_length Hex1 remaining = one_byte remaining
+name_length Hex2 remaining = position_or_len ends_name remaining
 
 -- the byte of two digits
 abbrev pub byte_of : Option ℕ → Option ℕ → Option ℕ
@@ -57,18 +57,18 @@ byte_of _ _ = None
 -- a byte's second digit, past blanks and comments
 abbrev pub low_digit : List ℕ → Option ℕ
 low_digit [] = None
-low_digit (byte ∷ left) = hex_digit_value byte
+low_digit (byte ∷ remaining) = hex_digit_value byte
 
 abbrev pub pair_with : ℕ → Option ℕ → Result (Token × ℕ) TokenFault
 pair_with gap (Some value) = Ok (Byte value, gap + 1)
 pair_with gap None = Err OddDigits
 
 unfoldable pub pair_at : ℕ → List ℕ → Result (Token × ℕ) TokenFault
-pair_at digit left = pair_with (gap_length left) (byte_of (hex_digit_value digit) (low_digit (drop (gap_length left) left)))
+pair_at digit remaining = pair_with (gap_length remaining) (byte_of (hex_digit_value digit) (low_digit (drop (gap_length remaining) remaining)))
 
 -- the byte of the digits at a place and after it
 abbrev pub byte_at : List ℕ → ℕ → Option ℕ
-byte_at left place = byte_of (hex_digit_value (slice_index left place)) (hex_digit_value (slice_index left (place + 1)))
+byte_at remaining place = byte_of (hex_digit_value (slice_index remaining place)) (hex_digit_value (slice_index remaining (place + 1)))
 
 abbrev pub field_of : Option ℕ → Option ℕ → Option ℕ → Option ℕ → Result (Token × ℕ) TokenFault
 field_of (Some a) (Some b) (Some c) (Some d) = Ok (Field (from_le_bytes w32 (a ∷ b ∷ c ∷ d ∷ [])), 8)
@@ -76,13 +76,13 @@ field_of _ _ _ _ = Err BadField
 
 -- after `.` at once 8 digits
 unfoldable pub field_at : List ℕ → Result (Token × ℕ) TokenFault
-field_at left =
-    if nat_lt (length left) 8 then Err BadField
-    else field_of (byte_at left 0) (byte_at left 2) (byte_at left 4) (byte_at left 6)
+field_at remaining =
+    if nat_lt (length remaining) 8 then Err BadField
+    else field_of (byte_at remaining 0) (byte_at remaining 2) (byte_at remaining 4) (byte_at remaining 6)
 
 -- after a sign at once a name
 abbrev pub named_by : (List ℕ → Token) → ℕ → List ℕ → Result (Token × ℕ) TokenFault
-named_by make size left = if size == 0 then Err BadField else Ok (make (take size left), size)
+named_by make size remaining = if size == 0 then Err BadField else Ok (make (take size remaining), size)
 
 -- what a sign makes of the name after it
 abbrev pub sign_token : Sign → List ℕ → Token
@@ -92,38 +92,38 @@ sign_token (sign.Reference kind) name = Reference kind name
 
 -- after `%` a name, and in hex2 perhaps `>` and a second one
 abbrev pub second_name : ℕ → ℕ → List ℕ → Result (Token × ℕ) TokenFault
-second_name size more left =
+second_name size more remaining =
     if more == 0 then Err BadField
-    else Ok (Alone (item.Gap (take size left) (take more (drop (size + 1) left))), size + 1 + more)
+    else Ok (Alone (item.Gap (take size remaining) (take more (drop (size + 1) remaining))), size + 1 + more)
 
 abbrev pub rel_at : Dialect → List ℕ → Result (Token × ℕ) TokenFault
-rel_at Hex1 left = named_by (λ name. Alone (item.Rel name)) (name_length Hex1 left) left
-rel_at Hex2 left =
-    if slice_index left (name_length Hex2 left) == 62 && not (name_length Hex2 left == 0)
-    then second_name (name_length Hex2 left) (name_length Hex2 (drop (name_length Hex2 left + 1) left)) left
-    else named_by (λ name. Alone (item.Rel name)) (name_length Hex2 left) left
+rel_at Hex1 remaining = named_by (λ name. Alone (item.Rel name)) (name_length Hex1 remaining) remaining
+rel_at Hex2 remaining =
+    if slice_index remaining (name_length Hex2 remaining) == 62 && not (name_length Hex2 remaining == 0)
+    then second_name (name_length Hex2 remaining) (name_length Hex2 (drop (name_length Hex2 remaining + 1) remaining)) remaining
+    else named_by (λ name. Alone (item.Rel name)) (name_length Hex2 remaining) remaining
 
 -- `<`, which hex1 lacks
 abbrev pub pad_at : Dialect → ℕ → List ℕ → Result (Token × ℕ) TokenFault
-pad_at Hex1 byte left = Err BadField
-pad_at Hex2 byte left =
+pad_at Hex1 byte remaining = Err BadField
+pad_at Hex2 byte remaining =
     if byte == 60 then Ok (Alone item.Pad, 0)
     else Err BadField
 
 -- the table of tokens, by the first byte and what stands after it: the token, and how many bytes it takes after the first.
 -- The signs are `.` `:` `!` `@` `$` `~` `&` `%`, and `<` in hex2 alone
 unfoldable pub token_at : Dialect → ℕ → List ℕ → Result (Token × ℕ) TokenFault
-token_at dialect byte left =
-    if is_hex_digit byte then pair_at byte left
-    else if byte == 46 then field_at left
-    else if byte == 58 then named_by (sign_token sign.Label) (name_length dialect left) left
-    else if byte == 33 then named_by (sign_token (sign.Reference I)) (name_length dialect left) left
-    else if byte == 64 then named_by (sign_token (sign.Reference B)) (name_length dialect left) left
-    else if byte == 36 then named_by (sign_token (sign.Reference J)) (name_length dialect left) left
-    else if byte == 126 then named_by (sign_token (sign.Reference U)) (name_length dialect left) left
-    else if byte == 38 then named_by (sign_token sign.Absolute) (name_length dialect left) left
-    else if byte == 37 then rel_at dialect left
-    else pad_at dialect byte left
+token_at dialect byte remaining =
+    if is_hex_digit byte then pair_at byte remaining
+    else if byte == 46 then field_at remaining
+    else if byte == 58 then named_by (sign_token sign.Label) (name_length dialect remaining) remaining
+    else if byte == 33 then named_by (sign_token (sign.Reference I)) (name_length dialect remaining) remaining
+    else if byte == 64 then named_by (sign_token (sign.Reference B)) (name_length dialect remaining) remaining
+    else if byte == 36 then named_by (sign_token (sign.Reference J)) (name_length dialect remaining) remaining
+    else if byte == 126 then named_by (sign_token (sign.Reference U)) (name_length dialect remaining) remaining
+    else if byte == 38 then named_by (sign_token sign.Absolute) (name_length dialect remaining) remaining
+    else if byte == 37 then rel_at dialect remaining
+    else pad_at dialect byte remaining
 
 -- what two digits give, without the token
 abbrev pub IsPair : Result (ℕ × ℕ) TokenFault → Result (Token × ℕ) TokenFault → Type 0

@@ -39,15 +39,15 @@ capped-more k v w (byte ∷ text) same =
     by None later = refl
     by (Some digit) later = later digit
 
-pub digit-more : (base value digit next byte : ℕ) (left : List ℕ) → 1 ≤ base → Some digit ≡ digit_below base (hex_digit_value byte)
+pub digit-more : (base value digit next byte : ℕ) (remaining : List ℕ) → 1 ≤ base → Some digit ≡ digit_below base (hex_digit_value byte)
     → next ≡ capped (base * value + digit)
-    → capped_value (more_digits base value (byte ∷ left)) ≡ capped_value (more_digits base next left)
-digit-more base value digit next byte left low is next_is =
+    → capped_value (more_digits base value (byte ∷ remaining)) ≡ capped_value (more_digits base next remaining)
+digit-more base value digit next byte remaining low is next_is =
     let k_is : 1 + (base - 1) ≡ base = omega arith in
     let twice : capped (base * value + digit) ≡ capped next = omega arith in
-    ap (λ (o : Option ℕ). capped_value (after_digit o (λ (d : ℕ). more_digits base (base * value + d) left))) (sym is)
-    ∙ subst (λ (b : ℕ). capped_value (more_digits b (base * value + digit) left) ≡ capped_value (more_digits b next left)) k_is
-    (capped-more (base - 1) (base * value + digit) next left twice)
+    ap (λ (o : Option ℕ). capped_value (after_digit o (λ (d : ℕ). more_digits base (base * value + d) remaining))) (sym is)
+    ∙ subst (λ (b : ℕ). capped_value (more_digits b (base * value + digit) remaining) ≡ capped_value (more_digits b next remaining)) k_is
+    (capped-more (base - 1) (base * value + digit) next remaining twice)
 
 -- ---- a number that is capped is out of every range, as the number itself is
 

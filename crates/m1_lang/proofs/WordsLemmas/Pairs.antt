@@ -7,9 +7,9 @@ use Rattle.m1_lang.specs.Words.Forms.{byte_tokens}
 use Rattle.m1_lang.specs.Words.Meanings.{before_bytes, front_bytes}
 use Rattle.m1_lang.specs.Words.Digits.{cons_byte, digit_bytes}
 
-pub pairs-more : (a b : ℕ) (left : List ℕ) (value : ℕ) → Some value ≡ byte_of (hex_digit_value a) (hex_digit_value b)
-    → is_some (digit_bytes (a ∷ b ∷ left)) ≡ is_some (digit_bytes left)
-pairs-more a b left value is = ap (λ (o : Option ℕ). is_some (cons_byte o (digit_bytes left))) (sym is) ∙ kept (digit_bytes left)
+pub pairs-more : (a b : ℕ) (remaining : List ℕ) (value : ℕ) → Some value ≡ byte_of (hex_digit_value a) (hex_digit_value b)
+    → is_some (digit_bytes (a ∷ b ∷ remaining)) ≡ is_some (digit_bytes remaining)
+pairs-more a b remaining value is = ap (λ (o : Option ℕ). is_some (cons_byte o (digit_bytes remaining))) (sym is) ∙ kept (digit_bytes remaining)
   where
     kept : (o : Option (List ℕ)) → is_some (cons_byte (Some value) o) ≡ is_some o
     kept None = refl
@@ -23,16 +23,16 @@ bytes-front [] bytes is = some-is [] bytes is
 bytes-front (alone ∷ []) bytes is = absurd (cc)
 bytes-front (high ∷ low ∷ rest) bytes is = by (byte_of (hex_digit_value high) (hex_digit_value low)) (digit_bytes rest) (bytes-front rest) is
   where
-    by : (byte : Option ℕ) (left : Option (List ℕ)) → ((more : List ℕ) → left ≡ Some more → front_bytes rest ≡ more) → cons_byte byte left ≡ Some bytes
+    by : (byte : Option ℕ) (remaining : Option (List ℕ)) → ((more : List ℕ) → remaining ≡ Some more → front_bytes rest ≡ more) → cons_byte byte remaining ≡ Some bytes
         → before_bytes byte (front_bytes rest) ≡ bytes
-    by None left later same = absurd (cc)
+    by None remaining later same = absurd (cc)
     by (Some byte) None later same = absurd (cc)
     by (Some byte) (Some more) later same = ap (λ (l : List ℕ). byte ∷ l) (later more refl) ∙ some-is (byte ∷ more) bytes same
 
 pub tokens-some : (text : List ℕ) → 0 < length text → is_some (digit_bytes text) ≡ true → byte_tokens (digit_bytes text) ≡ Some (map Byte (front_bytes text))
 tokens-some text some pairs = by (digit_bytes text) (bytes-front text) pairs (long text some)
   where
-    long : (left : List ℕ) → 0 < length left → digit_bytes left ≡ Some [] → ⊥
+    long : (remaining : List ℕ) → 0 < length remaining → digit_bytes remaining ≡ Some [] → ⊥
     long [] none is = absurd (omega (arith, none))
     long (alone ∷ []) few is = absurd (cc)
     long (high ∷ low ∷ rest) many is = both (byte_of (hex_digit_value high) (hex_digit_value low)) (digit_bytes rest) is

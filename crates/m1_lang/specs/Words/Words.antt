@@ -21,23 +21,23 @@ is_quote byte = byte == 34 || byte == 39
 
 -- up to the next same quote, which belongs to the word
 abbrev pub until_closed : ℕ → List ℕ → Option ℕ
-until_closed size left = if nat_lt size (length left) then Some (size + 1) else None
+until_closed size remaining = if nat_lt size (length remaining) then Some (size + 1) else None
 
 -- how many bytes a word has after its first one: a quoted word runs over blanks, every other one up to a blank or the end; none: its quote
 -- isn't closed
 unfoldable pub word_more : ℕ → List ℕ → Option ℕ
-word_more byte left =
-    if is_quote byte then until_closed (position_or_len (λ b. b == byte) left) left
-    else Some (position_or_len is_blank left)
+word_more byte remaining =
+    if is_quote byte then until_closed (position_or_len (λ b. b == byte) remaining) remaining
+    else Some (position_or_len is_blank remaining)
 
 -- what stands from an offset on, of which the first bytes belong to a word, or to blanks and comments, already read
 unfoldable pub words_from : ℕ → ℕ → List ℕ → Words
 words_from at inside [] = NoWord
-words_from at (suc inside) (byte ∷ left) = words_from (at + 1) inside left
-words_from at zero (byte ∷ left) =
-    if opens_gap byte then words_from (at + 1) (gap_length (byte ∷ left) - 1) left
-    else elim (word_more byte left) [
-      | Some more ↦ Found (record { at = at; text = byte ∷ take more left }) (words_from (at + 1) more left)
+words_from at (suc inside) (byte ∷ remaining) = words_from (at + 1) inside remaining
+words_from at zero (byte ∷ remaining) =
+    if opens_gap byte then words_from (at + 1) (gap_length (byte ∷ remaining) - 1) remaining
+    else elim (word_more byte remaining) [
+      | Some more ↦ Found (record { at = at; text = byte ∷ take more remaining }) (words_from (at + 1) more remaining)
       | None ↦ Unclosed at
     ]
 

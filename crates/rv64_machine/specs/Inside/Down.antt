@@ -6,10 +6,10 @@ use Rattle.rv64_machine.specs.Hart.{HartState, Acts, ComesTo, passed}
 
 -- how they ended, and how many were left; a stop that was reached is a multiple of 4, as each pc is
 abbrev pub ActsDown : ℕ → HartState → ℕ → ℕ → StepEnd → HartState → Type 0
-ActsDown stop old most left end.Done new =
-    ((left ≡ 0) × (passed (Some stop) old most ≡ Some new)) ⊎ (ComesTo (Some stop) old most (most - left) new × (left < most) × (stop % 4 ≡ 0))
-ActsDown stop old most left end.Call new = (0 < left) × (left ≤ most) × (passed (Some stop) old (most - left) ≡ Some new) × Acts new end.Call new
-ActsDown stop old most left (end.Trap cause) new =
-    (0 < left) × (left ≤ most) × (passed (Some stop) old (most - left) ≡ Some new) × Acts new (end.Trap cause) new
-ActsDown stop old most left end.OutOfMemory new =
-    (0 < left) × (left ≤ most) × (passed (Some stop) old (most - left) ≡ Some new) × Acts new end.OutOfMemory new
+ActsDown stop old most remaining end.Done new =
+    ((remaining ≡ 0) × (passed (Some stop) old most ≡ Some new)) ⊎ (ComesTo (Some stop) old most (most - remaining) new × (remaining < most) × (stop % 4 ≡ 0))
+ActsDown stop old most remaining end.Call new = (0 < remaining) × (remaining ≤ most) × (passed (Some stop) old (most - remaining) ≡ Some new) × Acts new end.Call new
+ActsDown stop old most remaining (end.Trap cause) new =
+    (0 < remaining) × (remaining ≤ most) × (passed (Some stop) old (most - remaining) ≡ Some new) × Acts new (end.Trap cause) new
+ActsDown stop old most remaining end.OutOfMemory new =
+    (0 < remaining) × (remaining ≤ most) × (passed (Some stop) old (most - remaining) ≡ Some new) × Acts new end.OutOfMemory new

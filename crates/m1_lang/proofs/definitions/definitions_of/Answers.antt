@@ -34,9 +34,9 @@ returns-in-Err c =
     let word : Word = record { at = c.in-Word.start; text = c.in-Word.text.now } in
     let source = c.args.source.now in
     let values = values_in c.loop-at.table in
-    let left = word_list (words_at source c.in-Word.after) in
+    let remaining = word_list (words_at source c.in-Word.after) in
     let meant = meant-by values source c.loop-at.at _ c.loop-at.invariant.quote c.loop-at.invariant.whole c.in-Word.ensures.0
-    ∙ ap (unless_quoted (open_at source c.in-Word.after)) (define-word values word left (sym c.if-is_define.ensures)) in
+    ∙ ap (unless_quoted (open_at source c.in-Word.after)) (define-word values word remaining (sym c.if-is_define.ensures)) in
     rw c.unless_open.ensures (refused (open_at source c.in-Word.after) c.in-Err.why c.in-Word.start c.in-Word.after source
     c.loop-at.table c.define.new.table _ meant c.in-Err.ensures)
 

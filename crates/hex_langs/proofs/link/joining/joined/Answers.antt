@@ -9,10 +9,10 @@ pub loop-index-preserved : goal.loop-index-preserved
 loop-index-preserved c =
     let labels = address_in c.args.table.now in
     let place = c.args.base + length c.loop-index.out in
-    let left = drop (c.loop-index.index + 1) c.args.items.now in
+    let remaining = drop (c.loop-index.index + 1) c.args.items.now in
     let turn = at_drop_more (bytes_from labels place c.loop-index.index) c.args.items.now c.loop-index.index c.item_at-item.result (omega arith)
-    ∙ ap (λ it. bytes_from labels place c.loop-index.index (it ∷ left)) (sym c.item_at-item.ensures) in
+    ∙ ap (λ it. bytes_from labels place c.loop-index.index (it ∷ remaining)) (sym c.item_at-item.ensures) in
     let puts = subst (λ (n : ℕ). Puts (Ok tt) (item_bytes labels (c.args.base + n) c.item_at-item.result) c.loop-index.out c.put.new.out) c.len.ensures c.in-Ok.ensures in
-    let more = joined-more labels c.args.base c.loop-index.index c.item_at-item.result left c.loop-index.out c.put.new.out _
+    let more = joined-more labels c.args.base c.loop-index.index c.item_at-item.result remaining c.loop-index.out c.put.new.out _
     (c.loop-index.invariant.whole ∙ ap (onto c.loop-index.out) turn) puts in
     record { whole = more.0; small = omega (arith, more.1) }

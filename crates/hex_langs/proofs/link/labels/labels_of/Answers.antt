@@ -16,13 +16,13 @@ loop-index-preserved c =
     let index = c.loop-index.index in
     let address = c.loop-index.address in
     let it = c.item_at-item.result in
-    let left = drop (index + 1) items in
-    let next : drop index items ≡ it ∷ left = at_drop_more (λ (l : List Item). l) items index it (omega arith) ∙ ap (λ (i : Item). i ∷ left) (sym c.item_at-item.ensures) in
+    let remaining = drop (index + 1) items in
+    let next : drop index items ≡ it ∷ remaining = at_drop_more (λ (l : List Item). l) items index it (omega arith) ∙ ap (λ (i : Item). i ∷ remaining) (sym c.item_at-item.ensures) in
     let adds = subst (λ (b : Bool). Adds {E = OutOfMemory} (Ok b) it address c.loop-index.table c.add_label.new.table) c.if-branch.false c.in_ok-add_label.ensures in
-    let now = more OutOfMemory it items left base c.loop-index.table c.add_label.new.table index address
+    let now = more OutOfMemory it items remaining base c.loop-index.table c.add_label.new.table index address
     (subst (IsTableOf items base c.loop-index.table index address) next c.loop-index.invariant.table) adds in
     record {
-      table = subst (λ (n : ℕ). IsTableOf items base c.add_label.new.table (index + 1) (address + n) left) (sym c.size_at-address.ensures.value) now;
+      table = subst (λ (n : ℕ). IsTableOf items base c.add_label.new.table (index + 1) (address + n) remaining) (sym c.size_at-address.ensures.value) now;
       near = omega arith;
     }
 
