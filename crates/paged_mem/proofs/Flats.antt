@@ -67,9 +67,9 @@ is_overwritten bytes new start source within long inside outside =
 get_right : (xs ys : List ℕ) (k : ℕ) → length xs ≤ k → get_or (xs ++ ys) k 0 ≡ get_or ys (k - length xs) 0
 get_right xs ys k from = ap (λ n. get_or (xs ++ ys) n 0) (let at : k ≡ length xs + (k - length xs) = omega arith in at) ∙ get_or-append-add xs ys (k - length xs) 0
 
-overwritten-remaining : (xs ys : List ℕ) (start : ℕ) (source : List ℕ) → start + length source ≤ length xs
+overwritten-left : (xs ys : List ℕ) (start : ℕ) (source : List ℕ) → start + length source ≤ length xs
     → overwritten (xs ++ ys) start source ≡ overwritten xs start source ++ ys
-overwritten-remaining xs ys start source within =
+overwritten-left xs ys start source within =
     let long = length-overwritten xs start source within in
     let both = length-append xs ys in
     sym (is_overwritten (xs ++ ys) (overwritten xs start source ++ ys) start source (omega arith)
@@ -121,7 +121,7 @@ flat-set [] i low source entry full within fits is = absurd (omega arith)
 flat-set (first ∷ entries) zero low source entry full within fits is =
     let long : length (page_content first) ≡ 4096 = full 0 in
     let at : low ≡ 4096 * 0 + low = omega arith in
-    ap (λ xs. xs ++ flat entries) is ∙ sym (overwritten-remaining (page_content first) (flat entries) low source (omega arith))
+    ap (λ xs. xs ++ flat entries) is ∙ sym (overwritten-left (page_content first) (flat entries) low source (omega arith))
     ∙ ap (λ n. overwritten (page_content first ++ flat entries) n source) at
 flat-set (first ∷ entries) (suc i) low source entry full within fits is =
     let long : length (page_content first) ≡ 4096 = full 0 in
@@ -294,7 +294,7 @@ pub write_more : (entries : List Entry) (old : List ℕ) (start done count n : �
     → page_content entry ≡ overwritten (page_content (get_or entries ((start + done) / 4096) default)) ((start + done) % 4096) piece
     → flat (set entries ((start + done) / 4096) entry) ≡ overwritten old start (take (done + count) source)
 write_more entries old start done count n source piece entry default full long is some most fits low same_n piece_is put =
-    let remaining = length-drop done source in
+    let left = length-drop done source in
     let size : length piece ≡ count = omega (arith, ap length piece_is, length-take n (drop done source)) in
     let within : (start + done) / 4096 < length entries = omega arith in
     let at : 4096 * ((start + done) / 4096) + (start + done) % 4096 ≡ start + done = omega arith in
@@ -459,11 +459,11 @@ module _ (pages : List ℕ) (entries : List Entry) (long : length entries ≡ le
       let rest = held_parts (drop at pages) (drop at entries) (omega (arith, length-drop at pages, length-drop at entries)) count in
       let gone = length-append (held_pages (take count (drop at pages)) (take count (drop at entries))) (held_pages (drop count (drop at pages)) (drop count (drop at entries))) in
       let all = length-append (held_pages (take at pages) (take at entries)) (held_pages (drop at pages) (drop at entries)) in
-      let remaining = length-append (held_pages (take at pages) (take at entries)) (held_pages (drop (at + count) pages) (drop (at + count) entries)) in
+      let left = length-append (held_pages (take at pages) (take at entries)) (held_pages (drop (at + count) pages) (drop (at + count) entries)) in
       let same : held_pages (drop count (drop at pages)) (drop count (drop at entries)) ≡ held_pages (drop (at + count) pages) (drop (at + count) entries) =
       ap (λ ps. held_pages ps (drop count (drop at entries))) (drop-drop count at pages) ∙ ap (held_pages (drop (at + count) pages)) (drop-drop count at entries) in
       let joined = held_pages-append (take at pages) (drop (at + count) pages) (take at entries) (drop (at + count) entries) (omega (arith, length-take at pages, length-take at entries)) in
-      omega (arith, ap length rest, gone, ap length (held_parts pages entries long at), all, remaining, ap length same, ap length joined)
+      omega (arith, ap length rest, gone, ap length (held_parts pages entries long at), all, left, ap length same, ap length joined)
 
 pub are_none : (pages : List ℕ) (entries : List Entry) → pages ≡ [] → entries ≡ [] → ArePages pages entries
 unfolding flat

@@ -157,11 +157,11 @@ module _ (pages bytes : List ℕ) (sound : AreFlatPages pages bytes) (number cou
       by_cases (inl none) = omega (arith, rank.within)
       by_cases (inr some) = omega (arith, (stands (count - 1) (omega arith)).0)
 
-  abbrev pub remaining_pages : List ℕ
-  remaining_pages = take at pages ++ drop (at + count) pages
+  abbrev pub left_pages : List ℕ
+  left_pages = take at pages ++ drop (at + count) pages
 
-  abbrev pub remaining_bytes : List ℕ
-  remaining_bytes = take (4096 * at) bytes ++ drop (4096 * at + 4096 * count) bytes
+  abbrev pub left_bytes : List ℕ
+  left_bytes = take (4096 * at) bytes ++ drop (4096 * at + 4096 * count) bytes
 
   between_pages : take count (drop at pages) ≡ range_with_len number count
   between_pages =
@@ -185,7 +185,7 @@ module _ (pages bytes : List ℕ) (sound : AreFlatPages pages bytes) (number cou
       ∙ ap (λ xs. take (4096 * at) bytes ++ xs) (take-append-drop (4096 * count) (drop (4096 * at) bytes))
       ∙ take-append-drop (4096 * at) bytes
 
-  pub memory_of-removed : memory_of remaining_pages remaining_bytes ≡ without (memory_of pages bytes) (4096 * number) (4096 * count)
+  pub memory_of-removed : memory_of left_pages left_bytes ≡ without (memory_of pages bytes) (4096 * number) (4096 * count)
   memory_of-removed =
       memory_of-unmapped (take at pages) (drop (at + count) pages) (take (4096 * at) bytes) (drop (4096 * at + 4096 * count) bytes) number count
       (omega (arith, length-take (4096 * at) bytes, length-take at pages, sound.full, rank.within))
@@ -195,7 +195,7 @@ module _ (pages bytes : List ℕ) (sound : AreFlatPages pages bytes) (number cou
       (subst Rises (sym split_pages) sound.rising)
       ∙ ap (λ m. without m (4096 * number) (4096 * count)) (ap (λ p. memory_of p (take (4096 * at) bytes ++ (removed_bytes ++ drop (4096 * at + 4096 * count) bytes))) split_pages ∙ ap (memory_of pages) split_bytes)
 
-  pub AreFlatPages-removed : AreFlatPages remaining_pages remaining_bytes
+  pub AreFlatPages-removed : AreFlatPages left_pages left_bytes
   AreFlatPages-removed = record {
     rising = Rises-append (take at pages) (drop (at + count) pages) (Rises-take pages at rank.within sound.rising) (Rises-drop pages (at + count) sound.rising)
         (λ i j a b.

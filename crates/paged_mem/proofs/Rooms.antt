@@ -18,12 +18,12 @@ range-more number zero = ap (λ n. n ∷ []) (omega arith)
 range-more number (suc count) = ap (λ rest. number ∷ rest) (range-more (number + 1) count ∙ ap (λ n. range_with_len (number + 1) count ++ n ∷ []) (omega arith))
 
 -- a number written at the first zero after those that stand already
-pub numbered_more : (front back : List ℕ) (at number i remaining : ℕ) → length front ≡ at → set (front ++ (range_with_len number i ++ (replicate (suc remaining) 0 ++ back))) (at + i) (number + i) ≡ front ++ (range_with_len number (suc i) ++ (replicate remaining 0 ++ back))
-numbered_more front back at number i remaining long =
-    ap (λ xs. set xs (at + i) (number + i)) (sym (append_assoc front (range_with_len number i) (0 ∷ (replicate remaining 0 ++ back))))
-    ∙ set_at (front ++ range_with_len number i) 0 (replicate remaining 0 ++ back) (number + i) (at + i) (omega (arith, length-append front (range_with_len number i), length-range_with_len number i))
-    ∙ append_assoc front (range_with_len number i) ((number + i) ∷ (replicate remaining 0 ++ back))
-    ∙ ap (λ xs. front ++ xs) (sym (append_assoc (range_with_len number i) ((number + i) ∷ []) (replicate remaining 0 ++ back)) ∙ ap (λ xs. xs ++ (replicate remaining 0 ++ back)) (sym (range-more number i)))
+pub numbered_more : (front back : List ℕ) (at number i left : ℕ) → length front ≡ at → set (front ++ (range_with_len number i ++ (replicate (suc left) 0 ++ back))) (at + i) (number + i) ≡ front ++ (range_with_len number (suc i) ++ (replicate left 0 ++ back))
+numbered_more front back at number i left long =
+    ap (λ xs. set xs (at + i) (number + i)) (sym (append_assoc front (range_with_len number i) (0 ∷ (replicate left 0 ++ back))))
+    ∙ set_at (front ++ range_with_len number i) 0 (replicate left 0 ++ back) (number + i) (at + i) (omega (arith, length-append front (range_with_len number i), length-range_with_len number i))
+    ∙ append_assoc front (range_with_len number i) ((number + i) ∷ (replicate left 0 ++ back))
+    ∙ ap (λ xs. front ++ xs) (sym (append_assoc (range_with_len number i) ((number + i) ∷ []) (replicate left 0 ++ back)) ∙ ap (λ xs. xs ++ (replicate left 0 ++ back)) (sym (range-more number i)))
 
 pub Rises-range : (number count : ℕ) → Rises (range_with_len number count)
 Rises-range number count i j below within =
@@ -67,12 +67,12 @@ place-back [] more n e = same (place more n)
 place-back (page ∷ pages) more n e =
     elim (cases_eq page n) [
       | inl same ↦ absurd (none-some 0 (sym e ∙ place_here page n pages same))
-      | inr ne ↦ place_later page n (pages ++ more) ne ∙ ap (option_map (λ i. 1 + i)) (place-back pages more n (remaining (place pages n) (sym (place_later page n pages ne) ∙ e))) ∙ further (place more n)
+      | inr ne ↦ place_later page n (pages ++ more) ne ∙ ap (option_map (λ i. 1 + i)) (place-back pages more n (left (place pages n) (sym (place_later page n pages ne) ∙ e))) ∙ further (place more n)
     ]
   where
-    remaining : (o : Option ℕ) → option_map (λ i. 1 + i) o ≡ None → o ≡ None
-    remaining None e = refl
-    remaining (Some j) e = absurd (none-some (1 + j) (sym e))
+    left : (o : Option ℕ) → option_map (λ i. 1 + i) o ≡ None → o ≡ None
+    left None e = refl
+    left (Some j) e = absurd (none-some (1 + j) (sym e))
 
     further : (o : Option ℕ) → option_map (λ i. 1 + i) (option_map (λ j. length pages + j) o) ≡ option_map (λ j. length (page ∷ pages) + j) o
     further None = refl
