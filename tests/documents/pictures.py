@@ -9,16 +9,19 @@ from collections import Counter
 # A picture, its recipe, and a report of it where the picture has its figures.
 PICTURES = {
     "examples/chain/chain.svg": ("examples/chain/chain.toml", "tests/chain/chain.report"),
+    "examples/tinycc/seed.svg": ("examples/tinycc/seed.toml", "tests/tinycc/seed.report"),
     "examples/tinycc/tinycc.svg": ("examples/tinycc/tinycc.toml",),
 }
 NODE = re.compile(r'    "([^"]*)" \[label=<(.*)> shape=')
 EDGE = re.compile(r'    "([^"]*)" -> "([^"]*)" \[')
 TAG = re.compile(r"<[^>]*>")
+LINES = re.compile(r"[\d,]+ lines")
 
 
 def graph(root, *words):
     """The nodes of a drawn recipe with their texts, and the edges."""
-    drawn = subprocess.run([sys.executable, root / "examples/guide/draw", *(root / it for it in words)], capture_output=True, text=True, check=True).stdout
+    call = [sys.executable, root / "examples/guide/draw", *(root / it for it in words)]
+    drawn = subprocess.run(call, cwd=(root / words[0]).parent, capture_output=True, text=True, check=True).stdout
     nodes = {name: [TAG.sub("", it) for it in text.split("<br/>")] for name, text in NODE.findall(drawn)}
     return nodes, set(EDGE.findall(drawn))
 
@@ -60,5 +63,8 @@ def faults(root):
         nodes, edges = graph(root, *words)
         titles, texts = shown(root / picture)
         wanted = Counter([*nodes, *(f"{start}->{end}" for start, end in edges)])
-        if titles != wanted or texts != Counter(it for lines in nodes.values() for it in lines):
+        drawn = Counter(it for lines in nodes.values() for it in lines)
+        # How many lines a text has is drawn where it lies here, and that of TinyCC is not in the repository.
+        more = texts - drawn
+        if titles != wanted or drawn - texts or not all(map(LINES.fullmatch, more)):
             yield f"{picture}: not what examples/guide/draw {' '.join(words)} makes"
