@@ -1,11 +1,11 @@
 -- The plans of the commands of an audit, over words that were read.
-use Rattle.std.proofs.Common.{◌≡◌, ℕ, ◌&&◌, Bool, true, false, Option, None, Some, List, [], ◌∷◌, ap, refl, sym, ◌∙◌}
+use Rattle.std.proofs.Common.{◌≡◌, ℕ, Bool, true, false, Option, None, Some, List, [], ◌∷◌, refl}
 use Rattle.std.specs.Prelude.{if◌then◌else◌}
 use Rattle.command_plan.specs.Plan.{Plan}
-use Rattle.command_plan.specs.Words.{are_three_files, are_two_files, as_steps, as_three_files, or_usage, usage}
+use Rattle.command_plan.specs.Words.{are_four_files, are_three_files, are_two_files, as_steps, or_usage, usage}
 use Rattle.audit_commands.specs.Audit.{audit_files, audit_plan}
-use Rattle.audit_commands.specs.Delta.{are_four_files, delta_resume_files, delta_resume_plan, delta_start_files, delta_start_plan}
-use Rattle.audit_commands.specs.Inside.Words.{as_four_files, relative_of, relative_words, report_of, report_words, whole_of, whole_words}
+use Rattle.audit_commands.specs.Delta.{delta_resume_files, delta_resume_plan, delta_start_files, delta_start_plan}
+use Rattle.audit_commands.specs.Inside.Words.{relative_of, relative_words, report_of, report_words, whole_of, whole_words}
 use Rattle.audit_commands.specs.Pause.{part_files, part_plan, resume_files, resume_plan}
 use Rattle.audit_commands.specs.declared.words.RelativeWords.{RelativeWords}
 use Rattle.audit_commands.specs.declared.words.PieceWords.{PieceWords}
@@ -47,53 +47,6 @@ resumes (recipe ∷ save ∷ report ∷ steps ∷ []) = three resume_files recip
 resumes _ = refl
 
 -- ---- four files and a number of steps
-
-is_off : {A : Type 0} (b : Bool) (value : A) → None ≡ (if b then Some value else None) → b ≡ false
-is_off true value none = absurd cc
-is_off false value none = refl
-
-is_on : {A : Type 0} (b : Bool) (value found : A) → Some found ≡ (if b then Some value else None) → (b ≡ true) × (found ≡ value)
-is_on true value found some = (refl, cc)
-is_on false value found some = absurd cc
-
--- four files, read as three, three and two
-module _ (recipe base patch report : List ℕ) where
-  unfoldable four_of : Bool → Bool → Bool → Option (List ℕ × List ℕ × List ℕ × List ℕ)
-  four_of first second third = if first && second && third then Some (recipe, base, patch, report) else None
-
-  abbrev first : Bool
-  first = are_three_files recipe base report
-
-  abbrev second : Bool
-  second = are_three_files recipe patch report
-
-  pub not_first : None ≡ as_three_files recipe base report → None ≡ as_four_files recipe base patch report
-  unfolding are_four_files four_of
-  not_first none = ap (λ b. four_of b second (are_two_files base patch)) (sym (is_off first (recipe, base, report) none))
-
-  module _ (a : List ℕ × List ℕ × List ℕ) (is_first : Some a ≡ as_three_files recipe base report) where
-    pub not_second : None ≡ as_three_files recipe patch report → None ≡ as_four_files recipe base patch report
-    unfolding are_four_files four_of
-    not_second none =
-        ap (λ b. four_of true b (are_two_files base patch)) (sym (is_off second (recipe, patch, report) none))
-        ∙ ap (λ b. four_of b second (are_two_files base patch)) (sym (is_on first (recipe, base, report) a is_first).0)
-
-    module _ (c : List ℕ × List ℕ × List ℕ) (is_second : Some c ≡ as_three_files recipe patch report) where
-      both : (third : Bool) → four_of true true third ≡ four_of first second third
-      both third =
-          ap (λ b. four_of true b third) (sym (is_on second (recipe, patch, report) c is_second).0)
-          ∙ ap (λ b. four_of b second third) (sym (is_on first (recipe, base, report) a is_first).0)
-
-      pub not_third : false ≡ are_two_files base patch → None ≡ as_four_files recipe base patch report
-      unfolding are_four_files four_of
-      not_third off = ap (λ b. four_of true true b) off ∙ both (are_two_files base patch)
-
-      pub all_four : true ≡ are_two_files base patch → Some (a.0, a.1, c.1, a.2) ≡ as_four_files recipe base patch report
-      unfolding are_four_files four_of
-      all_four on =
-          ap (λ (f : List ℕ × List ℕ × List ℕ). Some (f.0, f.1, c.1, f.2)) (is_on first (recipe, base, report) a is_first).1
-          ∙ ap (λ (f : List ℕ × List ℕ × List ℕ). Some (recipe, base, f.1, report)) (is_on second (recipe, patch, report) c is_second).1
-          ∙ ap (λ b. four_of true true b) on ∙ both (are_two_files base patch)
 
 abbrev pub over_relative : (List ℕ → List ℕ → List ℕ → List ℕ → ℕ → Plan) → RelativeWords → Plan
 over_relative files w = files w.recipe w.base w.piece.save w.piece.report w.piece.steps

@@ -1,7 +1,7 @@
 -- `delta-start RECIPE BASE PATCH REPORT STEPS` and `delta-resume RECIPE BASE PATCH REPORT STEPS`: an audit goes on by at most so many steps, from
 -- where a whole save says that it stands, or from where that save and a delta say it, and what differs from the whole save is kept.
 -- docs/reference/command-line.md and docs/reference/delta.md say the same for people.
-use Rattle.std.specs.Prelude.{ℕ, Bool, ◌&&◌, Result, List, [], ◌∷◌, if◌then◌else◌}
+use Rattle.std.specs.Prelude.{ℕ, Result, List, [], ◌∷◌, if◌then◌else◌}
 use Rattle.recipe.specs.declared.contents.RecipeContents.{RecipeContents}
 use Rattle.audit_rules.specs.Positions.{Position, forward}
 use Rattle.audit_run.specs.Delta.Deltas.{delta_text_of}
@@ -9,7 +9,7 @@ use Rattle.audit_run.specs.Delta.Judged.{judged_from}
 use Rattle.audit_run.specs.Save.Saves.{save_of}
 use Rattle.audit_run.specs.declared.delta.reading.DeltaRefusal.{DeltaRefusal}
 use Rattle.command_plan.specs.declared.status.Status.TheVariants.{SaveRefused}
-use Rattle.command_plan.specs.Words.{are_three_files, are_two_files, as_steps, or_usage, usage}
+use Rattle.command_plan.specs.Words.{are_four_files, as_steps, or_usage, usage}
 use Rattle.command_plan.specs.Plan.{Plan, answers, needs, unless_refused}
 use Rattle.recipe_plan.specs.Recipes.{needs_apart, needs_inputs, needs_recipe}
 use Rattle.audit_commands.specs.Pause.{came_to, needs_position}
@@ -66,10 +66,6 @@ delta_resume_files recipe base patch report steps =
     resumes_relative said inputs text delta patch report steps)))))))
 
 -- ---- the words
-
--- four words that can name four files
-unfoldable pub are_four_files : List ℕ → List ℕ → List ℕ → List ℕ → Bool
-are_four_files recipe base patch report = are_three_files recipe base report && are_three_files recipe patch report && are_two_files base patch
 
 -- four files and a number of steps, in the words after either command
 abbrev pub delta_words : (List ℕ → List ℕ → List ℕ → List ℕ → ℕ → Plan) → List ℕ → List ℕ → List ℕ → List ℕ → List ℕ → Plan

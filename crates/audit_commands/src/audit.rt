@@ -34,7 +34,7 @@ pub fn perform<S: Shelf>(alloc: Global, words: &[&str], shelf: &mut S) -> Result
 fn audit<S: Shelf>(alloc: Global, shelf: &mut S, words: &ReportWords<'_>) -> Result<Answer, Stop>
     ensures { Performs (audit_files words.now.recipe words.now.report) (S.state shelf.old) (S.state shelf.new) result }
 {
-    let recipe = fetch_recipe(alloc, shelf, words.recipe.text())?;
+    let recipe = fetch_recipe(alloc, shelf, &words.recipe)?;
     on_recipe(alloc, shelf, &recipe, &words.report)
 }
 
@@ -48,7 +48,7 @@ fn on_recipe<S: Shelf>(
     ensures { Performs (needs_apart recipe.now report.now (λ _. needs_inputs recipe.now (λ inputs. audited recipe.now report.now (bench recipe.now inputs))))
         (S.state shelf.old) (S.state shelf.new) result }
 {
-    apart(alloc, recipe, report.text())?;
+    apart(alloc, recipe, report)?;
     let inputs = fetch_inputs(alloc, shelf, recipe)?;
     run(alloc, shelf, recipe, inputs.as_slice(), report)
 }
@@ -98,7 +98,7 @@ fn keep_report<S: Shelf>(
 {
     let text = report::write(alloc, made)?;
     let answer = compared(alloc, made.compare.as_slice())?;
-    keep(alloc, shelf, report.text(), text.as_slice(), answer)
+    keep(alloc, shelf, report, text.as_slice(), answer)
 }
 
 /// The answer to comparisons.

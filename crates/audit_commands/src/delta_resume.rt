@@ -57,7 +57,7 @@ fn load<S: Shelf>(
     ensures { Performs (needs words.now.base 4_294_967_296 (λ text. needs words.now.piece.save 4_294_967_296 (λ delta. needs_inputs recipe (λ inputs.
         resumes_relative recipe inputs text delta words.now.piece.save words.now.piece.report words.now.piece.steps)))) (S.state shelf.old) (S.state shelf.new) result }
 {
-    let save = fetch(alloc, shelf, words.base.text(), SAVE_LIMIT)?;
+    let save = fetch(alloc, shelf, &words.base, SAVE_LIMIT)?;
     let (delta, inputs) = fetch_save(alloc, shelf, &recipe, &words.piece.save)?;
     go_from(
         alloc,

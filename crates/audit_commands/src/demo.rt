@@ -18,7 +18,7 @@ use crate::generated::{generated_bytes, recipe_text};
 use audit_run::laws::earlier_stages_are_the_audits;
 use audit_run::run_earlier;
 use audit_run::stage::report_of;
-use command_plan::{Answer, Status, Stop, fetch_file, usage};
+use command_plan::{Answer, FileName, Status, Stop, fetch_file, usage};
 use ddc_base::{Bytes, OutOfMemory, Shelf, read_decimal};
 use recipe::{Input, Inputs, Recipe};
 use recipe_plan::{read_recipe, unfinished};
@@ -67,8 +67,8 @@ fn demo<M: Meaning, S: Shelf>(alloc: Global, shelf: &mut S, size: u64) -> Result
     requires { size ≤ 16_777_216 }
     ensures { Performs (demo_files size) (S.state shelf.old) (S.state shelf.new) result }
 {
-    let program = fetch_file(alloc, shelf, "copy.elf")?;
-    let source = fetch_file(alloc, shelf, "copy.hex0")?;
+    let program = fetch_file(alloc, shelf, &FileName::of("copy.elf"))?;
+    let source = fetch_file(alloc, shelf, &FileName::of("copy.hex0"))?;
     let recipe = demo_recipe(alloc)?;
     audit::<M>(alloc, &recipe, program.as_slice(), source.as_slice(), size)
 }

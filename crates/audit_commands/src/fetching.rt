@@ -28,7 +28,7 @@ pub(crate) fn fetch_apart<S: Shelf>(
     ensures { Obtains (λ next. needs_recipe recipe.now (λ said. needs_apart said report.now (λ _. needs_apart said save.now (λ _. next said))))
         (S.state shelf.old) (S.state shelf.new) result }
 {
-    let recipe = fetch_recipe(alloc, shelf, recipe.text())?;
+    let recipe = fetch_recipe(alloc, shelf, recipe)?;
     both_apart(alloc, &recipe, report, save)?;
     Ok(recipe)
 }
@@ -42,8 +42,8 @@ fn both_apart(
 ) -> Result<(), Stop>
     ensures { (shelf : ShelfState) → Obtains (λ next. needs_apart recipe.now report.now (λ _. needs_apart recipe.now save.now next)) shelf shelf result }
 {
-    apart(alloc, recipe, report.text())?;
-    apart(alloc, recipe, save.text())
+    apart(alloc, recipe, report)?;
+    apart(alloc, recipe, save)
 }
 
 /// The recipe, with a report, a base and a patch that are none of its inputs.
@@ -63,7 +63,7 @@ pub(crate) fn fetch_relative<S: Shelf>(
         &words.piece.report,
         &words.base,
     )?;
-    apart(alloc, &recipe, words.piece.save.text())?;
+    apart(alloc, &recipe, &words.piece.save)?;
     Ok(recipe)
 }
 
@@ -78,7 +78,7 @@ pub(crate) fn fetch_save<S: Shelf>(
         (S.state shelf.old) (S.state shelf.new) result }
     ensures given { IfOk result (λ found. IsInputs recipe.now found.1) }
 {
-    let text = fetch(alloc, shelf, save.text(), SAVE_LIMIT)?;
+    let text = fetch(alloc, shelf, save, SAVE_LIMIT)?;
     let inputs = fetch_inputs(alloc, shelf, recipe)?;
     Ok((text, inputs))
 }

@@ -82,7 +82,7 @@ fn keep_place<S: Shelf>(
         status: Status::Paused,
         text: line,
     };
-    keep(alloc, shelf, name.text(), text.as_slice(), answer)
+    keep(alloc, shelf, name, text.as_slice(), answer)
 }
 
 /// What is kept of where an audit stands.

@@ -32,7 +32,7 @@ pub fn perform<S: Shelf>(alloc: Global, words: &[&str], shelf: &mut S) -> Result
 fn show<S: Shelf>(alloc: Global, shelf: &mut S, report: &FileName<'_>) -> Result<Answer, Stop>
     ensures { Performs (show_file report.now) (S.state shelf.old) (S.state shelf.new) result }
 {
-    let report = fetch_report(alloc, shelf, report.text())?;
+    let report = fetch_report(alloc, shelf, report)?;
     shown(alloc, &report)
 }
 

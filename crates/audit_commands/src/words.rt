@@ -1,10 +1,9 @@
 //! The words of the commands of an audit, each set of them as one value.
 
 ghost use Rattle.std.specs.Prelude.{◌≡◌, map};
-ghost use Rattle.audit_commands.specs.Inside.Words.{as_four_files, relative_words, report_words, whole_words};
+ghost use Rattle.audit_commands.specs.Inside.Words.{relative_words, report_words, whole_words};
 
-use command_plan::words::are_two_files;
-use command_plan::{FileName, Steps, three_files, two_files};
+use command_plan::{FileName, Steps, four_files, three_files, two_files};
 
 /// A recipe, and the report of its audit.
 #[derive(Drop)]
@@ -88,23 +87,5 @@ impl<'w> RelativeWords<'w> {
             base,
             piece,
         })
-    }
-}
-
-/// The names that four words are, if they can name four files.
-fn four_files<'w>(
-    recipe: &'w str,
-    base: &'w str,
-    patch: &'w str,
-    report: &'w str,
-) -> Option<(FileName<'w>, FileName<'w>, FileName<'w>, FileName<'w>)>
-    ensures { result ≡ as_four_files recipe.now base.now patch.now report.now }
-{
-    let (said, whole, made) = three_files(recipe, base, report)?;
-    let (_, kept, _) = three_files(recipe, patch, report)?;
-    if are_two_files(base, patch) {
-        Some((said, whole, kept, made))
-    } else {
-        None
     }
 }

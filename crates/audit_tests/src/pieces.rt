@@ -4,6 +4,7 @@ ghost use Rattle.std.specs.Prelude.{◌≤◌};
 
 use crate::place_after;
 use audit_run::{Audit, Progress};
+use command_plan::FileName;
 use ddc_base::{Bytes, MemShelf, OutOfMemory, read_hex};
 use guest_run::{Guest, RunBox, RunRam};
 use mem_files::Files;
@@ -101,7 +102,7 @@ fn audit_of(alloc: Global, shelf: &mut MemShelf, recipe: Recipe) -> Result<Audit
 
 /// An audit of the recipe that a shelf has.
 fn audit_in(alloc: Global, shelf: &mut MemShelf) -> Result<Audit, OutOfMemory> {
-    match fetch_recipe(alloc, shelf, "a.toml") {
+    match fetch_recipe(alloc, shelf, &FileName::of("a.toml")) {
         Ok(recipe) => audit_of(alloc, shelf, recipe),
         Err(stop) => {
             drop(stop);

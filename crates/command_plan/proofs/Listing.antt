@@ -8,8 +8,9 @@ use Rattle.std.proofs.lemmas.List.{at_drop_more, length-append, take-append-drop
 use Rattle.std.proofs.lemmas.List.Elements.{All-push}
 use Rattle.std.proofs.lemmas.List.Splits.{length-slice_split, slice_split_at, slice_split_none}
 use Rattle.std.proofs.lemmas.Str.{IsUtf8-from_ascii}
-use Rattle.ddc_base.specs.Outside.{IsFileName}
 use Rattle.command_plan.specs.Lists.{IsListed, is_line_feed, is_listed_word, is_listed_byte, list_of, listed_after, with_line_item}
+use Rattle.command_plan.specs.Words.{is_file_word}
+use Rattle.command_plan.proofs.FileWords.{names}
 
 abbrev pub NoLF : ℕ → Type 0
 NoLF byte = is_line_feed byte ≡ false
@@ -40,9 +41,10 @@ parts-of word is =
     let sizes = and_parts (nat_le 1 (length word)) (nat_le (length word) 255) parts.0 in
     (leb-true 1 (length word) sizes.0, leb-true (length word) 255 sizes.1, parts.1)
 
--- a listed word is a name that a shelf takes
-pub word-names : (word : List ℕ) → IsTrue (is_listed_word word) → IsFileName word
-word-names word is = let p = parts-of word is in record { not_empty = p.0; not_long = p.1 }
+-- a listed word is a name of a file
+pub word_names : (word : List ℕ) → IsTrue (is_listed_word word) → IsTrue (is_file_word word)
+unfolding is_listed_word
+word_names word is = names is_listed_byte refl word is
 
 bytes-ascii : (word : List ℕ) → list_all is_listed_byte word ≡ true → IsAscii word
 bytes-ascii [] is i = omega arith

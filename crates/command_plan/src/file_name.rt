@@ -2,9 +2,9 @@
 
 ghost use Rattle.std.specs.Prelude.{◌≡◌, ◌≤◌, ◌^◌, IsTrue};
 ghost use Rattle.ddc_base.specs.Outside.{IsFileName};
-ghost use Rattle.command_plan.specs.Words.{as_file_name, as_steps, as_three_files, as_two_files, is_file_word};
+ghost use Rattle.command_plan.specs.Words.{as_file_name, as_four_files, as_steps, as_three_files, as_two_files, is_file_word};
 
-use crate::words::{are_three_files, are_two_files, is_file_word, steps_of};
+use crate::words::{are_four_files, are_three_files, are_two_files, is_file_word, steps_of};
 use std::marker::Model;
 
 /// A word that can name a file: 1 to 255 bytes, none of them zero. Contracts see these bytes.
@@ -34,6 +34,14 @@ impl<'w> FileName<'w> {
         } else {
             None
         }
+    }
+
+    /// The name that a text is which is known to be one.
+    pub fn of(text: &'w str) -> FileName<'w>
+        requires { IsTrue (is_file_word text.now) }
+        ensures { result ≡ text.now }
+    {
+        FileName { text }
     }
 
     /// The word, by which a shelf loads and saves.
@@ -70,6 +78,28 @@ pub fn three_files<'w>(
             FileName { text: first },
             FileName { text: second },
             FileName { text: third },
+        ))
+    } else {
+        None
+    }
+}
+
+/// The names that four words are, if they can name four files.
+#[tactic(auto, unfolding(crate::specs::Words::are_four_files))]
+pub fn four_files<'w>(
+    first: &'w str,
+    second: &'w str,
+    third: &'w str,
+    fourth: &'w str,
+) -> Option<(FileName<'w>, FileName<'w>, FileName<'w>, FileName<'w>)>
+    ensures { result ≡ as_four_files first.now second.now third.now fourth.now }
+{
+    if are_four_files(first, second, third, fourth) {
+        Some((
+            FileName { text: first },
+            FileName { text: second },
+            FileName { text: third },
+            FileName { text: fourth },
         ))
     } else {
         None

@@ -1,8 +1,8 @@
 ghost use Rattle.std.specs.Prelude.{◌≡◌, IfOk, IsTrue, string_bytes};
 ghost use Rattle.std.specs.List.{list_all};
-ghost use Rattle.ddc_base.specs.Outside.{IsFileName};
 ghost use Rattle.command_plan.specs.Lists.{is_listed_word, is_listed_byte, listed_word};
 
+use crate::file_name::FileName;
 use ddc_base::OutOfMemory;
 use std::alloc::Global;
 use std::marker::Model;
@@ -50,13 +50,20 @@ impl ListedWord {
         })
     }
 
-    /// The word as text, by which a shelf loads.
+    /// The word as text.
     pub fn as_str(&self) -> &str
         ensures value { result.now ≡ self.now }
         ensures word { IsTrue (is_listed_word self.now) }
-        ensures name { IsFileName self.now }
     {
         self.text.as_str()
+    }
+
+    /// The word as the name of a file.
+    #[tactic(auto, using(crate::proofs::Listing::word_names))]
+    pub fn name(&self) -> FileName<'_>
+        ensures { result ≡ self.now }
+    {
+        FileName::of(self.as_str())
     }
 }
 

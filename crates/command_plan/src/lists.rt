@@ -4,7 +4,7 @@
 
 ghost use Rattle.std.specs.Prelude.{◌≡◌, ◌<◌, ◌≤◌, ◌∷◌, [], IfOk, IfSome, List, MatchOption, Ok, Option, length, ℕ};
 ghost use Rattle.std.specs.List.{slice_split};
-ghost use Rattle.ddc_base.specs.Outside.{IsFileName, ShelfState};
+ghost use Rattle.ddc_base.specs.Outside.{ShelfState};
 ghost use Rattle.command_plan.specs.declared.status.Status.TheVariants.{ListRefused};
 ghost use Rattle.command_plan.specs.Lists.{IsListed, is_line_feed, list_of, needs_list};
 ghost use Rattle.command_plan.specs.Plan.{answers, unless_refused};
@@ -13,6 +13,7 @@ ghost use Rattle.command_plan.specs.Texts.{list_line};
 
 use crate::answer::Answer;
 use crate::fetching::fetch;
+use crate::file_name::FileName;
 use crate::status::Status;
 use crate::stop::Stop;
 use crate::texts;
@@ -36,10 +37,9 @@ pub trait Listed: Sized + Drop {
 pub fn fetch_list<T: Listed, S: Shelf>(
     alloc: Global,
     shelf: &mut S,
-    file: &str,
+    file: &FileName<'_>,
     most: u32,
 ) -> Result<ListOf<T>, Stop>
-    requires { IsFileName file.now }
     ensures obtained { Obtains (needs_list T.form most file.now) (S.state shelf.old) (S.state shelf.new) result }
     ensures few { IfOk result (λ items. length items ≤ most) }
     ensures listed { IfOk result (IsListed T.form most) }

@@ -12,10 +12,9 @@ use Rattle.audit_rules.specs.Positions.{position}
 use Rattle.audit_rules.specs.Valid.{IsInputs}
 use Rattle.command_plan.specs.declared.status.Status.{Status}
 use Rattle.command_plan.specs.Plan.{LoadsBytes, Plan, Outcome, outcome}
-use Rattle.command_plan.specs.Words.{are_three_files, are_two_files, as_steps, is_one_file, or_usage, usage}
+use Rattle.command_plan.specs.Words.{are_four_files, are_three_files, are_two_files, as_steps, is_one_file, or_usage, usage}
 use Rattle.recipe_plan.specs.Recipes.{is_input, needs_apart, needs_inputs}
 use Rattle.audit_commands.specs.Audit.{audit_files, audited}
-use Rattle.audit_commands.specs.Delta.{are_four_files}
 use Rattle.audit_commands.specs.Pause.{came_to, part_files, whole_save}
 use Rattle.ddc_app.specs.Accepting.{audit}
 use Rattle.ddc_app.specs.Commands.{plan_of}

@@ -15,11 +15,11 @@ use Rattle.command_plan.specs.declared.status.Status.{Status}
 use Rattle.command_plan.specs.declared.status.Status.TheVariants.{Paused, SaveRefused, Usage}
 use Rattle.command_plan.specs.Plan.{Plan, Outcome, needs, outcome}
 use Rattle.command_plan.specs.Texts.{usage_line}
-use Rattle.command_plan.specs.Words.{are_three_files, as_steps, or_usage, usage}
+use Rattle.command_plan.specs.Words.{are_four_files, are_three_files, as_steps, or_usage, usage}
 use Rattle.recipe_plan.specs.Recipes.{needs_apart, needs_inputs, needs_recipe}
 use Rattle.recipe_plan.specs.Reports.{compared_status}
 use Rattle.audit_commands.specs.Audit.{completed}
-use Rattle.audit_commands.specs.Delta.{are_four_files, delta_resume_files, delta_start_files, needs_position_relative, read_relative}
+use Rattle.audit_commands.specs.Delta.{delta_resume_files, delta_start_files, needs_position_relative, read_relative}
 use Rattle.audit_commands.specs.Pause.{came_to, needs_position, part_files, paused, read_as, resume_files, whole_save}
 use Rattle.audit_commands.specs.PauseTexts.{delta_refused_line, save_refused_line}
 use Rattle.ddc_app.specs.Differences.{LeavesAllBut, after_save, delta_resume, delta_start, differing_in_turn, in_differences}

@@ -20,10 +20,10 @@ use Rattle.audit_rules.specs.Positions.{Position, On, forward, position}
 use Rattle.audit_rules.specs.Valid.{IsInputs, IsPosition}
 use Rattle.command_plan.specs.declared.status.Status.TheVariants.{SaveRefused}
 use Rattle.command_plan.specs.Plan.{LoadsBytes, Plan, Outcome, answers, needs, outcome, unless_refused}
-use Rattle.command_plan.specs.Words.{usage}
+use Rattle.command_plan.specs.Words.{are_four_files, usage}
 use Rattle.recipe_plan.specs.Recipes.{is_input, needs_apart, needs_inputs}
 use Rattle.audit_commands.specs.Audit.{audited}
-use Rattle.audit_commands.specs.Delta.{are_four_files, delta_resume_files, delta_start_files, needs_position_relative, read_relative, resumes_relative, starts_relative}
+use Rattle.audit_commands.specs.Delta.{delta_resume_files, delta_start_files, needs_position_relative, read_relative, resumes_relative, starts_relative}
 use Rattle.audit_commands.specs.Pause.{came_to, needs_position, read_as}
 use Rattle.audit_commands.specs.PauseTexts.{delta_refused_line, save_refused_line}
 use Rattle.ddc_app.specs.Accepting.{audit}

@@ -9,9 +9,9 @@ ghost use Rattle.command_plan.specs.Steps.{Obtains};
 ghost use Rattle.recipe_plan.specs.Recipes.{needs_inputs, needs_inputs_within};
 
 use audit_rules::MAX_INPUT;
-use command_plan::{Stop, fetch};
+use command_plan::{FileName, Stop, fetch};
 use ddc_base::Shelf;
-use recipe::{Input, Inputs, Recipe};
+use recipe::{Input, Inputs, Path, Recipe};
 use std::alloc::Global;
 
 /// The most bytes of all inputs together that a command takes.
@@ -54,11 +54,19 @@ fn fetch_each<S: Shelf>(
 {
     let mut contents = Inputs::new(alloc);
     for input in inputs {
-        let content = fetch(alloc, shelf, input.path.as_str(), MAX_INPUT.min(room))?;
+        let content = fetch(alloc, shelf, &name_of(&input.path), MAX_INPUT.min(room))?;
         room -= size_of(content.as_slice());
         contents.push(content)?;
     }
     Ok(contents)
+}
+
+/// A path as the name of a file.
+#[tactic(auto, using(crate::proofs::Loading::path_names))]
+fn name_of(path: &Path) -> FileName<'_>
+    ensures { result ≡ path.now }
+{
+    FileName::of(path.as_str())
 }
 
 /// How many bytes an input has.

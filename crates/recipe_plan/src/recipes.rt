@@ -1,7 +1,7 @@
 //! A recipe that is fetched and read, and files that are to be none of its inputs.
 
 ghost use Rattle.std.specs.Prelude.{◌≡◌};
-ghost use Rattle.ddc_base.specs.Outside.{IsFileName, ShelfState};
+ghost use Rattle.ddc_base.specs.Outside.{ShelfState};
 ghost use Rattle.command_plan.specs.declared.status.Status.TheVariants.{RecipeRefused};
 ghost use Rattle.command_plan.specs.Plan.{answers};
 ghost use Rattle.command_plan.specs.Steps.{Obtains, Says};
@@ -10,7 +10,7 @@ ghost use Rattle.recipe_plan.specs.Texts.{recipe_line};
 
 use crate::texts;
 use command_plan::words::is_one_file;
-use command_plan::{Answer, Status, Stop, fetch, usage};
+use command_plan::{Answer, FileName, Status, Stop, fetch, usage};
 use ddc_base::{Bytes, Shelf};
 use recipe::{Recipe, RecipeRefusal};
 use std::alloc::Global;
@@ -19,8 +19,11 @@ use std::alloc::Global;
 const RECIPE_LIMIT: u64 = 1_048_576;
 
 /// Fetches a recipe and reads it.
-pub fn fetch_recipe<S: Shelf>(alloc: Global, shelf: &mut S, file: &str) -> Result<Recipe, Stop>
-    requires { IsFileName file.now }
+pub fn fetch_recipe<S: Shelf>(
+    alloc: Global,
+    shelf: &mut S,
+    file: &FileName<'_>,
+) -> Result<Recipe, Stop>
     ensures { Obtains (needs_recipe file.now) (S.state shelf.old) (S.state shelf.new) result }
 {
     let bytes = fetch(alloc, shelf, file, RECIPE_LIMIT)?;
@@ -57,10 +60,10 @@ fn refused(alloc: Global, refusal: RecipeRefusal) -> Result<Answer, Stop>
 
 /// Ends the command where a file is one of the recipe's inputs.
 #[tactic(auto, unfolding(crate::specs::Recipes::needs_apart))]
-pub fn apart(alloc: Global, recipe: &Recipe, file: &str) -> Result<(), Stop>
+pub fn apart(alloc: Global, recipe: &Recipe, file: &FileName<'_>) -> Result<(), Stop>
     ensures { (shelf : ShelfState) → Obtains (needs_apart recipe.now file.now) shelf shelf result }
 {
-    if is_input(recipe, file) {
+    if is_input(recipe, file.text()) {
         return Err(Stop::Answered(usage(alloc)?));
     }
     Ok(())

@@ -1,7 +1,7 @@
 //! A report that is fetched and read, and the status of its comparisons.
 
 ghost use Rattle.std.specs.Prelude.{◌≡◌, IfOk};
-ghost use Rattle.ddc_base.specs.Outside.{IsFileName, ShelfState};
+ghost use Rattle.ddc_base.specs.Outside.{ShelfState};
 ghost use Rattle.report.specs.Reading.{report_of};
 ghost use Rattle.report.specs.Reports.{IsReport};
 ghost use Rattle.command_plan.specs.declared.status.Status.TheVariants.{ReportRefused};
@@ -11,7 +11,7 @@ ghost use Rattle.recipe_plan.specs.Reports.{compared_status, needs_report};
 ghost use Rattle.command_plan.specs.Texts.{report_line};
 
 use audit_rules::all_equal;
-use command_plan::{Answer, Status, Stop, fetch, texts};
+use command_plan::{Answer, FileName, Status, Stop, fetch, texts};
 use ddc_base::{Bytes, Shelf};
 use report::{CompareLine, Report, ReportRefusal};
 use std::alloc::Global;
@@ -20,8 +20,11 @@ use std::alloc::Global;
 const REPORT_LIMIT: u64 = 1_073_741_824;
 
 /// Fetches a report and reads it.
-pub fn fetch_report<S: Shelf>(alloc: Global, shelf: &mut S, file: &str) -> Result<Report, Stop>
-    requires { IsFileName file.now }
+pub fn fetch_report<S: Shelf>(
+    alloc: Global,
+    shelf: &mut S,
+    file: &FileName<'_>,
+) -> Result<Report, Stop>
     ensures obtained { Obtains (needs_report file.now) (S.state shelf.old) (S.state shelf.new) result }
     ensures report { IfOk result IsReport }
 {

@@ -28,7 +28,7 @@ use audit_rules::RunCause;
 use audit_run::stage::start_stage;
 use checkpoints::write_state;
 use command_plan::words::steps_of;
-use command_plan::{Answer, Status, Stop, store, usage};
+use command_plan::{Answer, FileName, Status, Stop, store, usage};
 use ddc_base::Shelf;
 use guest_run::{Guest, RunEnd, RunRam};
 use mem_files::Files;
@@ -171,7 +171,7 @@ fn save_state<S: Shelf>(
 {
     let name = piece_name(alloc, prefix, number)?;
     let text = write_state(alloc, guest)?;
-    store(alloc, shelf, name.as_str(), text.as_slice())
+    store(alloc, shelf, &FileName::of(name.as_str()), text.as_slice())
 }
 
 /// Takes the steps that follow so many saved states. None where the run goes on after them.

@@ -18,7 +18,7 @@ use crate::earlier::{run_before, stages_before};
 use audit_rules::{RunCause, StageFault};
 use audit_run::stage::{Done, start_stage};
 use command_plan::words::{are_two_files, has_no_zero_byte};
-use command_plan::{Answer, Status, Stop, keep, usage};
+use command_plan::{Answer, FileName, Status, Stop, keep, usage};
 use ddc_base::{Bytes, OutOfMemory, Shelf};
 use guest_run::{Guest, RunEnd, RunRam};
 use mem_files::{Files, is_stripped_name, strip};
@@ -84,7 +84,7 @@ fn left<S: Shelf>(
     requires file { IsTrue (is_stripped_name (stripped file.now)) }
     ensures { Performs (left_files recipe.now stage.now file.now out.now) (S.state shelf.old) (S.state shelf.new) result }
 {
-    let recipe = fetch_recipe(alloc, shelf, recipe)?;
+    let recipe = fetch_recipe(alloc, shelf, &FileName::of(recipe))?;
     find(alloc, shelf, &recipe, stage, file, out)
 }
 
@@ -103,7 +103,7 @@ fn find<S: Shelf>(
         left_after recipe.now inputs count file.now out.now)))) (S.state shelf.old) (S.state shelf.new) result }
 {
     let count = stages_before(alloc, recipe, stage)?;
-    apart(alloc, recipe, out)?;
+    apart(alloc, recipe, &FileName::of(out))?;
     let inputs = fetch_inputs(alloc, shelf, recipe)?;
     run_earlier(alloc, shelf, recipe, &inputs, count, file, out)
 }
@@ -258,7 +258,7 @@ fn save_left<S: Shelf>(
                 status: left_status(cause),
                 text: file_left_line(alloc, stage, file, content.len() as u64, cause, step)?,
             };
-            keep(alloc, shelf, out, content, answer)
+            keep(alloc, shelf, &FileName::of(out), content, answer)
         }
         None => Ok(Answer {
             status: absent_status(cause),

@@ -8,7 +8,7 @@ ghost use Rattle.recipe_plan.specs.Recipes.{needs_apart};
 ghost use Rattle.stage_commands.specs.Names.{are_stage_words, as_states, each_name, is_prefix, needs_other, piece_name};
 
 use command_plan::words::{has_no_zero_byte, is_file_word, is_one_file};
-use command_plan::{Stop, fetch, usage};
+use command_plan::{FileName, Stop, fetch, usage};
 use ddc_base::{Bytes, OutOfMemory, Shelf, read_decimal};
 use recipe::Recipe;
 use recipe_plan::apart;
@@ -72,7 +72,7 @@ pub(crate) fn fetch_state<S: Shelf>(
     ensures { Obtains (needs (piece_name prefix.now number) 4_294_967_296) (S.state shelf.old) (S.state shelf.new) result }
 {
     let name = piece_name(alloc, prefix, number)?;
-    fetch(alloc, shelf, name.as_str(), STATE_LIMIT)
+    fetch(alloc, shelf, &FileName::of(name.as_str()), STATE_LIMIT)
 }
 
 /// Ends the command where the name of a state clashes with RECIPE.
@@ -105,7 +105,7 @@ pub(crate) fn names_apart(alloc: Global, recipe: &Recipe, prefix: &str) -> Resul
 {
     for number in 0..MOST_STATES {
         let name = piece_name(alloc, prefix, number)?;
-        apart(alloc, recipe, name.as_str())?;
+        apart(alloc, recipe, &FileName::of(name.as_str()))?;
     }
     Ok(())
 }

@@ -17,7 +17,7 @@ ghost use Rattle.stage_commands.specs.Ready.{needs_ready};
 use crate::earlier::{run_before, stages_before};
 use crate::names::{names_apart, names_relative};
 use audit_run::stage::Done;
-use command_plan::Stop;
+use command_plan::{FileName, Stop};
 use ddc_base::{ListOf, Shelf};
 use recipe::{Inputs, Recipe, Stage};
 use recipe_plan::{fetch_inputs, fetch_recipe};
@@ -45,7 +45,7 @@ pub(crate) fn make_ready<S: Shelf>(
     ensures ready { IfOk result IsReady }
 {
     names_relative(alloc, recipe, prefix)?;
-    let recipe = fetch_recipe(alloc, shelf, recipe)?;
+    let recipe = fetch_recipe(alloc, shelf, &FileName::of(recipe))?;
     let (inputs, done) = run_stages(alloc, shelf, &recipe, stage, prefix)?;
     Ok(Ready {
         recipe,

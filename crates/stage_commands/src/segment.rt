@@ -10,7 +10,7 @@ ghost use Rattle.stage_commands.specs.States.{piece_of};
 use crate::names::STATE_LIMIT;
 use crate::texts;
 use command_plan::words::are_two_files;
-use command_plan::{Answer, Status, Stop, fetch, usage};
+use command_plan::{Answer, FileName, Status, Stop, fetch, usage};
 use ddc_base::Shelf;
 use segments::{SegmentAnswer, SegmentFault, check};
 use std::alloc::Global;
@@ -33,8 +33,8 @@ fn segment<S: Shelf>(alloc: Global, shelf: &mut S, from: &str, to: &str) -> Resu
     requires to { IsFileName to.now }
     ensures { Performs (segment_files from.now to.now) (S.state shelf.old) (S.state shelf.new) result }
 {
-    let former = fetch(alloc, shelf, from, STATE_LIMIT)?;
-    let latter = fetch(alloc, shelf, to, STATE_LIMIT)?;
+    let former = fetch(alloc, shelf, &FileName::of(from), STATE_LIMIT)?;
+    let latter = fetch(alloc, shelf, &FileName::of(to), STATE_LIMIT)?;
     tell(alloc, former.as_slice(), latter.as_slice())
 }
 

@@ -22,7 +22,7 @@ use crate::earlier::{run_before, stages_before};
 use audit_rules::{RunCause, StageFault, StartCause};
 use audit_run::stage::{Done, box_of, content};
 use command_plan::words::{has_no_zero_byte, is_file_word};
-use command_plan::{Stop, usage};
+use command_plan::{FileName, Stop, usage};
 use ddc_base::{Bytes, ListOf, OutOfMemory, PutFail, Shelf, Sink};
 use guest_run::StartRefusal;
 use prompt::{Prompt, converse};
@@ -91,7 +91,7 @@ fn step<S: Shelf, K: Sink, P: Prompt>(
     ensures { PerformsTalk (step_stage recipe.now stage.now) (S.state shelf.old) (S.state shelf.new)
         (K.state out.old) (K.state out.new) (P.state prompt.old) (P.state prompt.new) result }
 {
-    let recipe = fetch_recipe(alloc, shelf, recipe)?;
+    let recipe = fetch_recipe(alloc, shelf, &FileName::of(recipe))?;
     find(alloc, &recipe, stage, shelf, out, prompt)
 }
 

@@ -12,7 +12,7 @@ ghost use Rattle.tool_commands.specs.Asm.{made_line, refused_line, as_base, need
 ghost use Rattle.tool_commands.specs.Inside.Refusing.{Refuses, RefusesM1};
 
 use command_plan::words::are_two_files;
-use command_plan::{Answer, Status, Stop, fetch_file, keep, usage};
+use command_plan::{Answer, FileName, Status, Stop, fetch_file, keep, usage};
 use ddc_base::languages::Language;
 use ddc_base::{Bytes, OutOfMemory, Shelf, read_decimal};
 use hex_langs::items::{HexRefusal, Items};
@@ -101,13 +101,13 @@ fn asm<S: Shelf>(
     requires out { IsFileName out.now }
     ensures { Performs (asm_files language base source.now out.now) (S.state shelf.old) (S.state shelf.new) result }
 {
-    let text = fetch_file(alloc, shelf, source)?;
+    let text = fetch_file(alloc, shelf, &FileName::of(source))?;
     let made = make(alloc, language, base, text.as_slice())?;
     let answer = Answer {
         status: Status::Yes,
         text: made_text(alloc, made.len())?,
     };
-    keep(alloc, shelf, out, made.as_slice(), answer)
+    keep(alloc, shelf, &FileName::of(out), made.as_slice(), answer)
 }
 
 /// What a source comes to, or what ends the command.

@@ -10,7 +10,7 @@ ghost use Rattle.hex_langs.specs.Hex0.{hex0_of};
 ghost use Rattle.tool_commands.specs.Hex0.{comparison, hex0_files, hex0_plan};
 
 use command_plan::words::is_file_word;
-use command_plan::{Answer, Status, Stop, fetch_file, texts, usage};
+use command_plan::{Answer, FileName, Status, Stop, fetch_file, texts, usage};
 use ddc_base::{Shelf, first_difference};
 use std::alloc::Global;
 
@@ -50,8 +50,8 @@ fn hex0<S: Shelf>(alloc: Global, shelf: &mut S, source: &str, binary: &str) -> R
     requires binary { IsFileName binary.now }
     ensures { Performs (hex0_files source.now binary.now) (S.state shelf.old) (S.state shelf.new) result }
 {
-    let text = fetch_file(alloc, shelf, source)?;
-    let bytes = fetch_file(alloc, shelf, binary)?;
+    let text = fetch_file(alloc, shelf, &FileName::of(source))?;
+    let bytes = fetch_file(alloc, shelf, &FileName::of(binary))?;
     compare(alloc, text.as_slice(), bytes.as_slice())
 }
 

@@ -18,7 +18,7 @@ ghost use Rattle.tool_commands.specs.ScriptTexts.{command_failed_line, done_line
 use crate::script_texts;
 use crate::scripts::{fetch_files, fetch_script, fetch_unlisted};
 use command_plan::words::{are_three_files, steps_of};
-use command_plan::{Answer, Status, Stop, keep, usage};
+use command_plan::{Answer, FileName, Status, Stop, keep, usage};
 use ddc_base::Shelf;
 use kaem_script::{CommandCause, FileList, Script, ScriptEnd};
 use report::script::{CommandLine, ScriptReport};
@@ -137,7 +137,7 @@ fn save<S: Shelf>(
 {
     let answer = done(alloc, made.commands.as_slice())?;
     let text = report::script::write(alloc, made)?;
-    keep(alloc, shelf, file, text.as_slice(), answer)
+    keep(alloc, shelf, &FileName::of(file), text.as_slice(), answer)
 }
 
 /// The answer where all commands ran.

@@ -20,7 +20,7 @@ use crate::listed_file::FileLine;
 use crate::script_texts;
 use crate::scripts::{fetch_files, fetch_script, fetch_unlisted};
 use command_plan::words::are_three_files;
-use command_plan::{Answer, Status, Stop, fetch, texts, usage};
+use command_plan::{Answer, FileName, Status, Stop, fetch, texts, usage};
 use ddc_base::{Bytes, ListOf, Shelf};
 use kaem_script::{FileList, Script, ScriptPart, ScriptVerdict};
 use report::script::{ScriptReport, ScriptReportRefusal};
@@ -132,7 +132,7 @@ fn fetch_report<S: Shelf>(alloc: Global, shelf: &mut S, file: &str) -> Result<Sc
     requires { IsFileName file.now }
     ensures { Obtains (needs_script_report file.now) (S.state shelf.old) (S.state shelf.new) result }
 {
-    let text = fetch(alloc, shelf, file, REPORT_LIMIT)?;
+    let text = fetch(alloc, shelf, &FileName::of(file), REPORT_LIMIT)?;
     read_report(alloc, text)
 }
 

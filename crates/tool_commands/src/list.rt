@@ -13,7 +13,7 @@ ghost use Rattle.tool_commands.specs.List.{instruction_text, word_line, rest_lin
 
 use byteorder::{BigEndian, ByteOrder, LittleEndian};
 use command_plan::words::is_file_word;
-use command_plan::{Answer, Status, Stop, fetch, usage};
+use command_plan::{Answer, FileName, Status, Stop, fetch, usage};
 use ddc_base::{Bytes, OutOfMemory, Shelf};
 use rv64_decode::{decode, print};
 use std::alloc::Global;
@@ -38,7 +38,7 @@ fn list<S: Shelf>(alloc: Global, shelf: &mut S, binary: &str) -> Result<Answer, 
     requires { IsFileName binary.now }
     ensures { Performs (list_file binary.now) (S.state shelf.old) (S.state shelf.new) result }
 {
-    let bytes = fetch(alloc, shelf, binary, LIST_LIMIT)?;
+    let bytes = fetch(alloc, shelf, &FileName::of(binary), LIST_LIMIT)?;
     listed(alloc, bytes.as_slice())
 }
 

@@ -14,7 +14,7 @@ ghost use Rattle.tool_commands.specs.RunProgram.{setting_of, exited_text, end_pl
 use crate::run_texts;
 use crate::words::are_run_words;
 use command_plan::words::steps_of;
-use command_plan::{Answer, Status, Stop, fetch_file, usage};
+use command_plan::{Answer, FileName, Status, Stop, fetch_file, usage};
 use ddc_base::{OutOfMemory, Shelf};
 use guest_run::{Guest, RunBox, RunEnd, RunRam, StartRefusal};
 use mem_files::Files;
@@ -53,7 +53,7 @@ fn run<S: Shelf>(
     requires few { most ≤ 2 ^ 48 }
     ensures { Performs (run_file program.now (map (λ w. w.now) args.now) most) (S.state shelf.old) (S.state shelf.new) result }
 {
-    let bytes = fetch_file(alloc, shelf, program)?;
+    let bytes = fetch_file(alloc, shelf, &FileName::of(program))?;
     start(alloc, program, bytes.as_slice(), args, most)
 }
 

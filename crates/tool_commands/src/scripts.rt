@@ -18,7 +18,7 @@ use crate::listed_file::FileLine;
 use crate::script_texts;
 use command_plan::lists::fetch_list;
 use command_plan::words::is_one_file;
-use command_plan::{Answer, Status, Stop, fetch, usage};
+use command_plan::{Answer, FileName, Status, Stop, fetch, usage};
 use ddc_base::{Bytes, ListOf, OutOfMemory, Shelf};
 use kaem_script::{FileList, Script, ScriptFault, ScriptRefusal};
 use mem_files::PlaceRefusal;
@@ -45,7 +45,7 @@ pub(crate) fn fetch_script<S: Shelf>(
     requires { IsFileName file.now }
     ensures { Obtains (needs_script file.now) (S.state shelf.old) (S.state shelf.new) result }
 {
-    let text = fetch(alloc, shelf, file, SCRIPT_LIMIT)?;
+    let text = fetch(alloc, shelf, &FileName::of(file), SCRIPT_LIMIT)?;
     read_script(alloc, text)
 }
 
@@ -97,7 +97,7 @@ fn fetch_words<S: Shelf>(alloc: Global, shelf: &mut S, list: &str) -> Result<Lis
     ensures few { IfOk result (λ words. length words ≤ 4096) }
     ensures apart { IfOk result AreApart }
 {
-    fetch_list::<FileLine, S>(alloc, shelf, list, MOST_FILES)
+    fetch_list::<FileLine, S>(alloc, shelf, &FileName::of(list), MOST_FILES)
 }
 
 /// Ends the command where a listed word stands for a file that is to be written.
@@ -143,7 +143,12 @@ fn fetch_each<S: Shelf>(alloc: Global, shelf: &mut S, words: &[FileLine]) -> Res
     let mut files = FileList::new(alloc)?;
     let mut room = FILES_LIMIT;
     for word in words {
-        let content = fetch(alloc, shelf, word.as_str(), FILE_LIMIT.min(room))?;
+        let content = fetch(
+            alloc,
+            shelf,
+            &FileName::of(word.as_str()),
+            FILE_LIMIT.min(room),
+        )?;
         room -= content.len() as u64;
         add(&mut files, word, content.as_slice())?;
     }

@@ -23,7 +23,7 @@ use crate::{chain_texts, texts};
 use audit_chain::{ChainLinks, Link};
 use command_plan::lists::{self, fetch_list};
 use command_plan::words::{is_file_word, is_one_file};
-use command_plan::{Answer, Status, Stop, fetch, usage};
+use command_plan::{Answer, FileName, Status, Stop, fetch, usage};
 use ddc_base::{Bytes, ListOf, Shelf};
 use recipe::{Inputs, Recipe, RecipeRefusal};
 use recipe_plan::texts::{compared_lines, recipe_line};
@@ -57,7 +57,7 @@ fn chain<S: Shelf>(alloc: Global, shelf: &mut S, list: &str) -> Result<Answer, S
     requires { IsFileName list.now }
     ensures { Performs (chain_files list.now) (S.state shelf.old) (S.state shelf.new) result }
 {
-    let pairs = fetch_list::<Pair, S>(alloc, shelf, list, MOST_AUDITS)?;
+    let pairs = fetch_list::<Pair, S>(alloc, shelf, &FileName::of(list), MOST_AUDITS)?;
     verify_listed(alloc, shelf, &pairs)
 }
 
@@ -175,7 +175,7 @@ fn verify_report<S: Shelf>(
     ensures { Obtains (λ next. needs_apart recipe.now report.now (λ _. needs_report_of number report.now (λ made. needs_inputs_within room recipe.now (λ inputs.
         needs_true number made.compare (first_fault recipe.now inputs made) (λ _. next inputs))))) (S.state shelf.old) (S.state shelf.new) result }
 {
-    apart(alloc, recipe, report)?;
+    apart(alloc, recipe, &FileName::of(report))?;
     let report = fetch_report(alloc, shelf, number, report)?;
     replay(alloc, shelf, number, room, recipe, &report)
 }
@@ -218,7 +218,7 @@ fn fetch_recipe<S: Shelf>(
     requires { IsFileName file.now }
     ensures { Obtains (needs_recipe_of number file.now) (S.state shelf.old) (S.state shelf.new) result }
 {
-    let bytes = fetch(alloc, shelf, file, RECIPE_LIMIT)?;
+    let bytes = fetch(alloc, shelf, &FileName::of(file), RECIPE_LIMIT)?;
     read_recipe(alloc, number, bytes)
 }
 
@@ -254,7 +254,7 @@ fn fetch_report<S: Shelf>(
     requires { IsFileName file.now }
     ensures { Obtains (needs_report_of number file.now) (S.state shelf.old) (S.state shelf.new) result }
 {
-    let bytes = fetch(alloc, shelf, file, REPORT_LIMIT)?;
+    let bytes = fetch(alloc, shelf, &FileName::of(file), REPORT_LIMIT)?;
     read_report(alloc, number, bytes)
 }
 

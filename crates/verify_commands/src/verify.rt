@@ -15,7 +15,7 @@ ghost use Rattle.verify_commands.specs.Texts.{refuted_line};
 
 use crate::texts;
 use command_plan::words::are_two_files;
-use command_plan::{Answer, Status, Stop, usage};
+use command_plan::{Answer, FileName, Status, Stop, usage};
 use ddc_base::Shelf;
 use recipe::{Inputs, Recipe};
 use recipe_plan::{apart, compared_status, fetch_inputs, fetch_recipe, fetch_report};
@@ -67,7 +67,7 @@ fn verify<M: Meaning, S: Shelf>(
     requires report { IsFileName report.now }
     ensures { Performs (verify_files recipe.now report.now) (S.state shelf.old) (S.state shelf.new) result }
 {
-    let recipe = fetch_recipe(alloc, shelf, recipe)?;
+    let recipe = fetch_recipe(alloc, shelf, &FileName::of(recipe))?;
     read_report::<M, S>(alloc, shelf, &recipe, report)
 }
 
@@ -82,8 +82,8 @@ fn read_report<M: Meaning, S: Shelf>(
     ensures { Performs (needs_apart recipe.now report.now (λ _. needs_report report.now (λ made. needs_inputs recipe.now (λ inputs. verified recipe.now inputs made))))
         (S.state shelf.old) (S.state shelf.new) result }
 {
-    apart(alloc, recipe, report)?;
-    let report = fetch_report(alloc, shelf, report)?;
+    apart(alloc, recipe, &FileName::of(report))?;
+    let report = fetch_report(alloc, shelf, &FileName::of(report))?;
     replay::<M, S>(alloc, shelf, recipe, &report)
 }
 

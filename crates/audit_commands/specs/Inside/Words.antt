@@ -1,10 +1,9 @@
 -- The words of the commands of an audit, each set of them as one value.
-use Rattle.std.specs.Prelude.{ℕ, Option, None, Some, List, [], ◌∷◌, if◌then◌else◌}
-use Rattle.command_plan.specs.Words.{as_steps, as_three_files, as_two_files}
+use Rattle.std.specs.Prelude.{ℕ, Option, None, Some, List, [], ◌∷◌}
+use Rattle.command_plan.specs.Words.{as_four_files, as_steps, as_three_files, as_two_files}
 use Rattle.audit_commands.specs.declared.words.ReportWords.{ReportWords}
 use Rattle.audit_commands.specs.declared.words.PieceWords.{PieceWords}
 use Rattle.audit_commands.specs.declared.words.RelativeWords.{RelativeWords}
-use Rattle.audit_commands.specs.Delta.{are_four_files}
 
 -- the words `RECIPE REPORT`
 abbrev pub report_of : Option (List ℕ × List ℕ) → Option ReportWords
@@ -25,9 +24,6 @@ whole_words (recipe ∷ save ∷ report ∷ steps ∷ []) = whole_of (as_three_f
 whole_words _ = None
 
 -- the words `RECIPE BASE PATCH REPORT STEPS`
-abbrev pub as_four_files : List ℕ → List ℕ → List ℕ → List ℕ → Option (List ℕ × List ℕ × List ℕ × List ℕ)
-as_four_files recipe base patch report = if are_four_files recipe base patch report then Some (recipe, base, patch, report) else None
-
 abbrev pub relative_of : Option (List ℕ × List ℕ × List ℕ × List ℕ) → Option ℕ → Option RelativeWords
 relative_of (Some files) (Some steps) =
     Some (record { recipe = files.0; base = files.1; piece = record { save = files.2; report = files.3; steps = steps } })
