@@ -9,7 +9,8 @@ use Rattle.report.specs.declared.types.Report.{Report}
 use Rattle.report.specs.Reading.{report_of}
 use Rattle.report.specs.Reports.{IsReport, report_text}
 use Rattle.report.proofs.Lengths.{short}
-use Rattle.report.proofs.Readings.{read_text}
+use Rattle.report.proofs.LineByLine.Readings.{read_its_text}
+use Rattle.report.proofs.Readings.{report_rules}
 use Rattle.audit_rules.specs.Bench.{bench}
 use Rattle.audit_rules.specs.Valid.{IsInputs}
 use Rattle.audit_rules.specs.declared.answer.AuditAnswer.{AuditAnswer}
@@ -106,7 +107,7 @@ module _ (recipe report : List ℕ) (files : NamedFiles) (r : Replays recipe rep
       ∙ apart_opens r.said report (λ _. needs_report report last) files false r.apart
       ∙ follows report 1_073_741_824 (λ text. unless_refused (report_of text) refuse last) files (report_text r.made)
       (is_loaded files report (report_text r.made) 1_073_741_824 r.report_held (short r.made is_report))
-      ∙ ap (λ reading. outcome (unless_refused reading refuse last) files) (read_text (report_text r.made) r.made is_report refl)
+      ∙ ap (λ reading. outcome (unless_refused reading refuse last) files) (read_its_text report_rules (report_text r.made) r.made is_report refl)
       ∙ inputs_open recipe r.said r.inputs files r.holds (λ inputs. verified r.said inputs r.made)
       ∙ ap (λ fault. outcome (judged_report r.said r.made.compare fault) files) (none-fault r.said r.inputs r.made r.given.count r.comes)
 

@@ -16,7 +16,8 @@ use Rattle.report.specs.Script.Reading.{script_report_of}
 use Rattle.report.specs.Script.Reports.{IsScriptReport, script_report_text}
 use Rattle.report.specs.declared.script.types.ScriptReport.{ScriptReport}
 use Rattle.report.proofs.ScriptLemmas.Lengths.{short}
-use Rattle.report.proofs.ScriptLemmas.Readings.{is_reading, read_text}
+use Rattle.report.proofs.LineByLine.Readings.{is_reading, read_its_text}
+use Rattle.report.proofs.ScriptLemmas.Readings.{script_rules}
 use Rattle.kaem_script.specs.declared.auditing.ScriptEnd.TheVariants.{Done}
 use Rattle.kaem_script.specs.declared.refusal.ScriptFault.{ScriptFault}
 use Rattle.kaem_script.specs.declared.verdict.ScriptPart.{ScriptPart}
@@ -231,7 +232,7 @@ module _ (script list report : List ℕ) (files : NamedFiles) where
             ran = ran;
             world = world;
             all_ran = was;
-            held = (within 1_073_741_824 (finite.get files report) text held).0 ∙ ap Some ((is_reading text (Ok made) reads).1 ∙ ap script_report_text (sym same));
+            held = (within 1_073_741_824 (finite.get files report) text held).0 ∙ ap Some ((is_reading script_rules text (Ok made) reads).1 ∙ ap script_report_text (sym same));
           }
 
   pub kaem_verifies : (kaem_verify script list report files).status ≡ status.Yes → ScriptVerified script list report files (kaem_verify script list report files)
@@ -375,7 +376,7 @@ module _ (script list report : List ℕ) (files : NamedFiles) (said : RecipeCont
       let refuse : ℕ → Plan = λ number. answers status.ReportRefused (report_line number) in
       report_opens
       ∙ follows report 1_073_741_824 (λ t. unless_refused (script_report_of t) refuse (loads said h.words)) files text (is_loaded files report text 1_073_741_824 held (short made good))
-      ∙ ap (λ reading. outcome (unless_refused reading refuse (loads said h.words)) files) (read_text text made good refl)
+      ∙ ap (λ reading. outcome (unless_refused reading refuse (loads said h.words)) files) (read_its_text script_rules text made good refl)
       ∙ judges made
       ∙ ap (λ fault. outcome (script_verdict_plan (length said.commands) fault) files)
       (reported_without_fault most said listed made few (ap (script_ended said listed) all_ran))

@@ -8,8 +8,8 @@ use Rattle.std.proofs.lemmas.List.Elements.{All-cons, All-head, All-nil, All-tai
 use Rattle.hex.specs.declared.error.FromHexError.{FromHexError}
 use Rattle.hex.specs.Hex.{IsBytes, decode_of, encode_lower, encode_with, lower_digits}
 use Rattle.hex.proofs.HexLemmas.{length-encode_with, decode_of-encode_lower, decode_of-same}
-use Rattle.ddc_base.specs.HexTexts.{IsHexOf}
-use Rattle.ddc_base.specs.Inside.HexTests.{is_lower_digit, is_lower_hex}
+use Rattle.ddc_base.specs.HexTexts.{IsHexOf, is_lower_digit}
+use Rattle.ddc_base.specs.Inside.HexTests.{is_lower_hex}
 
 abbrev small : ℕ → Type 0
 small byte = byte < 256

@@ -1,5 +1,5 @@
 ghost use Rattle.std.specs.Prelude.{◌≡◌, ℕ, List, IfOk, IsErrOf};
-ghost use Rattle.ddc_base.specs.HexTexts.{IsHexOf};
+ghost use Rattle.ddc_base.specs.HexTexts.{IsHexOf, is_lower_digit};
 ghost use Rattle.ddc_base.specs.Inside.HexTests as test;
 ghost use Rattle.std.specs.List.{list_all};
 
@@ -39,16 +39,15 @@ fn is_lower_hex(text: &[u8]) -> bool
     text.len() % 2 == 0 && are_lower_digits(text)
 }
 
-/// Whether every byte is a lower-case digit.
-fn are_lower_digits(text: &[u8]) -> bool
-    ensures { result ≡ list_all test.is_lower_digit text.now }
+/// Whether every byte is a digit of lower case, `0` to `9` or `a` to `f`.
+pub fn are_lower_digits(text: &[u8]) -> bool
+    ensures { result ≡ list_all is_lower_digit text.now }
 {
     text.iter().all(|byte| is_lower_digit(*byte))
 }
 
-/// Whether a byte is a lower-case digit.
 fn is_lower_digit(byte: u8) -> bool
-    ensures { result ≡ test.is_lower_digit byte }
+    ensures { result ≡ is_lower_digit byte }
 {
     matches!(byte, b'0'..=b'9' | b'a'..=b'f')
 }

@@ -69,10 +69,8 @@ impl<R: Ram> Guest<R> {
         requires { Fits hart.memory heap }
         ensures { result ≡ guest_state hart files heap steps }
     {
-        // What the types of hart and files keep is told by calls of theirs.
-        hart.pc();
-        hart.registers();
-        files.stream(1);
+        hart.show_rules();
+        files.show_sound();
         Guest {
             hart,
             files,
@@ -122,6 +120,14 @@ impl<R: Ram> Guest<R> {
         ensures valid { IsValid self.now }
     {
         self.steps
+    }
+
+    /// Shows that the guest is in a valid state, and that its steps are a number of 64 bits.
+    pub fn show_valid(&self)
+        ensures valid { IsValid self.now }
+        ensures counted { self.now.steps < 2 ^ 64 }
+    {
+        let _steps = self.steps;
     }
 
     /// The value of a register.
@@ -241,8 +247,7 @@ impl<R: Ram> Guest<R> {
     pub fn with_files(self, files: Files) -> Guest<R>
         ensures { result ≡ record self { world = files } }
     {
-        // What files keep is told by a call of theirs.
-        files.stream(1);
+        files.show_sound();
         let Guest {
             hart,
             files: _,

@@ -7,11 +7,11 @@ ghost use Rattle.mem_files.specs.Names.{is_stripped_name};
 ghost use Rattle.mem_files.specs.Calls.{first_world, placed, opened, closed, sought, ready, skipped, fits, write_place, written, removed, content_at, stream, name_after, drained};
 ghost use Rattle.mem_files.specs.Lists.{listed, file_from, open_file_from, lists_from, world_of, AreOrdered, AreInRange, AreJoined};
 ghost use Rattle.mem_files.specs.Replies.{Replies, Places, Grows};
-ghost use Rattle.mem_files.specs.Sound.{AreBytes, IsSound};
+ghost use Rattle.mem_files.specs.Sound.{IsSound};
 
 use crate::table::FileTable;
 use crate::{FileRefusal, FileView, OpenFile, PlaceRefusal};
-use ddc_base::OutOfMemory;
+use ddc_base::{OutOfMemory, show_bytes};
 use std::alloc::Global;
 use std::marker::Model;
 
@@ -171,6 +171,13 @@ impl Files {
         self.table.stream(which)
     }
 
+    /// Shows that the files keep their rules.
+    pub fn show_sound(&self)
+        ensures { IsSound self.now }
+    {
+        let _ = &self.table;
+    }
+
     /// The least name that is greater than the given one, byte by byte; without one, the least of all.
     pub fn name_after(&self, name: Option<&[u8]>) -> Option<&[u8]>
         ensures { option_copied result ≡ name_after self.now (option_copied name.entry) }
@@ -205,7 +212,7 @@ impl Files {
     pub fn place_moved(&mut self, name: &[u8], content: Vec<u8>) -> Result<(), PlaceRefusal>
         ensures { Places result self.old self.new (placed self.old name.now content.items) }
     {
-        are_bytes(content.as_slice());
+        show_bytes(content.as_slice());
         self.table.place_moved(name, content)
     }
 
@@ -218,8 +225,3 @@ impl Files {
         self.table.take_content(alloc, name)
     }
 }
-
-/// Bytes are numbers below 256.
-fn are_bytes(content: &[u8])
-    ensures { AreBytes content.now }
-{}

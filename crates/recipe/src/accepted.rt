@@ -44,6 +44,13 @@ impl Recipe {
         &self.said.digest
     }
 
+    /// Shows that the recipe keeps its rules.
+    pub fn show_rules(&self)
+        ensures { IsRecipe self.now }
+    {
+        let _ = &self.said;
+    }
+
     /// The recipe's format: 1 or 2.
     pub fn format(&self) -> u32
         ensures value { result ≡ self.now.format }

@@ -8,8 +8,8 @@ use Rattle.std.proofs.lemmas.List.Elements.{All-head, All-tail}
 use Rattle.hex.specs.Hex.{IsBytes, decode_of, encode_with, encode_lower, lower_digits}
 use Rattle.hex.specs.declared.error.FromHexError.{FromHexError}
 use Rattle.hex.proofs.HexLemmas.{length-encode_with, decode_of-encode_lower}
-use Rattle.ddc_base.specs.HexTexts.{IsHexOf}
-use Rattle.ddc_base.specs.Inside.HexTests.{is_lower_digit, is_lower_hex}
+use Rattle.ddc_base.specs.HexTexts.{IsHexOf, is_lower_digit}
+use Rattle.ddc_base.specs.Inside.HexTests.{is_lower_hex}
 use Rattle.ddc_base.specs.declared.digests.Digest.{Digest}
 use Rattle.ddc_base.proofs.HexTexts.{passes, decoded, spells}
 use Rattle.report.specs.Inside.Fields.{hex_of, digit_value, pairs_of, digest_of}

@@ -1,22 +1,10 @@
 -- What a text reads as, as a function, which what a command says of a text can cite. The law `one_reading` says that it is the text's one
 -- reading (`IsReading`), and no other promise rests on how it is found.
-use Rattle.std.specs.Prelude.{◌≡◌, ℕ, List, Result, Ok, Err}
+use Rattle.std.specs.Prelude.{ℕ, List, Result}
 use Rattle.report.specs.declared.types.Report.{Report}
-use Rattle.report.specs.declared.refusal.ReportRefusal.{ReportRefusal}
-use Rattle.report.specs.declared.refusal.ReportRefusal.TheVariants.{Form, OutOfMemory}
 use Rattle.report.specs.Inside.LineByLine.{read_all}
 use Rattle.report.specs.Inside.Reading.{report_reader}
 
 -- the report whose text the bytes are, or else the least number of lines that begin no report
 unfoldable pub report_of : List ℕ → Result Report ℕ
 report_of bytes = read_all report_reader bytes
-
--- a refusal of a text which reads so
-abbrev pub Refuses : Result Report ℕ → ReportRefusal → Type 0
-Refuses meant (Form number) = meant ≡ Err number
-Refuses meant OutOfMemory = Unit {0}
-
--- the answer of a call that reads a text which reads so
-abbrev pub ReadsReport : Result Report ℕ → Result Report ReportRefusal → Type 0
-ReadsReport meant (Ok report) = meant ≡ Ok report
-ReadsReport meant (Err refusal) = Refuses meant refusal

@@ -1,6 +1,6 @@
 -- A report: which are well formed, their one text, and where a text is none. Its digests are those of SHA-256 (FIPS 180-4).
 -- docs/reference/report.md says the same for people.
-use Rattle.std.specs.Prelude.{◌≡◌, ◌≢◌, ℕ, ◌<◌, ◌≤◌, ◌^◌, Bool, true, ◌&&◌, All, List, [], ◌∷◌, ◌++◌, length, take, map, Result, Ok, Err, ◌⊎◌, ◌==◌, if◌then◌else◌, IsTrue}
+use Rattle.std.specs.Prelude.{◌≡◌, ℕ, ◌<◌, ◌≤◌, ◌^◌, Bool, true, ◌&&◌, All, List, [], ◌∷◌, ◌++◌, length, map, ◌⊎◌, ◌==◌, if◌then◌else◌, IsTrue}
 use Rattle.std.specs.List.{flat_map}
 use Rattle.std.specs.Ordering.{nat_cmp, is_lt}
 use Rattle.std.specs.Cmp.Lexicographic.{slice_cmp}
@@ -17,9 +17,8 @@ use Rattle.report.specs.declared.types.CompareLine.{CompareLine}
 use Rattle.report.specs.declared.types.Compared.{Compared}
 use Rattle.report.specs.declared.types.Compared.TheVariants.{Equal, Differs}
 use Rattle.report.specs.declared.types.Report.{Report}
-use Rattle.report.specs.declared.refusal.ReportRefusal.{ReportRefusal}
-use Rattle.report.specs.declared.refusal.ReportRefusal.TheVariants.{Form, OutOfMemory}
-use Rattle.report.specs.Lines.{lines_text}
+use Rattle.report.specs.Lines.{line_words, lines_text}
+use Rattle.report.specs.Texts.{Texts}
 
 -- ---- the text
 
@@ -113,33 +112,6 @@ pub record IsReport (report : Report) : Type 0 where
   pub compares : IsCount 1 (most_comparisons report.form) (length report.compare)
   pub each_compare : All IsCompare report.compare
 
--- ---- reading
-
--- the first n lines of a text, each with its LF, begin the text of some report
-pub record BeginsReport (n : ℕ) (bytes : List ℕ) : Type 0 where
-  pub report : Report
-  pub is : IsReport report
-  pub within : n ≤ length (report_lines report)
-  pub rest : List ℕ
-  pub text : bytes ≡ lines_text (take n (report_lines report)) ++ rest
-
--- the least number of lines that begin no report
-pub record IsFirstFault (number : ℕ) (bytes : List ℕ) : Type 0 where
-  pub not_here : ¬ (BeginsReport number bytes)
-  pub before : (m : ℕ) → m < number → BeginsReport m bytes
-
--- the one reading of a text: the report whose text it is; or, where it is none's, the least number of lines that begin no report
-abbrev pub IsReading : List ℕ → Result Report ℕ → Type 0
-IsReading bytes (Ok report) = IsReport report × (bytes ≡ report_text report)
-IsReading bytes (Err number) = IsFirstFault number bytes × ((report : Report) → IsReport report → bytes ≢ report_text report)
-
--- what reading the text of this report may answer
-abbrev pub IsRead : Report → Result Report ReportRefusal → Type 0
-IsRead report (Ok found) = found ≡ report
-IsRead report (Err OutOfMemory) = Unit {0}
-IsRead report (Err (Form number)) = ⊥
-
--- when a refusal comes
-abbrev pub IsFault : List ℕ → ReportRefusal → Type 0
-IsFault bytes (Form number) = IsFirstFault number bytes
-IsFault bytes OutOfMemory = Unit {0}
+-- the texts of reports
+abbrev pub report_texts : Texts ReportLine Report
+report_texts = record { Is = IsReport; lines = report_lines; words = line_words }

@@ -2,13 +2,13 @@
 
 ghost use Rattle.std.specs.Prelude.{◌≡◌, ◌<◌, IsTrue, ◌+◌, ◌==◌, length, drop, IfOk, IfSome, option_map};
 ghost use Rattle.std.specs.List.{position, list_all};
-ghost use Rattle.ddc_base.specs.Inside.HexTests as test;
+ghost use Rattle.ddc_base.specs.HexTexts.{is_lower_digit};
 ghost use Rattle.report.specs.Inside.Cuts.{cut_at};
 ghost use Rattle.report.specs.Inside.Fields.{file_name_of, hex_of, digit_value, pairs_of, digest_of, mark_of, file_line_of, lengths_of, is_difference, difference_of, compared_of};
 
 use crate::types::{Compared, LeftLine, Mark};
 use ddc_base::digests::Digest;
-use ddc_base::{Bytes, HexFail, OutOfMemory, read_decimal, read_hex};
+use ddc_base::{Bytes, HexFail, OutOfMemory, are_lower_digits, read_decimal, read_hex};
 use std::alloc::Global;
 
 /// What stands before the first such byte of a text, and what after it.
@@ -77,7 +77,7 @@ pub(crate) fn digest_of(word: &[u8]) -> Option<Digest>
 /// The value of a digit is computed without a branch that depends on the digit, since the digits of a digest are as good as random.
 fn bytes_of(word: &[u8]) -> [u8; 32]
     requires count { length word.now ≡ 64 }
-    requires digits { IsTrue (list_all test.is_lower_digit word.now) }
+    requires digits { IsTrue (list_all is_lower_digit word.now) }
     ensures { result ≡ pairs_of word.now }
 {
     let mut bytes = [0; 32];
@@ -89,7 +89,7 @@ fn bytes_of(word: &[u8]) -> [u8; 32]
 
 /// The value of a lower-case digit.
 fn digit_value(digit: u8) -> u8
-    requires { IsTrue (test.is_lower_digit digit) }
+    requires { IsTrue (is_lower_digit digit) }
     ensures value { result ≡ digit_value digit }
     ensures small { result < 16 }
 {
@@ -98,18 +98,6 @@ fn digit_value(digit: u8) -> u8
     } else {
         digit - b'a' + 10
     }
-}
-
-fn are_lower_digits(text: &[u8]) -> bool
-    ensures { result ≡ list_all test.is_lower_digit text.now }
-{
-    text.iter().all(|byte| is_lower_digit(*byte))
-}
-
-fn is_lower_digit(byte: u8) -> bool
-    ensures { result ≡ test.is_lower_digit byte }
-{
-    matches!(byte, b'0'..=b'9' | b'a'..=b'f')
 }
 
 /// The length and the digest that a text is.

@@ -6,7 +6,8 @@ ghost use Rattle.std.specs.Cmp.Lexicographic.{slice_cmp};
 ghost use Rattle.std.specs.List.Sorted.{IsStrictlySortedBy};
 ghost use Rattle.sha2.specs.Sha256.{sha256};
 ghost use Rattle.report.specs.Reading.{report_of};
-ghost use Rattle.report.specs.Reports.{IsMark, IsReading, IsReport, ascend, report_text};
+ghost use Rattle.report.specs.Reports.{IsMark, IsReport, ascend, report_text, report_texts};
+ghost use Rattle.report.specs.Texts.{IsReading};
 ghost use Rattle.report.specs.declared.types.LeftLine.{LeftLine};
 ghost use Rattle.report.specs.declared.types.Report.{Report as ReportValue};
 
@@ -22,7 +23,7 @@ pub fn short_text()
 
 /// What a text reads as is its one reading: the report whose text it is, or else its first fault.
 pub fn one_reading()
-    ensures { (bytes : List ℕ) (reading : Result ReportValue ℕ) → (report_of bytes ≡ reading) ↔ IsReading bytes reading }
+    ensures { (bytes : List ℕ) (reading : Result ReportValue ℕ) → (report_of bytes ≡ reading) ↔ IsReading report_texts bytes reading }
 {}
 
 /// The length and the digest of fewer than 2^64 bytes are a mark.

@@ -1,11 +1,13 @@
 //! Reading a report.
 
 ghost use Rattle.std.specs.Prelude.{◌≡◌, ◌<◌, length, IfOk, IfErr, Some};
-ghost use Rattle.report.specs.Reading.{report_of, ReadsReport};
+ghost use Rattle.report.specs.Reading.{report_of};
+ghost use Rattle.report.specs.Texts.{IsFault, IsRead, ReadsText};
+ghost use Rattle.report.specs.Inside.Reading.{report_reader};
 ghost use Rattle.report.specs.Inside.Loops.{HasNoLine, ReadsLines};
 ghost use Rattle.report.specs.Inside.LineByLine.{next_line};
 ghost use Rattle.report.specs.Inside.LinesRead.{line_of};
-ghost use Rattle.report.specs.Reports.{IsReport, report_text, IsRead, IsFault};
+ghost use Rattle.report.specs.Reports.{IsReport, report_text, report_texts};
 ghost use Rattle.report.specs.declared.types.Report.{Report as ReportValue};
 
 use crate::fields::cut_at;
@@ -22,14 +24,14 @@ use std::alloc::Global;
 pub fn read(alloc: Global, bytes: &[u8]) -> Result<Report, ReportRefusal>
     ensures found { IfOk result (λ report. IsReport report × (bytes.now ≡ report_text report)) }
     ensures only { (report : ReportValue) → IsReport report → bytes.now ≡ report_text report → IsRead report result }
-    ensures refused { IfErr result (IsFault bytes.now) }
-    ensures value { ReadsReport (report_of bytes.now) result }
+    ensures refused { IfErr result (IsFault report_texts bytes.now) }
+    ensures value { ReadsText (report_of bytes.now) result }
 {
     read_report(alloc, bytes)
 }
 
 fn read_report(alloc: Global, bytes: &[u8]) -> Result<Report, ReportRefusal>
-    ensures { ReadsReport (report_of bytes.now) result }
+    ensures { ReadsText (report_of bytes.now) result }
 {
     let (state, number) = read_lines(alloc, bytes)?;
     match state {
@@ -40,7 +42,7 @@ fn read_report(alloc: Global, bytes: &[u8]) -> Result<Report, ReportRefusal>
 
 /// How far the bytes' lines lead, and the number of the line after them.
 fn read_lines(alloc: Global, bytes: &[u8]) -> Result<(State, u64), ReportRefusal>
-    ensures { ReadsLines bytes.now result }
+    ensures { ReadsLines report_reader (report_of bytes.now) bytes.now result }
 {
     let mut state = State::Start;
     let mut rest = bytes;
@@ -62,7 +64,7 @@ fn read_lines(alloc: Global, bytes: &[u8]) -> Result<(State, u64), ReportRefusal
 fn next_line(alloc: Global, bytes: &[u8], number: u64) -> Result<(ReportLine, &[u8]), ReportRefusal>
     ensures value { IfOk result (λ next. Some (next.0, next.1.now) ≡ next_line line_of bytes.now) }
     ensures shorter { IfOk result (λ next. length next.1.now < length bytes.now) }
-    ensures refused { IfErr result (HasNoLine bytes.now number) }
+    ensures refused { IfErr result (HasNoLine line_of bytes.now number) }
 {
     let Some((text, rest)) = cut_at(b'\n', bytes) else {
         return Err(ReportRefusal::Form(number));

@@ -5,12 +5,10 @@
 pub mod laws;
 mod line;
 mod reading;
-mod refusal;
 mod state;
 mod types;
 mod writing;
 
 pub use reading::read;
-pub use refusal::ScriptReportRefusal;
 pub use types::{CommandLine, CommandLines, ScriptReport};
 pub use writing::write;

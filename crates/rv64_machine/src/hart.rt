@@ -104,8 +104,16 @@ impl<R: Ram> Hart<R> {
         // Registers and pc are numbers of 64 bits.
         ensures numbers { HasNumbers self.now }
     {
-        told(&self.registers, self.pc);
+        show_numbers(&self.registers, self.pc);
         self.registers
+    }
+
+    /// Shows that the hart keeps its rules, and that registers and pc are numbers of 64 bits.
+    pub fn show_rules(&self)
+        ensures hart { IsHart self.now }
+        ensures numbers { HasNumbers self.now }
+    {
+        show_numbers(&self.registers, self.pc);
     }
 
     /// The memory.
@@ -365,8 +373,7 @@ impl<R: Ram> Hart<R> {
         requires wide { IsReservable width }
         ensures { EndsStep (carried self.old rd (Effect.LoadReserved width at)) None self.old result self.new }
     {
-        // The pc's contract tells that the hart keeps its rules.
-        let _pc = self.pc();
+        self.show_rules();
         match self.reads_aligned(at, width) {
             Some(value) => {
                 self.set_reg(rd, widened(width, value));
@@ -547,8 +554,8 @@ fn is_multiple(at: u64, width: Width) -> bool
     }
 }
 
-/// What the types of registers and pc tell.
-fn told(registers: &[u64], pc: u64)
+/// Shows that registers and pc are numbers of 64 bits.
+fn show_numbers(registers: &[u64], pc: u64)
     ensures registers { All (λ value. value < 2 ^ 64) registers.now }
     ensures pc { pc < 2 ^ 64 }
 {}

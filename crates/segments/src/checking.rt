@@ -80,7 +80,7 @@ fn difference(alloc: Global, guest: &Guest<RunRam>, text: &[u8]) -> Result<Optio
     ensures valid { IsValid guest.now }
     ensures small { guest.now.steps < 2 ^ 64 }
 {
-    guest.steps();
+    guest.show_valid();
     let found = write_state(alloc, guest)?;
     Ok(first_difference(found.as_slice(), text))
 }

@@ -23,7 +23,8 @@ use command_plan::words::are_three_files;
 use command_plan::{Answer, FileName, Status, Stop, fetch, texts, usage};
 use ddc_base::{Bytes, ListOf, Shelf};
 use kaem_script::{FileList, Script, ScriptPart, ScriptVerdict};
-use report::script::{ScriptReport, ScriptReportRefusal};
+use report::ReportRefusal;
+use report::script::ScriptReport;
 use std::alloc::Global;
 
 /// The most bytes of a report that is loaded. The text of every report has fewer.
@@ -143,10 +144,8 @@ fn read_report(alloc: Global, text: Bytes) -> Result<ScriptReport, Stop>
 {
     match report::script::read(alloc, text.as_slice()) {
         Ok(report) => Ok(report),
-        Err(ScriptReportRefusal::Form(number)) => {
-            Err(Stop::Answered(report_refused(alloc, number)?))
-        }
-        Err(ScriptReportRefusal::OutOfMemory) => Err(Stop::OutOfMemory),
+        Err(ReportRefusal::Form(number)) => { Err(Stop::Answered(report_refused(alloc, number)?)) }
+        Err(ReportRefusal::OutOfMemory) => Err(Stop::OutOfMemory),
     }
 }
 

@@ -93,8 +93,7 @@ fn judged(
     ensures resumes { ResumesRelative recipe.now inputs.now base.now text.now result }
     ensures valid { IfOk result (λ p. IsValid p.at) }
 {
-    // Every recipe keeps its rules: this call tells it.
-    recipe.digest();
+    recipe.show_rules();
     judge_base(alloc, recipe, inputs, base)?;
     let known = known_of(alloc, base)?;
     relative(alloc, recipe, known, base, text)

@@ -38,8 +38,7 @@ pub fn write(
     ensures { IfOk result (λ text. (b : Position) → IsBaseAt recipe.now inputs.now b base.now
         → text ≡ delta_text_of recipe.now inputs.now b (at done.now guest.now)) }
 {
-    // Every recipe keeps its rules: this call tells it.
-    recipe.digest();
+    recipe.show_rules();
     let known = known_of(alloc, base)?;
     relative(alloc, &known, base, done, guest)
 }

@@ -216,8 +216,7 @@ pub(crate) fn place_of(
     }
     match patched_guest_of(alloc, state) {
         Ok(guest) => {
-            // Every guest is in a valid state: this call tells it.
-            guest.steps();
+            guest.show_valid();
             Ok(Resumed { done, guest })
         }
         Err(RestoreRefusal::Range) => Err(SaveRefusal::State),

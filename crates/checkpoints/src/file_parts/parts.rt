@@ -7,7 +7,7 @@ ghost use Rattle.std.specs.Option.{option_copied};
 ghost use Rattle.mem_files.specs.Sound.{AreBytes};
 
 use crate::file_parts::judging::{are_in_range, are_joined};
-use ddc_base::OutOfMemory;
+use ddc_base::{OutOfMemory, show_bytes};
 use mem_files::{FileView, Files, OpenFile};
 use std::alloc::Global;
 use std::marker::Model;
@@ -89,7 +89,7 @@ impl<'a> FileParts<'a> {
         ensures ok { OnOk result (self.new ≡ record self.old { files = self.old.files ++ record { number = number; name = option_copied name.entry; content = content.now } ∷ [] }) }
         ensures err { OnErr result (self.new ≡ self.old) }
     {
-        told_name(name);
+        show_name_bytes(name);
         self.files.push(FileView {
             number,
             name,
@@ -119,16 +119,11 @@ impl<'a> FileParts<'a> {
     }
 }
 
-/// What the type of a name tells.
-fn told_name(name: Option<&[u8]>)
+/// Shows that the items of a name, where there is one, are numbers below 256.
+fn show_name_bytes(name: Option<&[u8]>)
     ensures { IfSome (option_copied name.entry) AreBytes }
 {
     if let Some(name) = name {
-        told(name);
+        show_bytes(name);
     }
 }
-
-/// What the type of bytes tells.
-fn told(bytes: &[u8])
-    ensures { AreBytes bytes.now }
-{}

@@ -2,7 +2,8 @@ ghost use Rattle.report.specs.Script.Reports.{IsScriptReport};
 
 use crate::reports::put_text;
 use ddc_base::{Bytes, OutOfMemory, digest, put_hex};
-use report::script::{CommandLine, ScriptReport, ScriptReportRefusal, read, write};
+use report::ReportRefusal;
+use report::script::{CommandLine, ScriptReport, read, write};
 use std::alloc::Global;
 use std::process::Abort;
 use std::test::Fail;
@@ -223,8 +224,8 @@ fn fault_of_report(alloc: Global, report: &ScriptReport, text: &[u8]) -> Result<
 fn fault_of(alloc: Global, text: &[u8]) -> Result<u64, OutOfMemory> {
     match read(alloc, text) {
         Ok(report) => fault_of_report(alloc, &report, text),
-        Err(ScriptReportRefusal::Form(number)) => Ok(number),
-        Err(ScriptReportRefusal::OutOfMemory) => Err(OutOfMemory),
+        Err(ReportRefusal::Form(number)) => Ok(number),
+        Err(ReportRefusal::OutOfMemory) => Err(OutOfMemory),
     }
 }
 

@@ -1,5 +1,5 @@
 -- The first lines of a report are taken, and what is taken begins a report, whatever the lines are.
-use Rattle.std.proofs.Common.{◌≡◌, ℕ, zero, suc, ◌+◌, ◌-◌, ◌<◌, ◌≤◌, List, [], ◌∷◌, ◌++◌, length, take, drop, Option, Some, None, refl, sym, ap, subst, ◌∙◌, append_assoc, arith, length-append, inl, inr}
+use Rattle.std.proofs.Common.{◌≡◌, ℕ, zero, suc, ◌+◌, ◌-◌, ◌≤◌, List, [], ◌∷◌, ◌++◌, length, take, drop, Option, Some, None, refl, sym, ap, subst, ◌∙◌, append_assoc, arith, length-append, inl, inr}
 use Rattle.std.specs.Prelude.{All}
 use Rattle.std.proofs.lemmas.Bool.{cases_lt}
 use Rattle.std.proofs.lemmas.List.{append-nil, take-append-drop, take_at, length-take}
@@ -7,22 +7,10 @@ use Rattle.std.proofs.lemmas.List.Elements.{All-head, All-tail, All-take}
 use Rattle.ddc_base.specs.Lines.{line as line_text}
 use Rattle.report.specs.Inside.Cuts.{◌>>=◌}
 use Rattle.report.specs.Inside.LineByLine.{Reader, next_line, one_more, after}
+use Rattle.report.specs.Texts.{BeginsText, IsFirstFault, text_of_lines}
 use Rattle.report.proofs.Cuts.{bind_some, same_some}
-use Rattle.report.proofs.LineByLine.Rules.{Rules, runs, runs-append, text_of}
+use Rattle.report.proofs.LineByLine.Rules.{Rules, runs, runs-append}
 use Rattle.report.proofs.LineByLine.Turns.{no_more}
-
--- the first n lines of a text begin the text of some report
-pub record Begins {L S R : Type 0} {reader : Reader L S R} (rules : Rules reader) (n : ℕ) (bytes : List ℕ) : Type 0 where
-  pub report : R
-  pub is : rules.Is report
-  pub within : n ≤ length (rules.lines report)
-  pub rest : List ℕ
-  pub text : bytes ≡ text_of rules.words (take n (rules.lines report)) ++ rest
-
--- the least number of lines that begin no report
-pub record FirstFault {L S R : Type 0} {reader : Reader L S R} (rules : Rules reader) (number : ℕ) (bytes : List ℕ) : Type 0 where
-  pub not_here : ¬ (Begins rules number bytes)
-  pub before : (m : ℕ) → m < number → Begins rules m bytes
 
 -- ---- from the front
 
@@ -49,26 +37,26 @@ after_from reader zero bytes = refl
 after_from {S = S} reader (suc n) bytes = ap (λ (o : Option (S × List ℕ)). o >>= one_more reader) (after_from reader n bytes) ∙ sym (from_more reader n (reader.start, bytes))
 
 one_line : {L S R : Type 0} {reader : Reader L S R} (rules : Rules reader) (s : S) (l : L) (t : S) (rest : List ℕ)
-    → rules.IsLine l → reader.step s l ≡ Some t → one_more reader (s, line_text (rules.words l) ++ rest) ≡ Some (t, rest)
+    → rules.IsLine l → reader.step s l ≡ Some t → one_more reader (s, line_text (rules.texts.words l) ++ rest) ≡ Some (t, rest)
 unfolding one_more
 one_line rules s l t rest fits stepped = rw (rules.again l rest fits, stepped) refl
 
 run_from : {L S R : Type 0} {reader : Reader L S R} (rules : Rules reader) (ls : List L) (s t : S) (rest : List ℕ)
-    → All rules.IsLine ls → runs reader.step s ls ≡ Some t → from reader (length ls) (s, text_of rules.words ls ++ rest) ≡ Some (t, rest)
+    → All rules.IsLine ls → runs reader.step s ls ≡ Some t → from reader (length ls) (s, text_of_lines rules.texts.words ls ++ rest) ≡ Some (t, rest)
 run_from {S = S} rules [] s t rest each e = ap (λ (o : Option S). o >>= λ u. Some (u, rest)) e
 run_from {S = S} {reader = reader} rules (l ∷ ls) s t rest each e =
     let parts = bind_some (reader.step s l) (λ u. runs reader.step u ls) t e in
-    let here = line_text (rules.words l) in
-    let later = text_of rules.words ls in
+    let here = line_text (rules.texts.words l) in
+    let later = text_of_lines rules.texts.words ls in
     let one : one_more reader (s, (here ++ later) ++ rest) ≡ Some (parts.0, later ++ rest) =
     ap (λ (bytes : List ℕ). one_more reader (s, bytes)) (append_assoc here later rest) ∙ one_line rules s l parts.0 (later ++ rest) (All-head rules.IsLine l ls each) parts.1 in
     ap (λ (o : Option (S × List ℕ)). o >>= from reader (length ls)) one ∙ run_from rules ls parts.0 t rest (All-tail rules.IsLine l ls each) parts.2
 
 -- where the lines begin a report, they are taken
-begun : {L S R : Type 0} {reader : Reader L S R} (rules : Rules reader) (n : ℕ) (bytes : List ℕ) → Begins rules n bytes
+begun : {L S R : Type 0} {reader : Reader L S R} (rules : Rules reader) (n : ℕ) (bytes : List ℕ) → BeginsText rules.texts n bytes
     → (x : S × List ℕ) × (after reader n bytes ≡ Some x)
 begun {S = S} {reader = reader} rules n bytes begins =
-    let lines = rules.lines begins.report in
+    let lines = rules.texts.lines begins.report in
     let run = runs reader.step in
     let end = rules.end begins.report in
     let whole : run reader.start (take n lines ++ drop n lines) ≡ Some end = ap (run reader.start) (take-append-drop n lines) ∙ rules.runs_to_end begins.report begins.is in
@@ -82,20 +70,20 @@ begun {S = S} {reader = reader} rules n bytes begins =
 
 -- ---- what is taken
 
-text_of-push : {L : Type 0} (words : L → List (List ℕ)) (ls : List L) (l : L) → text_of words (ls ++ l ∷ []) ≡ text_of words ls ++ line_text (words l)
+text_of-push : {L : Type 0} (words : L → List (List ℕ)) (ls : List L) (l : L) → text_of_lines words (ls ++ l ∷ []) ≡ text_of_lines words ls ++ line_text (words l)
 text_of-push words [] l = append-nil (line_text (words l))
 text_of-push words (first ∷ ls) l =
-    ap (λ (t : List ℕ). line_text (words first) ++ t) (text_of-push words ls l) ∙ sym (append_assoc (line_text (words first)) (text_of words ls) (line_text (words l)))
+    ap (λ (t : List ℕ). line_text (words first) ++ t) (text_of-push words ls l) ∙ sym (append_assoc (line_text (words first)) (text_of_lines words ls) (line_text (words l)))
 
 pub record Taken {L S R : Type 0} {reader : Reader L S R} (rules : Rules reader) (n : ℕ) (bytes : List ℕ) (s : S) (rest : List ℕ) : Type 0 where
   pub good : rules.Good s
-  pub text : bytes ≡ text_of rules.words (rules.so_far s) ++ rest
+  pub text : bytes ≡ text_of_lines rules.texts.words (rules.so_far s) ++ rest
   pub long : length (rules.so_far s) ≡ n
 
 taken_none : {L S R : Type 0} {reader : Reader L S R} (rules : Rules reader) (bytes : List ℕ) → Taken rules 0 bytes reader.start bytes
 taken_none {L = L} rules bytes = record {
   good = rules.good_start;
-  text = ap (λ (ls : List L). text_of rules.words ls ++ bytes) (sym rules.none_yet);
+  text = ap (λ (ls : List L). text_of_lines rules.texts.words ls ++ bytes) (sym rules.none_yet);
   long = ap length rules.none_yet;
 }
 
@@ -110,28 +98,28 @@ taken {L = L} {S = S} {reader = reader} rules (suc n) bytes x e =
     let before = taken rules n bytes a.0 a.1 in
     let line = rules.takes a.0.1 b.0.0 b.0.1 b.1 in
     let grown = rules.grows a.0.0 b.0.0 d.0 before.good d.1 in
-    let text = text_of rules.words in
-    let here = line_text (rules.words b.0.0) in
+    let text = text_of_lines rules.texts.words in
+    let here = line_text (rules.texts.words b.0.0) in
     subst (λ (y : S × List ℕ). Taken rules (suc n) bytes y.0 y.1) (same_some (d.0, b.0.1) x d.2) (record {
       good = rules.keeps a.0.0 b.0.0 d.0 before.good line.0 d.1;
       text = before.text ∙ ap (λ (t : List ℕ). text (rules.so_far a.0.0) ++ t) line.1
           ∙ sym (append_assoc (text (rules.so_far a.0.0)) here b.0.1)
-          ∙ ap (λ (t : List ℕ). t ++ b.0.1) (sym (text_of-push rules.words (rules.so_far a.0.0) b.0.0) ∙ ap text (sym grown));
+          ∙ ap (λ (t : List ℕ). t ++ b.0.1) (sym (text_of-push rules.texts.words (rules.so_far a.0.0) b.0.0) ∙ ap text (sym grown));
       long = omega (arith, ap length grown, length-append (rules.so_far a.0.0) (b.0.0 ∷ []), before.long);
     })
 
 -- what is taken begins a report
-begins : {L S R : Type 0} {reader : Reader L S R} (rules : Rules reader) (n : ℕ) (bytes : List ℕ) (x : S × List ℕ) → after reader n bytes ≡ Some x → Begins rules n bytes
+begins : {L S R : Type 0} {reader : Reader L S R} (rules : Rules reader) (n : ℕ) (bytes : List ℕ) (x : S × List ℕ) → after reader n bytes ≡ Some x → BeginsText rules.texts n bytes
 begins {L = L} rules n bytes x e =
     let t = taken rules n bytes x e in
     let f = rules.finished x.0 t.good in
-    let front : take n (rules.lines f.report) ≡ rules.so_far x.0 = ap (take n) f.split ∙ take_at (rules.so_far x.0) f.more n t.long in
+    let front : take n (rules.texts.lines f.report) ≡ rules.so_far x.0 = ap (take n) f.split ∙ take_at (rules.so_far x.0) f.more n t.long in
     record {
       report = f.report;
       is = f.is;
       rest = x.1;
       within = omega (arith, ap length f.split, length-append (rules.so_far x.0) f.more, t.long);
-      text = t.text ∙ ap (λ (ls : List L). text_of rules.words ls ++ x.1) (sym front);
+      text = t.text ∙ ap (λ (ls : List L). text_of_lines rules.texts.words ls ++ x.1) (sym front);
     }
 
 -- ---- the first line that begins no report
@@ -159,7 +147,7 @@ past_last {S = S} reader bytes n at last = ap (λ (o : Option (S × List ℕ)). 
 none_some : {A : Type 0} {G : Type 0} (o : Option A) (x : A) → o ≡ None → o ≡ Some x → G
 none_some o x none some = let both : None ≡ Some x = sym none ∙ some in absurd cc
 
-pub first_fault : {L S R : Type 0} {reader : Reader L S R} (rules : Rules reader) (n : ℕ) (bytes : List ℕ) (at : S × List ℕ) → Last reader bytes n at → FirstFault rules (n + 1) bytes
+pub first_fault : {L S R : Type 0} {reader : Reader L S R} (rules : Rules reader) (n : ℕ) (bytes : List ℕ) (at : S × List ℕ) → Last reader bytes n at → IsFirstFault rules.texts (n + 1) bytes
 first_fault {reader = reader} rules n bytes at last = record {
   not_here = λ here.
       (let up : n + 1 ≡ suc n = omega arith in
@@ -190,20 +178,20 @@ one_last reader n m bytes x y first second =
 -- ---- a whole report
 
 pub whole : {L S R : Type 0} {reader : Reader L S R} (rules : Rules reader) (n : ℕ) (bytes : List ℕ) (s : S) (report : R)
-    → after reader n bytes ≡ Some (s, []) → reader.ended s ≡ Some report → rules.Is report × (bytes ≡ text_of rules.words (rules.lines report))
+    → after reader n bytes ≡ Some (s, []) → reader.ended s ≡ Some report → rules.texts.Is report × (bytes ≡ text_of_lines rules.texts.words (rules.texts.lines report))
 whole {L = L} rules n bytes s report e ends =
     let t = taken rules n bytes (s, []) e in
     let w = rules.whole s report t.good ends in
-    (w.0, t.text ∙ append-nil (text_of rules.words (rules.so_far s)) ∙ ap (text_of rules.words) w.1)
+    (w.0, t.text ∙ append-nil (text_of_lines rules.texts.words (rules.so_far s)) ∙ ap (text_of_lines rules.texts.words) w.1)
 
 -- a report's text goes on to its end, and no further
-pub text_last : {L S R : Type 0} {reader : Reader L S R} (rules : Rules reader) (bytes : List ℕ) (report : R) → rules.Is report → bytes ≡ text_of rules.words (rules.lines report)
-    → Last reader bytes (length (rules.lines report)) (rules.end report, [])
+pub text_last : {L S R : Type 0} {reader : Reader L S R} (rules : Rules reader) (bytes : List ℕ) (report : R) → rules.texts.Is report → bytes ≡ text_of_lines rules.texts.words (rules.texts.lines report)
+    → Last reader bytes (length (rules.texts.lines report)) (rules.end report, [])
 text_last {reader = reader} rules bytes report is text =
-    let lines = rules.lines report in
+    let lines = rules.texts.lines report in
     record {
       there = after_from reader (length lines) bytes
-          ∙ ap (λ (b : List ℕ). from reader (length lines) (reader.start, b)) (text ∙ sym (append-nil (text_of rules.words lines)))
+          ∙ ap (λ (b : List ℕ). from reader (length lines) (reader.start, b)) (text ∙ sym (append-nil (text_of_lines rules.texts.words lines)))
           ∙ run_from rules lines reader.start (rules.end report) [] (rules.fits report is) (rules.runs_to_end report is);
       none = no_more reader (rules.end report);
     }

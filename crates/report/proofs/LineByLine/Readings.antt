@@ -1,13 +1,18 @@
 -- What a text reads as, in the words of its report's text, whatever the lines are.
 use Rattle.std.proofs.Common.{◌≡◌, ℕ, zero, suc, ◌+◌, ◌<◌, ◌≤◌, List, [], ◌∷◌, length, Option, Some, None, Result, Ok, Err, refl, sym, ap, subst, ◌∙◌, arith, inl, inr, length-append}
+use Rattle.std.specs.Prelude.{◌==◌, Bool, false, IfOk, IfErr, IsErrAnd}
 use Rattle.std.specs.Option.{option_map_or}
 use Rattle.std.proofs.lemmas.Bool.{cases_lt}
 use Rattle.report.specs.Inside.Cuts.{◌>>=◌, cut_at}
 use Rattle.report.specs.Inside.LineByLine.{Reader, next_line, one_more, after, ended_at, read_on, read_all, Stands, Stops}
+use Rattle.report.specs.declared.refusal.ReportRefusal.{ReportRefusal}
+use Rattle.report.specs.declared.refusal.ReportRefusal.TheVariants.{Form, OutOfMemory}
+use Rattle.report.specs.Inside.Loops.{HasNoLine, ReadsLines}
+use Rattle.report.specs.Texts.{Texts, IsFault, IsFirstFault, IsRead, IsReading, ReadsText, Refuses, text_of_lines}
 use Rattle.report.proofs.Cuts.{cut_at-takes, bind_some, same_some}
-use Rattle.report.proofs.LineByLine.Faults.{FirstFault, Last, first_fault, one_last, whole, text_last}
-use Rattle.report.proofs.LineByLine.Rules.{Rules, text_of}
-use Rattle.report.proofs.LineByLine.Turns.{no_more, after_more}
+use Rattle.report.proofs.LineByLine.Faults.{Last, first_fault, one_last, whole, text_last}
+use Rattle.report.proofs.LineByLine.Rules.{Rules}
+use Rattle.report.proofs.LineByLine.Turns.{no_more, after_more, stops_at_line}
 
 -- each line takes at least its LF
 shorter : {L S R : Type 0} (reader : Reader L S R) (x y : S × List ℕ) → one_more reader x ≡ Some y → length y.1 < length x.1
@@ -84,27 +89,27 @@ ended_left k _ _ left = refl
 -- ---- texts of reports, and others
 
 pub read_its_text : {L S R : Type 0} {reader : Reader L S R} (rules : Rules reader) (bytes : List ℕ) (report : R)
-    → rules.Is report → bytes ≡ text_of rules.words (rules.lines report) → read_all reader bytes ≡ Ok report
+    → rules.texts.Is report → bytes ≡ text_of_lines rules.texts.words (rules.texts.lines report) → rules.read bytes ≡ Ok report
 read_its_text {R = R} {reader = reader} rules bytes report is text =
-    reads_at reader bytes _ (rules.end report, []) (text_last rules bytes report is text)
-    ∙ ap (λ (o : Option R). ended_at (length (rules.lines report) + 1) o []) (rules.ended report)
+    rules.reads bytes ∙ reads_at reader bytes _ (rules.end report, []) (text_last rules bytes report is text)
+    ∙ ap (λ (o : Option R). ended_at (length (rules.texts.lines report) + 1) o []) (rules.ended report)
 
-pub text_that_reads : {L S R : Type 0} {reader : Reader L S R} (rules : Rules reader) (bytes : List ℕ) (report : R)
-    → read_all reader bytes ≡ Ok report → rules.Is report × (bytes ≡ text_of rules.words (rules.lines report))
+text_that_reads : {L S R : Type 0} {reader : Reader L S R} (rules : Rules reader) (bytes : List ℕ) (report : R)
+    → rules.read bytes ≡ Ok report → rules.texts.Is report × (bytes ≡ text_of_lines rules.texts.words (rules.texts.lines report))
 text_that_reads {S = S} {reader = reader} rules bytes report e =
     let p = place reader bytes in
-    let end = ended_ok (p.number + 1) (reader.ended p.at.0) p.at.1 report (sym p.is ∙ e) in
+    let end = ended_ok (p.number + 1) (reader.ended p.at.0) p.at.1 report (sym p.is ∙ sym (rules.reads bytes) ∙ e) in
     whole rules p.number bytes p.at.0 report (p.last.there ∙ ap (λ (rest : List ℕ). Some (p.at.0, rest)) end.1) end.0
 
-pub fault_that_reads : {L S R : Type 0} {reader : Reader L S R} (rules : Rules reader) (bytes : List ℕ) (number : ℕ)
-    → read_all reader bytes ≡ Err number → FirstFault rules number bytes
+fault_that_reads : {L S R : Type 0} {reader : Reader L S R} (rules : Rules reader) (bytes : List ℕ) (number : ℕ)
+    → rules.read bytes ≡ Err number → IsFirstFault rules.texts number bytes
 fault_that_reads {reader = reader} rules bytes number e =
     let p = place reader bytes in
-    let same = ended_err (p.number + 1) (reader.ended p.at.0) p.at.1 number (sym p.is ∙ e) in
-    subst (λ (k : ℕ). FirstFault rules k bytes) same (first_fault rules p.number bytes p.at p.last)
+    let same = ended_err (p.number + 1) (reader.ended p.at.0) p.at.1 number (sym p.is ∙ sym (rules.reads bytes) ∙ e) in
+    subst (λ (k : ℕ). IsFirstFault rules.texts k bytes) same (first_fault rules p.number bytes p.at p.last)
 
-pub one_fault : {L S R : Type 0} {reader : Reader L S R} (rules : Rules reader) (bytes : List ℕ) (n m : ℕ) → FirstFault rules n bytes → FirstFault rules m bytes → n ≡ m
-one_fault rules bytes n m first second = elim (cases_lt n m) [
+one_fault : {L R : Type 0} (texts : Texts L R) (bytes : List ℕ) (n m : ℕ) → IsFirstFault texts n bytes → IsFirstFault texts m bytes → n ≡ m
+one_fault texts bytes n m first second = elim (cases_lt n m) [
   | inl less ↦ absurd (first.not_here (second.before n less))
   | inr past ↦ elim (cases_lt m n) [
     | inl less ↦ absurd (second.not_here (first.before m less))
@@ -112,37 +117,76 @@ one_fault rules bytes n m first second = elim (cases_lt n m) [
   ]
 ]
 
--- a text with this first fault, which is no report's, reads as that
-pub reads_its_fault : {L S R : Type 0} {reader : Reader L S R} (rules : Rules reader) (bytes : List ℕ) (number : ℕ) → FirstFault rules number bytes
-    → ((report : R) → rules.Is report → bytes ≡ text_of rules.words (rules.lines report) → ⊥) → read_all reader bytes ≡ Err number
-reads_its_fault {R = R} {reader = reader} rules bytes number fault none = by (read_all reader bytes) refl where
-  by : (found : Result R ℕ) → read_all reader bytes ≡ found → read_all reader bytes ≡ Err number
-  by (Ok report) e = let whole = text_that_reads rules bytes report e in absurd (none report whole.0 whole.1)
-  by (Err other) e = e ∙ ap Err (one_fault rules bytes other number (fault_that_reads rules bytes other e) fault)
+pub is_reading : {L S R : Type 0} {reader : Reader L S R} (rules : Rules reader) (bytes : List ℕ) (reading : Result R ℕ)
+    → rules.read bytes ≡ reading → IsReading rules.texts bytes reading
+is_reading rules bytes (Ok report) e = text_that_reads rules bytes report e
+is_reading rules bytes (Err number) e =
+    (fault_that_reads rules bytes number e, λ report is text. let both : Ok report ≡ Err number = sym (read_its_text rules bytes report is text) ∙ e in absurd cc)
+
+pub the_reading : {L S R : Type 0} {reader : Reader L S R} (rules : Rules reader) (bytes : List ℕ) (reading : Result R ℕ)
+    → IsReading rules.texts bytes reading → rules.read bytes ≡ reading
+the_reading rules bytes (Ok report) is = read_its_text rules bytes report is.0 is.1
+the_reading {R = R} rules bytes (Err number) is = by (rules.read bytes) refl where
+  by : (found : Result R ℕ) → rules.read bytes ≡ found → rules.read bytes ≡ Err number
+  by (Ok report) e = let whole = text_that_reads rules bytes report e in absurd (is.1 report whole.0 whole.1)
+  by (Err other) e = e ∙ ap Err (one_fault rules.texts bytes other number (fault_that_reads rules bytes other e) is.0)
 
 -- two reports of one text are one
-pub one_of_text : {L S R : Type 0} {reader : Reader L S R} (rules : Rules reader) (first second : R) → rules.Is first → rules.Is second
-    → text_of rules.words (rules.lines first) ≡ text_of rules.words (rules.lines second) → first ≡ second
+pub one_of_text : {L S R : Type 0} {reader : Reader L S R} (rules : Rules reader) (first second : R) → rules.texts.Is first → rules.texts.Is second
+    → text_of_lines rules.texts.words (rules.texts.lines first) ≡ text_of_lines rules.texts.words (rules.texts.lines second) → first ≡ second
 one_of_text {R = R} rules first second is-first is-second same =
-    let text = text_of rules.words (rules.lines first) in
+    let text = text_of_lines rules.texts.words (rules.texts.lines first) in
     let both : Ok first ≡ Ok second = sym (read_its_text rules text first is-first refl) ∙ read_its_text rules text second is-second same in
     cc
 
 -- ---- what the code's loop gives
 
-pub reads_whole : {L S R : Type 0} (reader : Reader L S R) (bytes : List ℕ) (n : ℕ) (state : S) (report : R) → reader.ended state ≡ Some report
-    → Stands reader bytes n state [] → read_all reader bytes ≡ Ok report
-reads_whole {R = R} reader bytes n state report ends stands =
-    reads_at reader bytes n (state, []) (record { there = stands.there; none = no_more reader state })
-    ∙ ap (λ (o : Option R). ended_at (n + 1) o []) ends
+pub reads_ended : {L S R : Type 0} {reader : Reader L S R} (rules : Rules reader) (bytes : List ℕ) (n : ℕ) (report : R)
+    → Stands reader bytes n (rules.end report) [] → rules.read bytes ≡ Ok report
+reads_ended {R = R} {reader = reader} rules bytes n report stands =
+    rules.reads bytes ∙ reads_at reader bytes n (rules.end report, []) (record { there = stands.there; none = no_more reader (rules.end report) })
+    ∙ ap (λ (o : Option R). ended_at (n + 1) o []) (rules.ended report)
 
-pub reads_short : {L S R : Type 0} (reader : Reader L S R) (bytes : List ℕ) (n number : ℕ) (state : S) → number ≡ n + 1 → Stands reader bytes n state []
-    → reader.ended state ≡ None → read_all reader bytes ≡ Err number
-reads_short reader bytes n number state is stands unended =
-    reads_at reader bytes n (state, []) (record { there = stands.there; none = no_more reader state })
-    ∙ ended_none (n + 1) (reader.ended state) [] unended ∙ ap Err (sym is)
+pub reads_unended : {L S R : Type 0} {reader : Reader L S R} (rules : Rules reader) (bytes : List ℕ) (n number : ℕ) (state : S) → number ≡ n + 1
+    → Stands reader bytes n state [] → ((report : R) → state ≡ rules.end report → ⊥) → rules.read bytes ≡ Err number
+reads_unended {reader = reader} rules bytes n number state is stands other =
+    rules.reads bytes ∙ reads_at reader bytes n (state, []) (record { there = stands.there; none = no_more reader state })
+    ∙ ended_none (n + 1) (reader.ended state) [] (rules.unended state other) ∙ ap Err (sym is)
 
-pub reads_stopped : {L S R : Type 0} (reader : Reader L S R) (bytes : List ℕ) (number : ℕ) → Stops reader bytes number → read_all reader bytes ≡ Err number
-reads_stopped reader bytes number stops =
-    reads_at reader bytes stops.before (stops.state, stops.rest) (record { there = stops.there; none = stops.none })
+pub reads_no_further : {L S R : Type 0} {reader : Reader L S R} (rules : Rules reader) (bytes : List ℕ) (number : ℕ) → Stops reader bytes number → rules.read bytes ≡ Err number
+reads_no_further {reader = reader} rules bytes number stops =
+    rules.reads bytes ∙ reads_at reader bytes stops.before (stops.state, stops.rest) (record { there = stops.there; none = stops.none })
     ∙ ended_left (stops.before + 1) (reader.ended stops.state) stops.rest stops.left ∙ ap Err (sym stops.is)
+
+refused_line : {L S R : Type 0} {reader : Reader L S R} (rules : Rules reader) (bytes : List ℕ) (n : ℕ) (state : S) (rest : List ℕ) (empty : Bool) (refusal : ReportRefusal)
+    → empty ≡ (length rest == 0) → empty ≡ false → Stands reader bytes n state rest → HasNoLine reader.line_of rest (n + 1) refusal → Refuses (rules.read bytes) refusal
+refused_line {reader = reader} rules bytes n state rest empty (Form number) is not_empty stands none =
+    reads_no_further rules bytes number (rw none.0 (stops_at_line reader bytes n state rest empty is not_empty stands (sym none.1)))
+refused_line rules bytes n state rest empty OutOfMemory is not_empty stands none = tt
+
+-- where there is no line, what is handed on
+pub hands_line : {L S R : Type 0} {reader : Reader L S R} (rules : Rules reader) (bytes : List ℕ) (n : ℕ) (state : S) (rest : List ℕ) (empty : Bool) (refusal : ReportRefusal)
+    → empty ≡ (length rest == 0) → empty ≡ false → Stands reader bytes n state rest → HasNoLine reader.line_of rest (n + 1) refusal
+    → (result : Result (S × ℕ) ReportRefusal) → IsErrAnd result (λ handed. handed ≡ refusal) → ReadsLines reader (rules.read bytes) bytes result
+hands_line rules bytes n state rest empty refusal is not_empty stands none (Ok found) handed = absurd handed
+hands_line rules bytes n state rest empty refusal is not_empty stands none (Err error) handed =
+    rw handed (refused_line rules bytes n state rest empty refusal is not_empty stands none)
+
+-- ---- what a call that reads answers
+
+pub reads_found : {L S R : Type 0} {reader : Reader L S R} (rules : Rules reader) (bytes : List ℕ) (result : Result R ReportRefusal)
+    → ReadsText (rules.read bytes) result → IfOk result (λ report. rules.texts.Is report × (bytes ≡ text_of_lines rules.texts.words (rules.texts.lines report)))
+reads_found rules bytes (Ok report) reads = text_that_reads rules bytes report reads
+reads_found rules bytes (Err e) reads = tt
+
+pub reads_only : {L S R : Type 0} {reader : Reader L S R} (rules : Rules reader) (bytes : List ℕ) (result : Result R ReportRefusal) (report : R)
+    → rules.texts.Is report → bytes ≡ text_of_lines rules.texts.words (rules.texts.lines report) → ReadsText (rules.read bytes) result → IsRead report result
+reads_only rules bytes (Ok found) report is text reads = let both : Ok found ≡ Ok report = sym reads ∙ read_its_text rules bytes report is text in cc
+reads_only rules bytes (Err OutOfMemory) report is text reads = tt
+reads_only rules bytes (Err (Form number)) report is text reads = let both : Err number ≡ Ok report = sym reads ∙ read_its_text rules bytes report is text in absurd cc
+
+pub reads_refused : {L S R : Type 0} {reader : Reader L S R} (rules : Rules reader) (bytes : List ℕ) (result : Result R ReportRefusal)
+    → ReadsText (rules.read bytes) result → IfErr result (IsFault rules.texts bytes)
+reads_refused rules bytes (Ok report) reads = tt
+reads_refused rules bytes (Err OutOfMemory) reads = tt
+reads_refused rules bytes (Err (Form number)) reads = fault_that_reads rules bytes number reads

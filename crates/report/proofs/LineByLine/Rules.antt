@@ -1,11 +1,11 @@
 -- What has to be known of the lines of a text and of its reader, so that it is read as what it is.
-use Rattle.std.proofs.Common.{◌≡◌, ℕ, List, [], ◌∷◌, ◌++◌, Option, Some, None, refl, sym, ap, subst, ◌∙◌, append_assoc}
+use Rattle.std.proofs.Common.{◌≡◌, ℕ, List, [], ◌∷◌, ◌++◌, Option, Some, None, Result, refl, sym, ap, subst, ◌∙◌, append_assoc}
 use Rattle.std.specs.Prelude.{All}
-use Rattle.std.specs.List.{flat_map}
 use Rattle.std.proofs.lemmas.List.{append-nil}
 use Rattle.ddc_base.specs.Lines.{line as line_text}
 use Rattle.report.specs.Inside.Cuts.{◌>>=◌, cut_at}
-use Rattle.report.specs.Inside.LineByLine.{Reader, next_line}
+use Rattle.report.specs.Inside.LineByLine.{Reader, next_line, read_all}
+use Rattle.report.specs.Texts.{Texts}
 use Rattle.report.proofs.Cuts.{Without, cut_at-joined, cut_at-takes, bind_some, same_some}
 
 -- ---- a line with its LF
@@ -74,15 +74,15 @@ finished_by so_far report is all = record { report = report; is = is; more = [];
 -- ---- the rules
 
 pub record Rules {L S R : Type 0} (reader : Reader L S R) : Type 1 where
-  -- a line by its words, and which lines are spelled one way
-  pub words : L → List (List ℕ)
+  pub texts : Texts L R
+  -- the function that reads
+  pub read : List ℕ → Result R ℕ
+  pub reads : (bytes : List ℕ) → read bytes ≡ read_all reader bytes
+  -- which lines are spelled one way
   pub IsLine : L → Type 0
-  pub again : (l : L) (rest : List ℕ) → IsLine l → next_line reader.line_of (line_text (words l) ++ rest) ≡ Some (l, rest)
-  pub takes : (bytes : List ℕ) (l : L) (rest : List ℕ) → next_line reader.line_of bytes ≡ Some (l, rest) → IsLine l × (bytes ≡ line_text (words l) ++ rest)
-  -- the lines of a report, and which reports are well formed
-  pub lines : R → List L
-  pub Is : R → Type 0
-  pub fits : (report : R) → Is report → All IsLine (lines report)
+  pub again : (l : L) (rest : List ℕ) → IsLine l → next_line reader.line_of (line_text (texts.words l) ++ rest) ≡ Some (l, rest)
+  pub takes : (bytes : List ℕ) (l : L) (rest : List ℕ) → next_line reader.line_of bytes ≡ Some (l, rest) → IsLine l × (bytes ≡ line_text (texts.words l) ++ rest)
+  pub fits : (report : R) → texts.Is report → All IsLine (texts.lines report)
   -- the lines that a state has taken, and what it keeps
   pub so_far : S → List L
   pub Good : S → Type 0
@@ -90,13 +90,10 @@ pub record Rules {L S R : Type 0} (reader : Reader L S R) : Type 1 where
   pub good_start : Good reader.start
   pub grows : (s : S) (l : L) (t : S) → Good s → reader.step s l ≡ Some t → so_far t ≡ so_far s ++ l ∷ []
   pub keeps : (s : S) (l : L) (t : S) → Good s → IsLine l → reader.step s l ≡ Some t → Good t
-  pub finished : (s : S) → Good s → Finishes Is lines (so_far s)
+  pub finished : (s : S) → Good s → Finishes texts.Is texts.lines (so_far s)
   -- the state at a report's end
   pub end : R → S
   pub ended : (report : R) → reader.ended (end report) ≡ Some report
-  pub runs_to_end : (report : R) → Is report → runs reader.step reader.start (lines report) ≡ Some (end report)
-  pub whole : (s : S) (report : R) → Good s → reader.ended s ≡ Some report → Is report × (so_far s ≡ lines report)
-
--- the text of lines
-abbrev pub text_of : {L : Type 0} → (L → List (List ℕ)) → List L → List ℕ
-text_of words lines = flat_map (λ l. line_text (words l)) lines
+  pub runs_to_end : (report : R) → texts.Is report → runs reader.step reader.start (texts.lines report) ≡ Some (end report)
+  pub whole : (s : S) (report : R) → Good s → reader.ended s ≡ Some report → texts.Is report × (so_far s ≡ texts.lines report)
+  pub unended : (s : S) → ((report : R) → s ≡ end report → ⊥) → reader.ended s ≡ None

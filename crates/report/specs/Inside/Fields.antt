@@ -4,7 +4,8 @@ use Rattle.std.specs.List.{list_all}
 use Rattle.std.specs.Result.{result_ok}
 use Rattle.hex.specs.Hex.{decode_of}
 use Rattle.ddc_base.specs.Decimals.{as_decimal}
-use Rattle.ddc_base.specs.Inside.HexTests.{is_lower_digit, is_lower_hex}
+use Rattle.ddc_base.specs.HexTexts.{is_lower_digit}
+use Rattle.ddc_base.specs.Inside.HexTests.{is_lower_hex}
 use Rattle.ddc_base.specs.declared.digests.Digest.{Digest}
 use Rattle.report.specs.declared.types.LeftLine.{LeftLine}
 use Rattle.report.specs.declared.types.Mark.{Mark}

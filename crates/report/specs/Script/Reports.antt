@@ -1,13 +1,12 @@
 -- A script's report: which are well formed, their one text, and where a text is none. Its digests are those of SHA-256 (FIPS 180-4).
 -- docs/reference/kaem-report.md says the same for people.
-use Rattle.std.specs.Prelude.{◌≡◌, ◌≢◌, ◌<◌, ◌≤◌, ◌^◌, ℕ, All, List, [], ◌∷◌, ◌++◌, length, take, map, Result, Ok, Err, IsTrue}
+use Rattle.std.specs.Prelude.{◌≤◌, ◌^◌, ℕ, All, List, [], ◌∷◌, ◌++◌, length, map, IsTrue}
 use Rattle.std.specs.List.{flat_map}
 use Rattle.report.specs.Reports.{IsCount, IsDigest, IsLeft, IsMark, ascend}
-use Rattle.report.specs.Script.Lines.{script_lines_text}
+use Rattle.report.specs.Script.Lines.{script_line_words, script_lines_text}
+use Rattle.report.specs.Texts.{Texts}
 use Rattle.report.specs.declared.script.line.ScriptLine.{ScriptLine}
 use Rattle.report.specs.declared.script.line.ScriptLine.TheVariants.{Header, Script, File, Command, Stream1, Stream2, Left, End}
-use Rattle.report.specs.declared.script.refusal.ScriptReportRefusal.{ScriptReportRefusal}
-use Rattle.report.specs.declared.script.refusal.ScriptReportRefusal.TheVariants.{Form, OutOfMemory}
 use Rattle.report.specs.declared.script.types.CommandLine.{CommandLine}
 use Rattle.report.specs.declared.script.types.ScriptReport.{ScriptReport}
 
@@ -42,34 +41,6 @@ pub record IsScriptReport (report : ScriptReport) : Type 0 where
   pub each_left : All IsLeft report.left
   pub ascending : IsTrue (ascend report.left)
 
--- ---- reading
-
--- the first n lines of a text, each with its LF, begin the text of some report
-pub record BeginsScriptReport (n : ℕ) (bytes : List ℕ) : Type 0 where
-  pub report : ScriptReport
-  pub is : IsScriptReport report
-  pub within : n ≤ length (script_report_lines report)
-  pub rest : List ℕ
-  pub text : bytes ≡ script_lines_text (take n (script_report_lines report)) ++ rest
-
--- the least number of lines that begin no report
-pub record IsFirstScriptFault (number : ℕ) (bytes : List ℕ) : Type 0 where
-  pub not_here : ¬ (BeginsScriptReport number bytes)
-  pub before : (m : ℕ) → m < number → BeginsScriptReport m bytes
-
--- the one reading of a text: the report whose text it is; or, where it is none's, the least number of lines that begin no report
-abbrev pub IsScriptReading : List ℕ → Result ScriptReport ℕ → Type 0
-IsScriptReading bytes (Ok report) = IsScriptReport report × (bytes ≡ script_report_text report)
-IsScriptReading bytes (Err number) =
-    IsFirstScriptFault number bytes × ((report : ScriptReport) → IsScriptReport report → bytes ≢ script_report_text report)
-
--- what reading the text of this report may answer
-abbrev pub IsScriptRead : ScriptReport → Result ScriptReport ScriptReportRefusal → Type 0
-IsScriptRead report (Ok found) = found ≡ report
-IsScriptRead report (Err OutOfMemory) = Unit {0}
-IsScriptRead report (Err (Form number)) = ⊥
-
--- when a refusal comes
-abbrev pub IsScriptFault : List ℕ → ScriptReportRefusal → Type 0
-IsScriptFault bytes (Form number) = IsFirstScriptFault number bytes
-IsScriptFault bytes OutOfMemory = Unit {0}
+-- the texts of scripts' reports
+abbrev pub script_report_texts : Texts ScriptLine ScriptReport
+script_report_texts = record { Is = IsScriptReport; lines = script_report_lines; words = script_line_words }

@@ -2,7 +2,8 @@
 
 ghost use Rattle.std.specs.Prelude.{◌≡◌, ◌<◌, ◌↔◌, ℕ, List, Result, Ok, length};
 ghost use Rattle.report.specs.Script.Reading.{script_report_of};
-ghost use Rattle.report.specs.Script.Reports.{IsScriptReading, IsScriptReport, script_report_text};
+ghost use Rattle.report.specs.Script.Reports.{IsScriptReport, script_report_text, script_report_texts};
+ghost use Rattle.report.specs.Texts.{IsReading};
 ghost use Rattle.report.specs.declared.script.types.ScriptReport.{ScriptReport as ReportValue};
 
 /// Two well-formed reports with equal texts are equal.
@@ -17,7 +18,7 @@ pub fn short_text()
 
 /// What a text reads as is its one reading: the report whose text it is, or else its first fault.
 pub fn one_reading()
-    ensures { (bytes : List ℕ) (reading : Result ReportValue ℕ) → (script_report_of bytes ≡ reading) ↔ IsScriptReading bytes reading }
+    ensures { (bytes : List ℕ) (reading : Result ReportValue ℕ) → (script_report_of bytes ≡ reading) ↔ IsReading script_report_texts bytes reading }
 {}
 
 /// The text of a well-formed report reads as that report.

@@ -3,14 +3,16 @@
 ghost use Rattle.std.specs.Prelude.{◌≡◌, ◌<◌, length, IfOk, IfErr, Some};
 ghost use Rattle.report.specs.Inside.LineByLine.{next_line};
 ghost use Rattle.report.specs.Inside.Script.Lines.{line_of};
-ghost use Rattle.report.specs.Inside.Script.Loops.{HasNoLine, ReadsLines};
-ghost use Rattle.report.specs.Script.Reading.{script_report_of, ReadsScriptReport};
-ghost use Rattle.report.specs.Script.Reports.{IsScriptReport, script_report_text, IsScriptRead, IsScriptFault};
+ghost use Rattle.report.specs.Inside.Loops.{HasNoLine, ReadsLines};
+ghost use Rattle.report.specs.Script.Reading.{script_report_of};
+ghost use Rattle.report.specs.Texts.{IsFault, IsRead, ReadsText};
+ghost use Rattle.report.specs.Inside.Script.Reading.{script_reader};
+ghost use Rattle.report.specs.Script.Reports.{IsScriptReport, script_report_text, script_report_texts};
 ghost use Rattle.report.specs.declared.script.types.ScriptReport.{ScriptReport as ReportValue};
 
 use crate::fields::cut_at;
+use crate::refusal::ReportRefusal;
 use crate::script::line::{ScriptLine, line_of};
-use crate::script::refusal::ScriptReportRefusal;
 use crate::script::state::ScriptState;
 use crate::script::types::ScriptReport;
 use std::alloc::Global;
@@ -19,28 +21,28 @@ use std::alloc::Global;
 ///
 /// Every other text is refused with the least number of lines that begin no report: a line that is not there, or that lacks its LF, begins
 /// none, and so does what follows the last line. The time is that of the bytes' number, and what is copied is what the report keeps.
-pub fn read(alloc: Global, bytes: &[u8]) -> Result<ScriptReport, ScriptReportRefusal>
+pub fn read(alloc: Global, bytes: &[u8]) -> Result<ScriptReport, ReportRefusal>
     ensures found { IfOk result (λ report. IsScriptReport report × (bytes.now ≡ script_report_text report)) }
-    ensures only { (report : ReportValue) → IsScriptReport report → bytes.now ≡ script_report_text report → IsScriptRead report result }
-    ensures refused { IfErr result (IsScriptFault bytes.now) }
-    ensures value { ReadsScriptReport (script_report_of bytes.now) result }
+    ensures only { (report : ReportValue) → IsScriptReport report → bytes.now ≡ script_report_text report → IsRead report result }
+    ensures refused { IfErr result (IsFault script_report_texts bytes.now) }
+    ensures value { ReadsText (script_report_of bytes.now) result }
 {
     read_report(alloc, bytes)
 }
 
-fn read_report(alloc: Global, bytes: &[u8]) -> Result<ScriptReport, ScriptReportRefusal>
-    ensures { ReadsScriptReport (script_report_of bytes.now) result }
+fn read_report(alloc: Global, bytes: &[u8]) -> Result<ScriptReport, ReportRefusal>
+    ensures { ReadsText (script_report_of bytes.now) result }
 {
     let (state, number) = read_lines(alloc, bytes)?;
     match state {
         ScriptState::Ended(report) => Ok(report),
-        _ => Err(ScriptReportRefusal::Form(number)),
+        _ => Err(ReportRefusal::Form(number)),
     }
 }
 
 /// How far the bytes' lines lead, and the number of the line after them.
-fn read_lines(alloc: Global, bytes: &[u8]) -> Result<(ScriptState, u64), ScriptReportRefusal>
-    ensures { ReadsLines bytes.now result }
+fn read_lines(alloc: Global, bytes: &[u8]) -> Result<(ScriptState, u64), ReportRefusal>
+    ensures { ReadsLines script_reader (script_report_of bytes.now) bytes.now result }
 {
     let mut state = ScriptState::Start;
     let mut rest = bytes;
@@ -48,7 +50,7 @@ fn read_lines(alloc: Global, bytes: &[u8]) -> Result<(ScriptState, u64), ScriptR
     while !rest.is_empty() {
         let (line, after) = next_line(alloc, rest, number + 1)?;
         let Some(next) = state.after(alloc, line)? else {
-            return Err(ScriptReportRefusal::Form(number + 1));
+            return Err(ReportRefusal::Form(number + 1));
         };
         state = next;
         rest = after;
@@ -59,20 +61,16 @@ fn read_lines(alloc: Global, bytes: &[u8]) -> Result<(ScriptState, u64), ScriptR
 
 /// The line at the front of some bytes, which is that of a number, and what follows its LF.
 #[tactic(auto, unfolding(crate::specs::Inside::LineByLine::next_line))]
-fn next_line(
-    alloc: Global,
-    bytes: &[u8],
-    number: u64,
-) -> Result<(ScriptLine, &[u8]), ScriptReportRefusal>
+fn next_line(alloc: Global, bytes: &[u8], number: u64) -> Result<(ScriptLine, &[u8]), ReportRefusal>
     ensures value { IfOk result (λ next. Some (next.0, next.1.now) ≡ next_line line_of bytes.now) }
     ensures shorter { IfOk result (λ next. length next.1.now < length bytes.now) }
-    ensures refused { IfErr result (HasNoLine bytes.now number) }
+    ensures refused { IfErr result (HasNoLine line_of bytes.now number) }
 {
     let Some((text, rest)) = cut_at(b'\n', bytes) else {
-        return Err(ScriptReportRefusal::Form(number));
+        return Err(ReportRefusal::Form(number));
     };
     match line_of(alloc, text)? {
         Some(line) => Ok((line, rest)),
-        None => Err(ScriptReportRefusal::Form(number)),
+        None => Err(ReportRefusal::Form(number)),
     }
 }

@@ -28,6 +28,6 @@ pub fn verify<M: Meaning>(
     ensures shown { Shows M.prescribes M.compiles recipe.now inputs.now report.now.compare result }
 {
     a_true_report_shows::<M>();
-    let _digest = recipe.digest();
+    recipe.show_rules();
     crate::verify(alloc, recipe, inputs, report)
 }

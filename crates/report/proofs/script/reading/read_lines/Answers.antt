@@ -1,6 +1,7 @@
 use Rattle.std.proofs.Common.{arith}
 use Rattle.report.specs.Inside.Script.Reading.{script_reader}
-use Rattle.report.proofs.ScriptLemmas.Readings.{hands_refusal, reads_no_further, refused_line}
+use Rattle.report.proofs.LineByLine.Readings.{hands_line, reads_no_further}
+use Rattle.report.proofs.ScriptLemmas.Readings.{script_rules}
 use Rattle.report.proofs.LineByLine.Turns.{stands_first, stands_more, stops_at_step}
 use Rattle.report.proofs.script.reading.read_lines.Goals as goal
 
@@ -16,12 +17,11 @@ loop-rest-preserved c = record {
 
 pub returns-in_default : goal.returns-in_default
 returns-in_default c =
-    reads_no_further _ _ (stops_at_step script_reader c.args.bytes.now c.loop-rest.number c.loop-rest.state c.loop-rest.rest.now c.is_empty.result c.in_ok-line.line c.in_ok-line.after.now c.in_ok-next.field-0
+    reads_no_further script_rules _ _ (stops_at_step script_reader c.args.bytes.now c.loop-rest.number c.loop-rest.state c.loop-rest.rest.now c.is_empty.result c.in_ok-line.line c.in_ok-line.after.now c.in_ok-next.field-0
     c.is_empty.ensures c.loop-rest-test.true c.loop-rest.invariant.stands c.in_ok-line.ensures.value
     c.in_ok-next.ensures c.in_default.not-Some)
 
 pub returns-in_err-line : goal.returns-in_err-line
 returns-in_err-line c =
-    hands_refusal c.args.bytes.now _ _ c.from_residual.ensures.1
-    (refused_line c.args.bytes.now c.loop-rest.number c.loop-rest.state c.loop-rest.rest.now c.is_empty.result _ c.is_empty.ensures c.loop-rest-test.true
-    c.loop-rest.invariant.stands c.in_err-line.ensures.refused)
+    hands_line script_rules c.args.bytes.now c.loop-rest.number c.loop-rest.state c.loop-rest.rest.now c.is_empty.result _ c.is_empty.ensures c.loop-rest-test.true
+    c.loop-rest.invariant.stands c.in_err-line.ensures.refused _ c.from_residual.ensures.1

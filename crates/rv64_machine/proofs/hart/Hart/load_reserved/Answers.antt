@@ -5,6 +5,6 @@ use Rattle.rv64_machine.proofs.hart.Hart.load_reserved.Goals as goal
 
 pub set_reservation-requires : goal.set_reservation-requires
 set_reservation-requires g c =
-    let placed = found-placed c.args.self.now.memory c.args.at (count_of c.args.width) c.in-Some.value (sym c.in-Some.ensures.value) c.pc-pc.ensures.hart.whole
+    let placed = found-placed c.args.self.now.memory c.args.at (count_of c.args.width) c.in-Some.value (sym c.in-Some.ensures.value) c.show_rules.ensures.hart.whole
     (wide-some c.args.width c.requires.wide) in
     (c.requires.wide, placed.0, placed.1)

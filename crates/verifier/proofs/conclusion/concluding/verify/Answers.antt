@@ -6,4 +6,4 @@ pub returns-clause-shown : goal.returns-clause-shown
 returns-clause-shown g c =
     by-verdict g.M.Meaning.prescribes g.M.Meaning.compiles c.args.recipe.now c.args.inputs.now
     (first_fault c.args.recipe.now c.args.inputs.now c.args.report.now) c.args.report.now.compare c.verify.result c.verify.ensures.value
-    (c.a_true_report_shows.ensures c.args.recipe.now c.args.inputs.now c.args.report.now c.digest-digest.ensures.kept c.requires)
+    (c.a_true_report_shows.ensures c.args.recipe.now c.args.inputs.now c.args.report.now c.show_rules.ensures c.requires)

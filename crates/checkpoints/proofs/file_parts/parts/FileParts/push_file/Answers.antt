@@ -13,4 +13,4 @@ invariant_of-self-2 c =
     let view : FileView = record { number = c.args.number; name = c.args.name; content = c.args.content } in
     let low = subst (λ (lists : FileLists). All (λ file. file.number < c.args.number) lists.files) (sym c.self.view_is) c.requires in
     subst (λ (files : List ListedFile). AreParts (record lists { files = files })) (sym (ap (map listed) c.in_ok-push.ensures.items ∙ map-append listed c.self.inside.files.items (view ∷ [])))
-    (file_pushed (listed view) lists c.self.invariant low (record { name = c.told_name.ensures; content = All-from_get_or (λ byte. byte < 256) c.args.content.now 0 (λ i less. omega (arith, c.type_inv.content i)) }))
+    (file_pushed (listed view) lists c.self.invariant low (record { name = c.show_name_bytes.ensures; content = All-from_get_or (λ byte. byte < 256) c.args.content.now 0 (λ i less. omega (arith, c.type_inv.content i)) }))
