@@ -17,7 +17,7 @@ is_load file header = p_type file header == 1 && not (p_memsz file header == 0)
 -- the segment that the program header at `header` describes
 abbrev pub segment_at : List ℕ → ℕ → Segment
 segment_at file header = record {
-  at = p_vaddr file header;
+  address = p_vaddr file header;
   offset = p_offset file header;
   file_size = p_filesz file header;
   memory_size = p_memsz file header;

@@ -6,7 +6,7 @@ use std::alloc::{AllocError, Global};
 use std::test::Fail;
 
 const SEGMENT: Segment = Segment {
-    at: 0x10000,
+    address: 0x10000,
     offset: 0,
     file_size: 132,
     memory_size: 132,
