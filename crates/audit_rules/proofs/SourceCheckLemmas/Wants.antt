@@ -18,7 +18,7 @@ use Rattle.hex_langs.specs.Items.Reading.{Ending, NoToken, Faulted, Faulty, Form
 use Rattle.hex_langs.specs.Items.Words.{Step, byte_in, field_in, reference_in, taken}
 use Rattle.hex_langs.specs.declared.link.number.Miss.{Miss}
 use Rattle.hex_langs.specs.declared.link.number.Miss.TheVariants.{NoLabel, OutOfReach}
-use Rattle.hex_langs.specs.Link.Link.{Labels, address_of, after, bytes_from, first_repeat, item_bytes, link_of, onto, size_at, unless_repeat}
+use Rattle.hex_langs.specs.Link.Link.{Labels, address_of, appended, bytes_from, first_repeat, item_bytes, link_of, onto, size_at, unless_repeat}
 use Rattle.hex_langs.specs.Link.Values.{linked}
 use Rattle.m1_lang.specs.declared.words.meaning.WordFault.{WordFault}
 use Rattle.m1_lang.specs.declared.words.meaning.WordFault.TheVariants as word
@@ -113,7 +113,7 @@ onto-not front (Ok bytes) fine = tt
 onto-not front (Err hex.OutOfMemory) fine = fine
 onto-not front (Err _) fine = tt
 
-put-not : (r : Result (List ℕ) Miss) (index : ℕ) (later : Result (List ℕ) HexRefusal) → NotHex later → NotHex (after r index later)
+put-not : (r : Result (List ℕ) Miss) (index : ℕ) (later : Result (List ℕ) HexRefusal) → NotHex later → NotHex (appended r index later)
 put-not (Ok bytes) index later fine = onto-not bytes later fine
 put-not (Err NoLabel) index later fine = tt
 put-not (Err OutOfReach) index later fine = tt

@@ -5,5 +5,5 @@ use Rattle.save_format.proofs.byte_fields.item.items.Given as goal
 
 abbrev pub invariant-loop : goal.invariant-loop
 invariant-loop g l =
-    with_front (map g.T.Item.seen l.items.items) (several g.T.Item.read_from g.T.Item.next_least l.least (l.count - l.counter) l.cursor)
-    ≡ several g.T.Item.read_from g.T.Item.next_least 0 l.count l.fn.cursor
+    with_front (map g.T.TextItem.seen l.items.items) (several g.T.TextItem.read_from g.T.TextItem.next_least l.least (l.count - l.counter) l.cursor)
+    ≡ several g.T.TextItem.read_from g.T.TextItem.next_least 0 l.count l.fn.cursor

@@ -5,4 +5,4 @@ use Rattle.save_format.proofs.byte_fields.item.pass_counted.Given as goal
 
 abbrev pub invariant-loop : goal.invariant-loop
 invariant-loop g l =
-    Went g.T.Item.read_from g.T.Item.next_least l.least (l.count - l.counter) l.cursor (counted g.T.Item.read_from g.T.Item.next_least 0 l.fn.cursor)
+    Went g.T.TextItem.read_from g.T.TextItem.next_least l.least (l.count - l.counter) l.cursor (counted g.T.TextItem.read_from g.T.TextItem.next_least 0 l.fn.cursor)
