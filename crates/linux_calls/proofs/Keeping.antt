@@ -4,18 +4,21 @@ use Rattle.std.specs.Prelude.{nat_lt, slice_index}
 use Rattle.std.specs.FinMap.{get}
 use Rattle.std.proofs.lemmas.Bool.{cases_lt}
 use Rattle.std.proofs.lemmas.Bool.Decides.{nat_tests}
-use Rattle.paged_mem.specs.Memory.{Memory, bytes_at, maps, with_bytes, without, zeros, page_up}
+use Rattle.ddc_base.specs.Results.{◌>>=◌}
+use Rattle.ddc_base.proofs.Results.{Yields, bound, tested}
+use Rattle.ddc_base.proofs.Results.{chosen as either}
+use Rattle.paged_mem.specs.Memory.{Memory, maps, with_bytes, without, zeros, page_up}
 use Rattle.paged_mem.specs.Inside.Wholeness.{get-with_bytes_below, get-with_bytes_above}
 use Rattle.paged_mem.proofs.Mapped.{length-zeros}
 use Rattle.paged_mem.proofs.Maps.{get-without_other}
 use Rattle.mem_files.specs.World.{World}
-use Rattle.mem_files.specs.Calls.{write_place, ready}
+use Rattle.mem_files.specs.Calls.{ready}
 use Rattle.linux_calls.specs.declared.Heap.{Heap}
 use Rattle.linux_calls.specs.HeapOf.{is_apart_from_heap, is_outside, IsHeapOf, resized}
-use Rattle.linux_calls.specs.Calls.{CallOutcome, CallState, read_at, moved_break, syscall, written_at, written_from}
+use Rattle.linux_calls.specs.Calls.{CallOutcome, CallState, answered, moved_break, read_at, syscall}
 use Rattle.linux_calls.specs.Calls as call
 use Rattle.linux_calls.specs.Paths.{low}
-use Rattle.linux_calls.specs.Linux.{sys_unlinkat, sys_faccessat, sys_fchmodat, sys_openat, sys_close, sys_lseek, sys_read, sys_write, sys_exit, sys_exit_group, sys_brk}
+use Rattle.linux_calls.specs.Linux.{efault, sys_unlinkat, sys_faccessat, sys_fchmodat, sys_openat, sys_close, sys_lseek, sys_read, sys_write, sys_exit, sys_exit_group, sys_brk}
 use Rattle.paged_mem.proofs.Wholes.{same_after_write}
 use Rattle.linux_calls.proofs.Heaps.{IsHeapOf-same, kept_resized}
 
@@ -40,10 +43,6 @@ chosen : (s : CallState) (b : Bool) (x y : CallOutcome) → Kept s x → Kept s 
 chosen s true x y kx ky = kx
 chosen s false x y kx ky = ky
 
-chosen_by : (s : CallState) (b : Bool) (x y : CallOutcome) → (b ≡ true → Kept s x) → (b ≡ false → Kept s y) → Kept s (cond b x y)
-chosen_by s true x y kx ky = kx refl
-chosen_by s false x y kx ky = ky refl
-
 -- other files
 files_alone : (s : CallState) (files : World) (answer : Result ℕ ℕ) → IsHeapOf s.memory s.heap → Kept s (call.goes answer (record s { files = files }))
 files_alone s files answer is = record { is = record { first = refl; limit = refl; heap_of = is; clear = λ q apart. refl } }
@@ -52,11 +51,16 @@ nothing : (s : CallState) (answer : Result ℕ ℕ) → IsHeapOf s.memory s.heap
 nothing s answer is = record { is = record { first = refl; limit = refl; heap_of = is; clear = λ q apart. refl } }
 
 -- read moves bytes to where bytes are
-read_keeps : (s : CallState) (fd buffer : ℕ) (given : Result (List ℕ) ℕ) → IsHeapOf s.memory s.heap → Kept s (read_at s fd buffer given)
-read_keeps s fd buffer (Err errno) is = nothing s _ is
-read_keeps s fd buffer (Ok bytes) is =
-    chosen s (length bytes == 0) _ _ (nothing s _ is)
-    (chosen_by s (maps s.memory buffer (length bytes)) _ _
+answered_keeps : (s : CallState) (reading : Result (ℕ × CallState) ℕ) → IsHeapOf s.memory s.heap → Yields (λ done. Keeps s done.1) reading → Kept s (answered s reading)
+answered_keeps s (Ok done) is keeps = record { is = keeps.is }
+answered_keeps s (Err errno) is keeps = nothing s _ is
+
+read_keeps : (s : CallState) (fd buffer count : ℕ) → IsHeapOf s.memory s.heap → Kept s (answered s (read_at s fd buffer count))
+read_keeps s fd buffer count is =
+    answered_keeps s _ is
+    (bound (ready s.files fd count) _ (λ bytes given.
+    either (length bytes == 0) _ _ (λ none. record { is = record { first = refl; limit = refl; heap_of = is; clear = λ q apart. refl } })
+    (tested efault (maps s.memory buffer (length bytes)) _
     (λ there. record {
       is = record {
         first = refl;
@@ -64,17 +68,7 @@ read_keeps s fd buffer (Ok bytes) is =
         heap_of = IsHeapOf-same s.memory (with_bytes s.memory buffer bytes) s.heap (same_after_write s.memory buffer bytes there) is;
         clear = λ q apart. same_after_write s.memory buffer bytes there q;
       };
-    })
-    (λ gone. nothing s _ is))
-
-write_keeps_from : (s : CallState) (fd : ℕ) (bytes : Option (List ℕ)) → IsHeapOf s.memory s.heap → Kept s (written_from s fd bytes)
-write_keeps_from s fd None is = nothing s _ is
-write_keeps_from s fd (Some bytes) is = files_alone s _ _ is
-
-write_keeps : (s : CallState) (fd buffer count : ℕ) (place : Option (ℕ × ℕ)) → IsHeapOf s.memory s.heap → Kept s (written_at s fd buffer count place)
-write_keeps s fd buffer count None is = nothing s _ is
-write_keeps s fd buffer count (Some place) is =
-    chosen s (count == 0) _ _ (nothing s _ is) (write_keeps_from s fd (bytes_at s.memory buffer count) is)
+    }))))
 
 -- brk moves the end of the heap's pages within what it may have
 pub inside : (heap : Heap) (to : ℕ) → is_outside heap to ≡ false → (heap.first ≤ to) × (to ≤ heap.first + heap.limit)
@@ -141,8 +135,8 @@ kept number a s is =
     (chosen s (number == sys_openat) _ _ (files_alone s _ _ is)
     (chosen s (number == sys_close) _ _ (files_alone s _ _ is)
     (chosen s (number == sys_lseek) _ _ (files_alone s _ _ is)
-    (chosen s (number == sys_read) _ _ (read_keeps s (low (slice_index a 0)) (slice_index a 1) (ready s.files (low (slice_index a 0)) (slice_index a 2)) is)
-    (chosen s (number == sys_write) _ _ (write_keeps s (low (slice_index a 0)) (slice_index a 1) (slice_index a 2) (write_place s.files (get s.files.open_files (low (slice_index a 0)))) is)
+    (chosen s (number == sys_read) _ _ (read_keeps s (low (slice_index a 0)) (slice_index a 1) (slice_index a 2) is)
+    (chosen s (number == sys_write) _ _ (files_alone s _ _ is)
     (chosen s (number == sys_exit) _ _ (ends_run s (slice_index a 0 % 256))
     (chosen s (number == sys_exit_group) _ _ (ends_run s (slice_index a 0 % 256))
     (chosen s (number == sys_brk) _ _ (break_keeps s (slice_index a 0) is) (is_none s number)))))))))))

@@ -5,6 +5,9 @@ use Rattle.std.specs.Int.{cast_signed, w64}
 use Rattle.std.specs.FinMap.{contains_key, get, len}
 use Rattle.std.proofs.lemmas.Bool.Decides.{nat_tests}
 use Rattle.std.proofs.lemmas.List.{length-take, length-drop}
+use Rattle.ddc_base.specs.Results.{◌>>=◌}
+use Rattle.ddc_base.proofs.Results.{Yields, bound, found, tested}
+use Rattle.ddc_base.proofs.Results.{chosen as either}
 use Rattle.paged_mem.specs.Memory.{Memory, IsWhole, bytes_at, maps}
 use Rattle.paged_mem.proofs.Maps.{get_in_bytes_at, length_of_bytes_at}
 use Rattle.mem_files.specs.declared.open_file.Access.{Access}
@@ -19,10 +22,10 @@ use Rattle.mem_files.specs.Sound.{IsSound}
 use Rattle.mem_files.proofs.KeepingCalls.{content_small}
 use Rattle.mem_files.proofs.Maps.{lowest_unused-le-len}
 use Rattle.mem_files.proofs.Rules.{kept_of}
-use Rattle.linux_calls.specs.Linux.{sys_unlinkat, sys_faccessat, sys_fchmodat, sys_openat, sys_close, sys_lseek, sys_read, sys_write, sys_exit, sys_exit_group, sys_brk}
+use Rattle.linux_calls.specs.Linux.{efault, sys_unlinkat, sys_faccessat, sys_fchmodat, sys_openat, sys_close, sys_lseek, sys_read, sys_write, sys_exit, sys_exit_group, sys_brk}
 use Rattle.linux_calls.specs.Paths.{in_directory, low, name_at, name_in_directory}
 use Rattle.linux_calls.specs.HeapOf.{IsHeapOf, is_outside}
-use Rattle.linux_calls.specs.Calls.{CallState, CallOutcome, is_unknown, answer_of, answering, back, accessed, mode_changed, unlinked, opened_in, opened_as, read_at, written_from, written_at, moved_break, syscall}
+use Rattle.linux_calls.specs.Calls.{CallState, CallOutcome, is_unknown, accessed, answer_of, answered, answering, back, mode_changed, moved_break, opened_as, or_left, read_at, syscall, unlinked, written_at}
 use Rattle.linux_calls.specs.Rules.{IsState, LeavesNumber}
 use Rattle.linux_calls.proofs.Keeping.{inside}
 
@@ -36,10 +39,6 @@ record Value (r : Result ℕ ℕ) : Type 0 where
 chosen : (b : Bool) (x y : CallOutcome) → Small x → Small y → Small (cond b x y)
 chosen true x y p q = p
 chosen false x y p q = q
-
-either : (b : Bool) (x y : Result ℕ ℕ) → Value x → Value y → Value (cond b x y)
-either true x y p q = p
-either false x y p q = q
 
 either_pair : (b : Bool) (x y : Result ℕ ℕ × World) → Value x.0 → Value y.0 → Value (cond b x y).0
 either_pair true x y p q = p
@@ -58,17 +57,30 @@ answering-small : {A : Type 0} (value : ℕ) (r : Result A ℕ) (files : World) 
 answering-small value (Ok done) files small = a_value value small
 answering-small value (Err errno) files small = an_error errno
 
-unlinked-small : (w : World) (flags : ℕ) (r : Result (List ℕ) ℕ) → Value (unlinked w flags r).0
-unlinked-small w flags (Err errno) = an_error errno
-unlinked-small w flags (Ok name) = either_pair (low flags == 0) _ _ (answering-small 0 (removed w name).0 (removed w name).1 (omega arith)) (an_error einval)
+left-small : (w : World) (reading : Result (Result ℕ ℕ × World) ℕ) → Yields (λ meant. Value meant.0) reading → Value (or_left w reading).0
+left-small w (Ok meant) small = small.is
+left-small w (Err errno) small = an_error errno
 
-accessed-small : (w : World) (mode : ℕ) (r : Result (List ℕ) ℕ) → Value (accessed w mode r)
-accessed-small w mode (Err errno) = an_error errno
-accessed-small w mode (Ok name) = either (nat_lt 7 (low mode)) _ _ (an_error einval) (either (contains_key w.names name) _ _ (a_value 0 (omega arith)) (an_error enoent))
+read-value : (reading : Result ℕ ℕ) → Yields (λ value. value < 2 ^ 64) reading → Value reading
+read-value (Ok value) small = a_value value small.is
+read-value (Err errno) small = an_error errno
 
-mode-small : (w : World) (r : Result (List ℕ) ℕ) → Value (mode_changed w r)
-mode-small w (Err errno) = an_error errno
-mode-small w (Ok name) = either (contains_key w.names name) _ _ (a_value 0 (omega arith)) (an_error enoent)
+zero-small : Yields {E = ℕ} (λ value. value < 2 ^ 64) (Ok 0)
+zero-small = record { is = omega arith }
+
+unlinked-small : (m : Memory) (w : World) (directory path flags : ℕ) → Value (unlinked m w directory path flags).0
+unlinked-small m w directory path flags =
+    left-small w _ (bound (name_in_directory m w directory path) _ (λ name is.
+    tested einval (low flags == 0) _ (λ allowed. record { is = answering-small 0 (removed w name).0 (removed w name).1 (omega arith) })))
+
+accessed-small : (m : Memory) (w : World) (directory path mode : ℕ) → Value (accessed m w directory path mode)
+accessed-small m w directory path mode =
+    read-value _ (bound (name_in_directory m w directory path) _ (λ name is.
+    tested einval (nat_le (low mode) 7) _ (λ allowed. tested enoent (contains_key w.names name) _ (λ there. zero-small))))
+
+mode-small : (m : Memory) (w : World) (directory path : ℕ) → Value (mode_changed m w directory path)
+mode-small m w directory path =
+    read-value _ (bound (name_in_directory m w directory path) _ (λ name is. tested enoent (contains_key w.names name) _ (λ there. zero-small)))
 
 descriptor-small : (w v : World) (number flags : ℕ) → IsSound w → len v.open_files ≡ len w.open_files → Value (with_descriptor v number flags).0
 descriptor-small w v number flags sound same = a_value (lowest_unused v.open_files) (omega (arith, lowest_unused-le-len v.open_files, sound.within.few_open_files))
@@ -90,13 +102,11 @@ opened-small w name flags sound =
         either_pair (not (has flags o_creat)) _ _ (an_error enoent)
         (either_pair (nat_le most_names (len w.names)) _ _ (an_error enospc) (descriptor-small w (with_file w name []) (lowest_unused w.files) flags sound refl))
 
-opened-as-small : (w : World) (dir flags : ℕ) (r : Result (List ℕ) ℕ) → IsSound w → Value (opened_as w dir flags r).0
-opened-as-small w dir flags (Err errno) sound = an_error errno
-opened-as-small w dir flags (Ok name) sound = either_pair (bit_and (low flags) o_accmode == o_accmode) _ _ (an_error einval) (inside_of (in_directory w dir name))
-  where
-    inside_of : (r : Result (List ℕ) ℕ) → Value (opened_in w flags r).0
-    inside_of (Err errno) = an_error errno
-    inside_of (Ok other) = opened-small w other (low flags) sound
+opened-as-small : (m : Memory) (w : World) (directory path flags : ℕ) → IsSound w → Value (opened_as m w directory path flags).0
+opened-as-small m w directory path flags sound =
+    left-small w _ (bound (name_at m path) _ (λ name is.
+    tested einval (not (bit_and (low flags) o_accmode == o_accmode)) _ (λ allowed.
+    bound (in_directory w directory name) _ (λ here same. record { is = opened-small w here (low flags) sound }))))
 
 sought-small : (w : World) (fd : ℕ) (offset : ℤ) (whence : ℕ) → Value (sought w fd offset whence).0
 sought-small w fd offset whence = at_open_file (get w.open_files fd)
@@ -141,11 +151,15 @@ ready-small w fd count bytes sound e = at_open_file (get w.open_files fd) e
     at_open_file (Some Stream2) e = cc
     at_open_file (Some (File number file_offset access)) e = readable (is_read access) number file_offset e
 
-read-small : (s : CallState) (fd buffer count : ℕ) (r : Result (List ℕ) ℕ) → ready s.files fd count ≡ r → IsSound s.files → Small (read_at s fd buffer r)
-read-small s fd buffer count (Err errno) was sound = record { is = (an_error errno).is }
-read-small s fd buffer count (Ok bytes) was sound =
-    chosen (length bytes == 0) _ _ (record { is = omega arith })
-    (chosen (maps s.memory buffer (length bytes)) _ _ (record { is = ready-small s.files fd count bytes sound was }) (record { is = omega arith }))
+answered-small : (s : CallState) (reading : Result (ℕ × CallState) ℕ) → Yields (λ done. done.0 < 2 ^ 64) reading → Small (answered s reading)
+answered-small s (Ok done) small = record { is = small.is }
+answered-small s (Err errno) small = record { is = (an_error errno).is }
+
+read-small : (s : CallState) (fd buffer count : ℕ) → IsSound s.files → Small (answered s (read_at s fd buffer count))
+read-small s fd buffer count sound =
+    answered-small s _ (bound (ready s.files fd count) _ (λ bytes is.
+    either (length bytes == 0) _ _ (λ none. record { is = omega arith })
+    (tested efault (maps s.memory buffer (length bytes)) _ (λ there. record { is = ready-small s.files fd count bytes sound is }))))
 
 -- bytes of a memory are few
 mapped-small : (m : Memory) (at count : ℕ) (bytes : List ℕ) → IsWhole m → bytes_at m at count ≡ Some bytes → length bytes < 2 ^ 64
@@ -153,14 +167,12 @@ mapped-small m at zero bytes whole e = omega (arith, length_of_bytes_at m at zer
 mapped-small m at (suc count) bytes whole e =
     omega (arith, length_of_bytes_at m at (suc count) bytes e, whole.low (at + count) _ (get_in_bytes_at m at (suc count) bytes e (at + count) (omega arith) (omega arith)))
 
-write-small : (s : CallState) (fd buffer count : ℕ) (o : Option (ℕ × ℕ)) → IsWhole s.memory → Small (written_at s fd buffer count o)
-write-small s fd buffer count None whole = record { is = omega arith }
-write-small s fd buffer count (Some place) whole = chosen (count == 0) _ _ (record { is = omega arith }) (from (bytes_at s.memory buffer count) refl)
-  where
-    from : (o : Option (List ℕ)) → bytes_at s.memory buffer count ≡ o → Small (written_from s fd o)
-    from None was = record { is = omega arith }
-    from (Some bytes) was =
-        back-small s _ (answering-small (length bytes) (written s.files fd bytes).0 (written s.files fd bytes).1 (mapped-small s.memory buffer count bytes whole was))
+written-small : (m : Memory) (w : World) (fd buffer count : ℕ) → IsWhole m → Value (written_at m w fd buffer count).0
+written-small m w fd buffer count whole =
+    left-small w _ (found ebadf (write_place w (get w.open_files fd)) _ (λ place there.
+    either (count == 0) _ _ (λ none. record { is = a_value 0 (omega arith) })
+    (found efault (bytes_at m buffer count) _ (λ bytes are.
+    record { is = answering-small (length bytes) (written w fd bytes).0 (written w fd bytes).1 (mapped-small m buffer count bytes whole are) }))))
 
 break-small : (s : CallState) (to : ℕ) → IsHeapOf s.memory s.heap → Small (moved_break s to)
 break-small s to is = record { is = by_test (is_outside s.heap to) refl }
@@ -172,14 +184,14 @@ break-small s to is = record { is = by_test (is_outside s.heap to) refl }
 every : (number : ℕ) (a : List ℕ) (s : CallState) → IsState s → Small (syscall number a s)
 every number a s is =
     let arg : ℕ → ℕ = slice_index a in
-    chosen (number == sys_unlinkat) _ _ (back-small s _ (unlinked-small s.files (arg 2) (name_in_directory s.memory s.files (arg 0) (arg 1))))
-    (chosen (number == sys_faccessat) _ _ (back-small s _ (accessed-small s.files (arg 2) (name_in_directory s.memory s.files (arg 0) (arg 1))))
-    (chosen (number == sys_fchmodat) _ _ (back-small s _ (mode-small s.files (name_in_directory s.memory s.files (arg 0) (arg 1))))
-    (chosen (number == sys_openat) _ _ (back-small s _ (opened-as-small s.files (arg 0) (arg 2) (name_at s.memory (arg 1)) is.files))
+    chosen (number == sys_unlinkat) _ _ (back-small s _ (unlinked-small s.memory s.files (arg 0) (arg 1) (arg 2)))
+    (chosen (number == sys_faccessat) _ _ (back-small s _ (accessed-small s.memory s.files (arg 0) (arg 1) (arg 2)))
+    (chosen (number == sys_fchmodat) _ _ (back-small s _ (mode-small s.memory s.files (arg 0) (arg 1)))
+    (chosen (number == sys_openat) _ _ (back-small s _ (opened-as-small s.memory s.files (arg 0) (arg 1) (arg 2) is.files))
     (chosen (number == sys_close) _ _ (back-small s _ (answering-small 0 (closed s.files (low (arg 0))).0 (closed s.files (low (arg 0))).1 (omega arith)))
     (chosen (number == sys_lseek) _ _ (back-small s _ (sought-small s.files (low (arg 0)) (cast_signed w64 (arg 1)) (low (arg 2))))
-    (chosen (number == sys_read) _ _ (read-small s (low (arg 0)) (arg 1) (arg 2) (ready s.files (low (arg 0)) (arg 2)) refl is.files)
-    (chosen (number == sys_write) _ _ (write-small s (low (arg 0)) (arg 1) (arg 2) (write_place s.files (get s.files.open_files (low (arg 0)))) is.memory)
+    (chosen (number == sys_read) _ _ (read-small s (low (arg 0)) (arg 1) (arg 2) is.files)
+    (chosen (number == sys_write) _ _ (back-small s _ (written-small s.memory s.files (low (arg 0)) (arg 1) (arg 2) is.memory))
     (chosen (number == sys_exit) _ _ (record { is = omega arith })
     (chosen (number == sys_exit_group) _ _ (record { is = omega arith })
     (chosen (number == sys_brk) (moved_break s (arg 0)) (is_unknown number) (break-small s (arg 0) is.heap) (record { is = tt })))))))))))

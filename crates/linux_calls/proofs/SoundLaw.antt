@@ -1,10 +1,13 @@
 -- Each call leaves sound files sound.
-use Rattle.std.proofs.Common.{◌≡◌, ◌≢◌, ℕ, ◌==◌, ◌||◌, ◌<◌, zero, suc, Bool, true, false, cond, Option, None, Some, Result, Ok, Err, IsOkAnd, IsTrue, List, [], ◌∷◌, length, take, drop, refl, sym, ap, subst, arith}
+use Rattle.std.proofs.Common.{◌≡◌, ◌≢◌, ℕ, ◌==◌, ◌||◌, ◌<◌, zero, suc, Bool, true, false, cond, not, Option, None, Some, Result, Ok, Err, IsOkAnd, IsTrue, List, [], ◌∷◌, length, take, drop, refl, sym, ap, subst, arith}
 use Rattle.std.specs.Prelude.{bit_and, slice_index}
 use Rattle.std.specs.FinMap.{get, contains_key}
 use Rattle.std.proofs.lemmas.List.{length-take}
 use Rattle.std.proofs.lemmas.List.Elements.{All-cons, All-nil}
 use Rattle.std.specs.Int.{cast_signed, w64}
+use Rattle.ddc_base.specs.Results.{◌>>=◌}
+use Rattle.ddc_base.proofs.Results.{Yields, bound, found, tested}
+use Rattle.ddc_base.proofs.Results.{chosen as either}
 use Rattle.paged_mem.specs.Memory.{Memory, IsWhole, bytes_at, maps}
 use Rattle.mem_files.specs.declared.open_file.OpenFile.{OpenFile}
 use Rattle.mem_files.specs.declared.open_file.OpenFile.TheVariants.{Input, Stream1, Stream2, File}
@@ -15,9 +18,9 @@ use Rattle.mem_files.specs.World.{World, content_of}
 use Rattle.mem_files.specs.Calls.{closed, ready, ready_at, removed, write_place, written}
 use Rattle.mem_files.specs.Sound.{AreBytes, IsSound}
 use Rattle.mem_files.proofs.Rules.{closed-sound, removed-sound, opened-sound, skipped-sound, sought-sound, stripped-bytes, written-sound}
-use Rattle.linux_calls.specs.Linux.{at_fdcwd, enotdir, sys_unlinkat, sys_faccessat, sys_fchmodat, sys_openat, sys_close, sys_lseek, sys_read, sys_write, sys_exit, sys_exit_group, sys_brk}
-use Rattle.linux_calls.specs.Paths.{and_then, in_directory, is_absolute, low, name_at, name_in_directory, not_empty, text_at, text_from, text_or_fault}
-use Rattle.linux_calls.specs.Calls.{CallState, CallOutcome, is_unknown, back, answering, unlinked, opened_in, opened_as, read_at, written_from, written_at, moved_break, syscall}
+use Rattle.linux_calls.specs.Linux.{at_fdcwd, efault, enotdir, sys_unlinkat, sys_faccessat, sys_fchmodat, sys_openat, sys_close, sys_lseek, sys_read, sys_write, sys_exit, sys_exit_group, sys_brk}
+use Rattle.linux_calls.specs.Paths.{in_directory, is_absolute, low, name_at, name_in_directory, not_empty, text_at, text_from, text_or_fault}
+use Rattle.linux_calls.specs.Calls.{CallState, CallOutcome, is_unknown, answered, answering, back, moved_break, opened_as, or_left, read_at, syscall, unlinked, written_at}
 use Rattle.linux_calls.specs.Rules.{LeavesSound}
 use Rattle.linux_calls.proofs.Texts.{text_at-is, name_of_text}
 use Rattle.paged_mem.proofs.Wholes.{bytes_at-bytes}
@@ -30,7 +33,7 @@ not_empty-is (byte ∷ bytes) name e = (cc, λ h. absurd (omega arith))
 name_at-is : (m : Memory) (at : ℕ) (name : List ℕ) → name_at m at ≡ Ok name → IsTrue (is_stripped_name name)
 name_at-is m at name e = by_text (text_at m at 256) refl e
   where
-    by_text : (r : Result (List ℕ) ℕ) → text_at m at 256 ≡ r → and_then (λ text. not_empty (stripped text)) r ≡ Ok name → IsTrue (is_stripped_name name)
+    by_text : (r : Result (List ℕ) ℕ) → text_at m at 256 ≡ r → (r >>= λ text. not_empty (stripped text)) ≡ Ok name → IsTrue (is_stripped_name name)
     by_text (Err errno) was e = cc
     by_text (Ok text) was e =
         let is = text_at-is m at 256 text was in
@@ -41,7 +44,7 @@ name_at-is m at name e = by_text (text_at m at 256) refl e
 text_from-bytes : (byte : ℕ) (rest : Result (List ℕ) ℕ) (text : List ℕ) → byte < 256 → ((t : List ℕ) → rest ≡ Ok t → AreBytes t) → text_from byte rest ≡ Ok text → AreBytes text
 text_from-bytes byte rest text small more e = by_test (byte == 0) rest refl e
   where
-    by_test : (t : Bool) (r : Result (List ℕ) ℕ) → r ≡ rest → cond t (Ok []) (and_then (λ t. Ok (byte ∷ t)) r) ≡ Ok text → AreBytes text
+    by_test : (t : Bool) (r : Result (List ℕ) ℕ) → r ≡ rest → cond t (Ok []) (r >>= λ t. Ok (byte ∷ t)) ≡ Ok text → AreBytes text
     by_test true r was e = let is : [] ≡ text = cc in subst AreBytes is (All-nil (λ b. b < 256))
     by_test false (Err errno) was e = cc
     by_test false (Ok t) was e = let is : byte ∷ t ≡ text = cc in subst AreBytes is (All-cons (λ b. b < 256) byte t small (more t (sym was)))
@@ -58,7 +61,7 @@ text_at-bytes m at (suc most) text whole e = by_byte (λ t was. text_at-bytes m 
 name_at-bytes : (m : Memory) (at : ℕ) (name : List ℕ) → IsWhole m → name_at m at ≡ Ok name → AreBytes name
 name_at-bytes m at name whole e = by_text (text_at m at 256) refl e
   where
-    by_text : (r : Result (List ℕ) ℕ) → text_at m at 256 ≡ r → and_then (λ text. not_empty (stripped text)) r ≡ Ok name → AreBytes name
+    by_text : (r : Result (List ℕ) ℕ) → text_at m at 256 ≡ r → (r >>= λ text. not_empty (stripped text)) ≡ Ok name → AreBytes name
     by_text (Err errno) was e = cc
     by_text (Ok text) was e = subst AreBytes (not_empty-is (stripped text) name e).0 (stripped-bytes text (text_at-bytes m at 256 text whole was))
 
@@ -90,29 +93,36 @@ ready_again w fd count bytes e = at_open_file (get w.open_files fd) e
     at_open_file (Some (File number file_offset access)) e = readable (is_read access) (drop file_offset (content_of w number)) e
 
 -- the calls on files
-pair-if : {A : Type 0} (b : Bool) (x y : Result A ℕ × World) → IsSound x.1 → IsSound y.1 → IsSound (cond b x y).1
-pair-if true x y p q = p
-pair-if false x y p q = q
-
 answering-sound : {A : Type 0} (value : ℕ) (r : Result A ℕ) (files : World) → IsSound files → IsSound (answering value (r, files)).1
 answering-sound value (Ok done) files s = s
 answering-sound value (Err errno) files s = s
 
-unlinked-sound : (w : World) (flags : ℕ) (r : Result (List ℕ) ℕ) → IsSound w → IsSound (unlinked w flags r).1
-unlinked-sound w flags (Err errno) s = s
-unlinked-sound w flags (Ok name) s =
-    pair-if (low flags == 0) (answering 0 (removed w name)) (Err einval, w) (answering-sound 0 (removed w name).0 (removed w name).1 (removed-sound w name s)) s
+left-sound : (w : World) (reading : Result (Result ℕ ℕ × World) ℕ) → IsSound w → Yields (λ meant. IsSound meant.1) reading → IsSound (or_left w reading).1
+left-sound w (Ok meant) sound kept = kept.is
+left-sound w (Err errno) sound kept = sound
 
-opened-as-sound : (w : World) (dir flags : ℕ) (r : Result (List ℕ) ℕ) → ((name : List ℕ) → r ≡ Ok name → IsTrue (is_stripped_name name) × AreBytes name) → IsSound w → IsSound (opened_as w dir flags r).1
-opened-as-sound w dir flags (Err errno) good s = s
-opened-as-sound w dir flags (Ok name) good s =
-    pair-if (bit_and (low flags) o_accmode == o_accmode) (Err einval, w) (opened_in w flags (in_directory w dir name)) s (inside (in_directory w dir name) refl)
-  where
-    inside : (r : Result (List ℕ) ℕ) → in_directory w dir name ≡ r → IsSound (opened_in w flags r).1
-    inside (Err errno) was = s
-    inside (Ok other) was =
-        let are = subst (λ n. IsTrue (is_stripped_name n) × AreBytes n) (in_directory-is w dir name other was) (good name refl) in
-        opened-sound w other (low flags) s are.0 are.1
+unlinked-sound : (m : Memory) (w : World) (directory path flags : ℕ) → IsSound w → IsSound (unlinked m w directory path flags).1
+unlinked-sound m w directory path flags sound =
+    left-sound w _ sound
+    (bound (name_in_directory m w directory path) _ (λ name is.
+    tested einval (low flags == 0) _ (λ allowed. record { is = answering-sound 0 (removed w name).0 (removed w name).1 (removed-sound w name sound) })))
+
+opened-as-sound : (m : Memory) (w : World) (directory path flags : ℕ) → IsWhole m → IsSound w → IsSound (opened_as m w directory path flags).1
+opened-as-sound m w directory path flags whole sound =
+    left-sound w _ sound
+    (bound (name_at m path) _ (λ name is.
+    tested einval (not (bit_and (low flags) o_accmode == o_accmode)) _ (λ allowed.
+    bound (in_directory w directory name) _ (λ here same.
+    let are = subst (λ n. IsTrue (is_stripped_name n) × AreBytes n) (in_directory-is w directory name here same) (name_at-is m path name is, name_at-bytes m path name whole is) in
+    record { is = opened-sound w here (low flags) sound are.0 are.1 }))))
+
+written-at-sound : (m : Memory) (w : World) (fd buffer count : ℕ) → IsWhole m → IsSound w → IsSound (written_at m w fd buffer count).1
+written-at-sound m w fd buffer count whole sound =
+    left-sound w _ sound
+    (found ebadf (write_place w (get w.open_files fd)) _ (λ place there.
+    either (count == 0) _ _ (λ none. record { is = sound })
+    (found efault (bytes_at m buffer count) _ (λ bytes are.
+    record { is = answering-sound (length bytes) (written w fd bytes).0 (written w fd bytes).1 (written-sound w fd bytes sound (bytes_at-bytes m buffer count bytes whole are)) }))))
 
 -- outcomes, as a record: what it speaks of is found from the goal
 record Sound (outcome : CallOutcome) : Type 0 where
@@ -125,33 +135,28 @@ chosen false x y p q = q
 back-sound : (s : CallState) (meant : Result ℕ ℕ × World) → IsSound meant.1 → Sound (back s meant)
 back-sound s meant p = record { is = p }
 
-read-sound : (s : CallState) (fd buffer count : ℕ) (r : Result (List ℕ) ℕ) → ready s.files fd count ≡ r → IsSound s.files → Sound (read_at s fd buffer r)
-read-sound s fd buffer count (Err errno) was sound = record { is = sound }
-read-sound s fd buffer count (Ok bytes) was sound =
-    chosen (length bytes == 0) _ _ (record { is = sound })
-    (chosen (maps s.memory buffer (length bytes)) _ _ (record { is = skipped-sound s.files fd (length bytes) sound (ready_again s.files fd count bytes was) }) (record { is = sound }))
+answered-sound : (s : CallState) (reading : Result (ℕ × CallState) ℕ) → IsSound s.files → Yields (λ done. IsSound done.1.files) reading → Sound (answered s reading)
+answered-sound s (Ok done) sound kept = record { is = kept.is }
+answered-sound s (Err errno) sound kept = record { is = sound }
 
-write-sound : (s : CallState) (fd buffer count : ℕ) (o : Option (ℕ × ℕ)) → IsWhole s.memory → IsSound s.files → Sound (written_at s fd buffer count o)
-write-sound s fd buffer count None whole sound = record { is = sound }
-write-sound s fd buffer count (Some place) whole sound = chosen (count == 0) _ _ (record { is = sound }) (from (bytes_at s.memory buffer count) refl)
-  where
-    from : (o : Option (List ℕ)) → bytes_at s.memory buffer count ≡ o → Sound (written_from s fd o)
-    from None was = record { is = sound }
-    from (Some bytes) was = record {
-      is = answering-sound (length bytes) (written s.files fd bytes).0 (written s.files fd bytes).1 (written-sound s.files fd bytes sound (bytes_at-bytes s.memory buffer count bytes whole was));
-    }
+read-sound : (s : CallState) (fd buffer count : ℕ) → IsSound s.files → Sound (answered s (read_at s fd buffer count))
+read-sound s fd buffer count sound =
+    answered-sound s _ sound
+    (bound (ready s.files fd count) _ (λ bytes is.
+    either (length bytes == 0) _ _ (λ none. record { is = sound })
+    (tested efault (maps s.memory buffer (length bytes)) _ (λ there. record { is = skipped-sound s.files fd (length bytes) sound (ready_again s.files fd count bytes is) }))))
 
 every : (number : ℕ) (a : List ℕ) (s : CallState) → IsWhole s.memory → IsSound s.files → Sound (syscall number a s)
 every number a s whole sound =
     let arg : ℕ → ℕ = slice_index a in
-    chosen (number == sys_unlinkat) _ _ (back-sound s _ (unlinked-sound s.files (arg 2) (name_in_directory s.memory s.files (arg 0) (arg 1)) sound))
+    chosen (number == sys_unlinkat) _ _ (back-sound s _ (unlinked-sound s.memory s.files (arg 0) (arg 1) (arg 2) sound))
     (chosen (number == sys_faccessat) _ _ (back-sound s _ sound)
     (chosen (number == sys_fchmodat) _ _ (back-sound s _ sound)
-    (chosen (number == sys_openat) _ _ (back-sound s _ (opened-as-sound s.files (arg 0) (arg 2) (name_at s.memory (arg 1)) (λ name e. (name_at-is s.memory (arg 1) name e, name_at-bytes s.memory (arg 1) name whole e)) sound))
+    (chosen (number == sys_openat) _ _ (back-sound s _ (opened-as-sound s.memory s.files (arg 0) (arg 1) (arg 2) whole sound))
     (chosen (number == sys_close) _ _ (back-sound s _ (answering-sound 0 (closed s.files (low (arg 0))).0 (closed s.files (low (arg 0))).1 (closed-sound s.files (low (arg 0)) sound)))
     (chosen (number == sys_lseek) _ _ (back-sound s _ (sought-sound s.files (low (arg 0)) (cast_signed w64 (arg 1)) (low (arg 2)) sound))
-    (chosen (number == sys_read) _ _ (read-sound s (low (arg 0)) (arg 1) (arg 2) (ready s.files (low (arg 0)) (arg 2)) refl sound)
-    (chosen (number == sys_write) _ _ (write-sound s (low (arg 0)) (arg 1) (arg 2) (write_place s.files (get s.files.open_files (low (arg 0)))) whole sound)
+    (chosen (number == sys_read) _ _ (read-sound s (low (arg 0)) (arg 1) (arg 2) sound)
+    (chosen (number == sys_write) _ _ (back-sound s _ (written-at-sound s.memory s.files (low (arg 0)) (arg 1) (arg 2) whole sound))
     (chosen (number == sys_exit) _ _ (record { is = tt })
     (chosen (number == sys_exit_group) _ _ (record { is = tt })
     (chosen (number == sys_brk) (moved_break s (arg 0)) (is_unknown number) (record { is = sound }) (record { is = tt })))))))))))

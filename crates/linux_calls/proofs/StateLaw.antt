@@ -4,21 +4,24 @@ use Rattle.std.specs.Prelude.{⊤, nat_lt, slice_index}
 use Rattle.std.specs.FinMap.{get}
 use Rattle.std.proofs.lemmas.List.Elements.{All-drop, All-nil, All-replicate, All-take}
 use borrow.Author.Tests.{ltb-true}
-use Rattle.paged_mem.specs.Memory.{Memory, IsWhole, bytes_at, maps, with_bytes, without, zeros, page_up}
+use Rattle.ddc_base.specs.Results.{◌>>=◌}
+use Rattle.ddc_base.proofs.Results.{Yields, bound, tested}
+use Rattle.ddc_base.proofs.Results.{chosen as either}
+use Rattle.paged_mem.specs.Memory.{Memory, IsWhole, maps, with_bytes, without, zeros, page_up}
 use Rattle.paged_mem.proofs.Mapped.{length-zeros}
 use Rattle.mem_files.specs.declared.open_file.OpenFile.{OpenFile}
 use Rattle.mem_files.specs.declared.open_file.OpenFile.TheVariants.{Input, Stream1, Stream2, File}
 use Rattle.mem_files.specs.Access.{is_read}
 use Rattle.mem_files.specs.Linux.{ebadf}
 use Rattle.mem_files.specs.World.{World, content_of}
-use Rattle.mem_files.specs.Calls.{ready, ready_at, write_place}
+use Rattle.mem_files.specs.Calls.{ready, ready_at}
 use Rattle.mem_files.specs.Sound.{AreBytes, IsSound}
 use Rattle.mem_files.proofs.Rules.{bytes_of, content_bytes}
 use Rattle.linux_calls.specs.declared.Heap.{Heap}
-use Rattle.linux_calls.specs.Linux.{sys_unlinkat, sys_faccessat, sys_fchmodat, sys_openat, sys_close, sys_lseek, sys_read, sys_write, sys_exit, sys_exit_group, sys_brk}
+use Rattle.linux_calls.specs.Linux.{efault, sys_unlinkat, sys_faccessat, sys_fchmodat, sys_openat, sys_close, sys_lseek, sys_read, sys_write, sys_exit, sys_exit_group, sys_brk}
 use Rattle.linux_calls.specs.Paths.{low}
 use Rattle.linux_calls.specs.HeapOf.{IsHeapOf, is_outside, resized}
-use Rattle.linux_calls.specs.Calls.{CallState, CallOutcome, goes, exits, is_unknown, back, read_at, written_from, written_at, moved_break, syscall}
+use Rattle.linux_calls.specs.Calls.{CallState, CallOutcome, goes, exits, is_unknown, answered, back, moved_break, read_at, syscall}
 use Rattle.linux_calls.specs.Rules.{IsState, LeavesSound, LeavesState}
 use Rattle.paged_mem.proofs.Wholes.{whole-mapped, whole-without, whole-written}
 use Rattle.linux_calls.proofs.SoundLaw.{syscall-sound}
@@ -57,20 +60,17 @@ chosen false x y p q = q
 back-whole : (s : CallState) (meant : Result ℕ ℕ × World) → IsWhole s.memory → Whole (back s meant)
 back-whole s meant whole = record { is = whole }
 
-read-whole : (s : CallState) (fd buffer count : ℕ) (r : Result (List ℕ) ℕ) → ready s.files fd count ≡ r → IsWhole s.memory → IsSound s.files → Whole (read_at s fd buffer r)
-read-whole s fd buffer count (Err errno) was whole sound = record { is = whole }
-read-whole s fd buffer count (Ok bytes) was whole sound =
-    chosen (length bytes == 0) _ _ (λ none. record { is = whole })
-    (chosen (maps s.memory buffer (length bytes)) _ _
-    (λ there. record { is = whole-written s.memory buffer bytes whole there (ready-bytes s.files fd count bytes sound was) }) (record { is = whole }))
+answered-whole : (s : CallState) (reading : Result (ℕ × CallState) ℕ) → IsWhole s.memory → Yields (λ done. IsWhole done.1.memory) reading → Whole (answered s reading)
+answered-whole s (Ok done) whole kept = record { is = kept.is }
+answered-whole s (Err errno) whole kept = record { is = whole }
 
-write-whole : (s : CallState) (fd buffer count : ℕ) (o : Option (ℕ × ℕ)) → IsWhole s.memory → Whole (written_at s fd buffer count o)
-write-whole s fd buffer count None whole = record { is = whole }
-write-whole s fd buffer count (Some place) whole = chosen (count == 0) _ _ (λ none. record { is = whole }) (from (bytes_at s.memory buffer count))
-  where
-    from : (o : Option (List ℕ)) → Whole (written_from s fd o)
-    from None = record { is = whole }
-    from (Some bytes) = record { is = whole }
+read-whole : (s : CallState) (fd buffer count : ℕ) → IsWhole s.memory → IsSound s.files → Whole (answered s (read_at s fd buffer count))
+read-whole s fd buffer count whole sound =
+    answered-whole s _ whole
+    (bound (ready s.files fd count) _ (λ bytes is.
+    either (length bytes == 0) _ _ (λ none. record { is = whole })
+    (tested efault (maps s.memory buffer (length bytes)) _
+    (λ there. record { is = whole-written s.memory buffer bytes whole there (ready-bytes s.files fd count bytes sound is) }))))
 
 zero-bytes : (count : ℕ) → AreBytes (zeros count)
 unfolding zeros
@@ -105,8 +105,8 @@ every number a s is =
     (chosen (number == sys_openat) _ _ (λ e. back-whole s _ whole)
     (chosen (number == sys_close) _ _ (λ e. back-whole s _ whole)
     (chosen (number == sys_lseek) _ _ (λ e. back-whole s _ whole)
-    (chosen (number == sys_read) _ _ (λ e. read-whole s (low (arg 0)) (arg 1) (arg 2) (ready s.files (low (arg 0)) (arg 2)) refl whole is.files)
-    (chosen (number == sys_write) _ _ (λ e. write-whole s (low (arg 0)) (arg 1) (arg 2) (write_place s.files (get s.files.open_files (low (arg 0)))) whole)
+    (chosen (number == sys_read) _ _ (λ e. read-whole s (low (arg 0)) (arg 1) (arg 2) whole is.files)
+    (chosen (number == sys_write) _ _ (λ e. back-whole s _ whole)
     (chosen (number == sys_exit) _ _ (λ e. record { is = tt })
     (chosen (number == sys_exit_group) _ _ (λ e. record { is = tt })
     (chosen (number == sys_brk) (moved_break s (arg 0)) (is_unknown number) (λ e. break-whole s (arg 0) whole is.heap) (record { is = tt })))))))))))

@@ -7,24 +7,25 @@ use Rattle.std.proofs.lemmas.Bool.{ne_eqb, cases_eq}
 use Rattle.std.proofs.lemmas.Bool.Decides.{nat_tests}
 use Rattle.mem_files.specs.Names.{stripped, is_stripped_name, begins_with_dot_slash}
 use Rattle.std.specs.FinMap.{get}
+use Rattle.ddc_base.specs.Results.{◌>>=◌}
 use Rattle.paged_mem.specs.Memory.{Memory, reads, bytes_at, number_of, prepended}
 use Rattle.std.specs.Option.{option_map}
 use Rattle.mem_files.specs.Linux.{enoent}
 use Rattle.linux_calls.specs.Linux.{efault, enametoolong}
-use Rattle.linux_calls.specs.Paths.{text_at, text_or_fault, text_from, and_then, not_empty}
+use Rattle.linux_calls.specs.Paths.{text_at, text_or_fault, text_from, not_empty}
 
 -- bytes that were read, before the text that follows them
 abbrev pub after : List ℕ → Result (List ℕ) ℕ → Result (List ℕ) ℕ
-after read rest = and_then (λ text. Ok (read ++ text)) rest
+after read rest = rest >>= λ text. Ok (read ++ text)
 
 pub after-nil : (rest : Result (List ℕ) ℕ) → rest ≡ after [] rest
 after-nil (Ok text) = refl
 after-nil (Err errno) = refl
 
 pub after-push : (read : List ℕ) (byte : ℕ) (rest : Result (List ℕ) ℕ) → byte ≢ 0 → after read (text_from byte rest) ≡ after (read ++ byte ∷ []) rest
-after-push read byte rest ne = ap (λ b. after read (cond b (Ok []) (and_then (λ text. Ok (byte ∷ text)) rest))) (ne_eqb byte 0 ne) ∙ joined rest
+after-push read byte rest ne = ap (λ b. after read (cond b (Ok []) (rest >>= λ text. Ok (byte ∷ text)))) (ne_eqb byte 0 ne) ∙ joined rest
   where
-    joined : (rest : Result (List ℕ) ℕ) → after read (and_then (λ text. Ok (byte ∷ text)) rest) ≡ after (read ++ byte ∷ []) rest
+    joined : (rest : Result (List ℕ) ℕ) → after read (rest >>= λ text. Ok (byte ∷ text)) ≡ after (read ++ byte ∷ []) rest
     joined (Err errno) = refl
     joined (Ok text) = ap Ok (sym (append_assoc read (byte ∷ []) text))
 
@@ -60,14 +61,14 @@ or_right false y e = e
 text_from-is : (byte most : ℕ) (rest : Result (List ℕ) ℕ) (text : List ℕ) → ((t : List ℕ) → rest ≡ Ok t → (length t < most) × (has_zero t ≡ false)) → text_from byte rest ≡ Ok text → (length text < suc most) × (has_zero text ≡ false)
 text_from-is byte most rest text more e = by_test (byte == 0) refl (cases_eq byte 0) e
   where
-    longer : (r : Result (List ℕ) ℕ) → r ≡ rest → byte == 0 ≡ false → and_then (λ t. Ok (byte ∷ t)) r ≡ Ok text → (length text < suc most) × (has_zero text ≡ false)
+    longer : (r : Result (List ℕ) ℕ) → r ≡ rest → byte == 0 ≡ false → (r >>= λ t. Ok (byte ∷ t)) ≡ Ok text → (length text < suc most) × (has_zero text ≡ false)
     longer (Err errno) was ne e = cc
     longer (Ok t) was ne e =
         let is : text ≡ byte ∷ t = cc in
         let short = more t (sym was) in
         (omega (arith, ap length is, short.0), ap has_zero is ∙ ap (λ b. b || has_zero t) ne ∙ short.1)
 
-    by_test : (t : Bool) → byte == 0 ≡ t → (byte ≡ 0) ⊎ (byte ≢ 0) → cond t (Ok []) (and_then (λ t. Ok (byte ∷ t)) rest) ≡ Ok text → (length text < suc most) × (has_zero text ≡ false)
+    by_test : (t : Bool) → byte == 0 ≡ t → (byte ≡ 0) ⊎ (byte ≢ 0) → cond t (Ok []) (rest >>= λ t. Ok (byte ∷ t)) ≡ Ok text → (length text < suc most) × (has_zero text ≡ false)
     by_test false was o e = longer rest refl was e
     by_test true was o e =
         let is : text ≡ [] = cc in

@@ -1,7 +1,8 @@
 -- What a write that is allowed comes to.
-use Rattle.std.proofs.Common.{◌≡◌, ◌≢◌, ℕ, ◌<◌, true, cond, Option, None, Some, Result, Ok, Err, IsOk, IsOkAnd, is_ok, is_some, List, refl, sym, ap, subst, ◌∙◌, arith, inl, inr}
+use Rattle.std.proofs.Common.{◌≡◌, ◌≢◌, ℕ, ◌<◌, Bool, true, false, if◌then◌else◌, Option, None, Some, Result, Ok, Err, IsOk, IsOkAnd, is_ok, is_some, List, length, refl, sym, ap, subst, ◌∙◌, arith, inl, inr}
 use Rattle.std.specs.FinMap.{get}
 use Rattle.std.proofs.lemmas.Bool.{ne_eqb}
+use Rattle.ddc_base.specs.Results.{◌>>=◌, or_error}
 use Rattle.paged_mem.specs.Memory.{Memory, bytes_at, maps}
 use Rattle.paged_mem.proofs.Maps.{length_of_bytes_at}
 use Rattle.mem_files.specs.World.{World}
@@ -9,24 +10,36 @@ use Rattle.mem_files.specs.Calls.{fits, write_place, written, written_if}
 use Rattle.linux_calls.specs.declared.Heap.{Heap}
 use Rattle.linux_calls.specs.declared.CallEnd.{CallEnd}
 use Rattle.linux_calls.specs.declared.CallEnd.TheVariants.{Back, OutOfMemory}
-use Rattle.linux_calls.specs.Linux.{sys_write}
-use Rattle.linux_calls.specs.Calls.{state, CallOutcome, goes, back, answer_of, answering, written_at, written_from}
+use Rattle.mem_files.specs.Linux.{ebadf}
+use Rattle.linux_calls.specs.Linux.{efault, sys_write}
+use Rattle.linux_calls.specs.Calls.{state, CallOutcome, back, answer_of, answering, or_left, written_at}
 use Rattle.linux_calls.specs.Answer.{IsAnswer}
 
 module _ (m : Memory) (w : World) (fd buffer count : ℕ) (writable : is_some (write_place w (get w.open_files fd)) ≡ true) (some : count ≢ 0) (heap : Heap) where
   abbrev meant : CallOutcome
-  meant = written_at (state m w heap) fd buffer count (write_place w (get w.open_files fd))
+  meant = back (state m w heap) (written_at m w fd buffer count)
 
   -- a write of bytes that are there is that of the files
   meant_is : (bytes : List ℕ) → bytes_at m buffer count ≡ Some bytes → meant ≡ back (state m w heap) (answering count (written w fd bytes))
-  meant_is bytes there = by_place (write_place w (get w.open_files fd)) writable
+  meant_is bytes there = ap (back (state m w heap)) is
     where
-      by_place : (p : _) → is_some p ≡ true → written_at (state m w heap) fd buffer count p ≡ back (state m w heap) (answering count (written w fd bytes))
+      through : Bool → Option (ℕ × ℕ) → Option (List ℕ) → Result ℕ ℕ × World
+      through empty place there = or_left w do
+        _ ← or_error ebadf place
+        if empty then Ok (Ok 0, w) else (do
+          bytes ← or_error efault there
+          Ok (answering (length bytes) (written w fd bytes)))
+
+      by_place : (p : Option (ℕ × ℕ)) → is_some p ≡ true → through false p (Some bytes) ≡ answering (length bytes) (written w fd bytes)
       by_place None e = cc
-      by_place (Some place) e =
-          ap (λ t. cond t (goes (Ok 0) (state m w heap)) (written_from (state m w heap) fd (bytes_at m buffer count))) (ne_eqb count 0 some)
-          ∙ ap (written_from (state m w heap) fd) there
-          ∙ ap (λ n. back (state m w heap) (answering n (written w fd bytes))) (length_of_bytes_at m buffer count bytes there)
+      by_place (Some place) e = refl
+
+      is : written_at m w fd buffer count ≡ answering count (written w fd bytes)
+      is =
+          ap (λ t. through t (write_place w (get w.open_files fd)) (bytes_at m buffer count)) (ne_eqb count 0 some)
+          ∙ ap (through false (write_place w (get w.open_files fd))) there
+          ∙ by_place (write_place w (get w.open_files fd)) writable
+          ∙ ap (λ n. answering n (written w fd bytes)) (length_of_bytes_at m buffer count bytes there)
 
   pub write_done : (bytes : List ℕ) (done : Unit {0}) (new : World) → bytes_at m buffer count ≡ Some bytes → written w fd bytes ≡ (Ok done, new) → IsAnswer sys_write (state m w heap) (state m new heap) meant (Back count)
   write_done bytes done new there e =

@@ -1,8 +1,9 @@
 -- The call table: what each call answers, and the memory, files and heap after it, by the first rule that fits
 -- (docs/reference/calls.md, "The table"). An error changes nothing.
-use Rattle.std.specs.Prelude.{ℕ, ◌-◌, ◌%◌, ◌^◌, nat_lt, ◌==◌, if◌then◌else◌, Option, Some, None, Result, Ok, Err, List, length, slice_index, bit_and}
+use Rattle.std.specs.Prelude.{ℕ, ◌-◌, ◌%◌, ◌^◌, nat_le, not, ◌==◌, if◌then◌else◌, Result, Ok, Err, List, [], ◌∷◌, length, slice_index, bit_and}
 use Rattle.std.specs.Int.{cast_signed, w64}
 use Rattle.std.specs.FinMap.{get, contains_key}
+use Rattle.ddc_base.specs.Results.{◌>>=◌, ◌>>◌, or_error, error_unless}
 use Rattle.paged_mem.specs.Memory.{Memory, bytes_at, maps, with_bytes}
 use Rattle.mem_files.specs.World.{World}
 use Rattle.mem_files.specs.Calls.{removed, opened, closed, sought, ready, skipped, write_place, written}
@@ -36,58 +37,64 @@ answer_of (Err errno) = (2 ^ 64 - errno) % 2 ^ 64
 abbrev pub back : CallState → Result ℕ ℕ × World → CallOutcome
 back s meant = goes meant.0 (record s { files = meant.1 })
 
+-- a value with the state after it, or an error, which leaves the state
+abbrev pub answered : CallState → Result (ℕ × CallState) ℕ → CallOutcome
+answered s (Ok (value, next)) = goes (Ok value) next
+answered s (Err errno) = goes (Err errno) s
+
 -- an answer that is `value` where there is no error
 abbrev pub answering : {A : Type 0} → ℕ → Result A ℕ × World → Result ℕ ℕ × World
 answering value (Ok done, files) = (Ok value, files)
 answering value (Err errno, files) = (Err errno, files)
 
--- unlinkat
-abbrev pub unlinked : World → ℕ → Result (List ℕ) ℕ → Result ℕ ℕ × World
-unlinked w flags (Err errno) = (Err errno, w)
-unlinked w flags (Ok name) = if low flags == 0 then answering 0 (removed w name) else (Err einval, w)
+-- what a call on the files comes to, or the error by which it never comes to them
+abbrev pub or_left : World → Result (Result ℕ ℕ × World) ℕ → Result ℕ ℕ × World
+or_left w (Ok meant) = meant
+or_left w (Err errno) = (Err errno, w)
 
--- faccessat
-abbrev pub accessed : World → ℕ → Result (List ℕ) ℕ → Result ℕ ℕ
-accessed w mode (Err errno) = Err errno
-accessed w mode (Ok name) =
-    if nat_lt 7 (low mode) then Err einval else (if contains_key w.names name then Ok 0 else Err enoent)
+abbrev pub unlinked : Memory → World → ℕ → ℕ → ℕ → Result ℕ ℕ × World
+unlinked m w directory path flags = or_left w do
+  name ← name_in_directory m w directory path
+  error_unless einval (low flags == 0)
+  Ok (answering 0 (removed w name))
 
--- fchmodat: the mode is not kept
-abbrev pub mode_changed : World → Result (List ℕ) ℕ → Result ℕ ℕ
-mode_changed w (Err errno) = Err errno
-mode_changed w (Ok name) = if contains_key w.names name then Ok 0 else Err enoent
+abbrev pub accessed : Memory → World → ℕ → ℕ → ℕ → Result ℕ ℕ
+accessed m w directory path mode = do
+  name ← name_in_directory m w directory path
+  error_unless einval (nat_le (low mode) 7)
+  error_unless enoent (contains_key w.names name)
+  Ok 0
 
--- openat: the flags are looked at between the path and the directory
-abbrev pub opened_in : World → ℕ → Result (List ℕ) ℕ → Result ℕ ℕ × World
-opened_in w flags (Err errno) = (Err errno, w)
-opened_in w flags (Ok name) = opened w name (low flags)
+-- the mode is not kept
+abbrev pub mode_changed : Memory → World → ℕ → ℕ → Result ℕ ℕ
+mode_changed m w directory path = do
+  name ← name_in_directory m w directory path
+  error_unless enoent (contains_key w.names name)
+  Ok 0
 
-abbrev pub opened_as : World → ℕ → ℕ → Result (List ℕ) ℕ → Result ℕ ℕ × World
-opened_as w dir flags (Err errno) = (Err errno, w)
-opened_as w dir flags (Ok name) =
-    if bit_and (low flags) o_accmode == o_accmode then (Err einval, w) else opened_in w flags (in_directory w dir name)
+-- the flags are looked at between the path and the directory
+abbrev pub opened_as : Memory → World → ℕ → ℕ → ℕ → Result ℕ ℕ × World
+opened_as m w directory path flags = or_left w do
+  name ← name_at m path
+  error_unless einval (not (bit_and (low flags) o_accmode == o_accmode))
+  here ← in_directory w directory name
+  Ok (opened w here (low flags))
 
--- read: the bytes that are ready are read_at, all or none
-abbrev pub read_at : CallState → ℕ → ℕ → Result (List ℕ) ℕ → CallOutcome
-read_at s fd buffer (Err errno) = goes (Err errno) s
-read_at s fd buffer (Ok bytes) =
-    if length bytes == 0 then goes (Ok 0) s
-    else (if maps s.memory buffer (length bytes)
-    then goes (Ok (length bytes)) (record s {
-      memory = with_bytes s.memory buffer bytes;
-      files = skipped s.files fd (length bytes);
-    })
-    else goes (Err efault) s)
+-- the bytes that are ready are read, all or none
+abbrev pub read_at : CallState → ℕ → ℕ → ℕ → Result (ℕ × CallState) ℕ
+read_at s fd buffer count = do
+  bytes ← ready s.files fd count
+  if length bytes == 0 then Ok (0, s) else (do
+    error_unless efault (maps s.memory buffer (length bytes))
+    Ok (length bytes, record s { memory = with_bytes s.memory buffer bytes; files = skipped s.files fd (length bytes) }))
 
--- write: to a descriptor that may be written
-abbrev pub written_from : CallState → ℕ → Option (List ℕ) → CallOutcome
-written_from s fd None = goes (Err efault) s
-written_from s fd (Some bytes) = back s (answering (length bytes) (written s.files fd bytes))
-
-abbrev pub written_at : CallState → ℕ → ℕ → ℕ → Option (ℕ × ℕ) → CallOutcome
-written_at s fd buffer count None = goes (Err ebadf) s
-written_at s fd buffer count (Some place) =
-    if count == 0 then goes (Ok 0) s else written_from s fd (bytes_at s.memory buffer count)
+-- the bytes are written, all or none
+abbrev pub written_at : Memory → World → ℕ → ℕ → ℕ → Result ℕ ℕ × World
+written_at m w fd buffer count = or_left w do
+  place ← or_error ebadf (write_place w (get w.open_files fd))
+  if count == 0 then Ok (Ok 0, w) else (do
+    bytes ← or_error efault (bytes_at m buffer count)
+    Ok (answering (length bytes) (written w fd bytes)))
 
 -- brk answers the break after the call
 abbrev pub moved_break : CallState → ℕ → CallOutcome
@@ -96,19 +103,27 @@ moved_break s to = goes (Ok (break_heap s.heap to).now) (record s {
   heap = break_heap s.heap to;
 })
 
+-- what stands in the row of a number; a number without a row is unknown
+abbrev pub looked_up : ℕ → List (ℕ × CallOutcome) → CallOutcome
+looked_up number [] = is_unknown number
+looked_up number ((of, outcome) ∷ rows) = if number == of then outcome else looked_up number rows
+
 -- the table
 abbrev pub syscall : ℕ → List ℕ → CallState → CallOutcome
-syscall number a s =
-    let arg = slice_index a in
-    if number == sys_unlinkat then back s (unlinked s.files (arg 2) (name_in_directory s.memory s.files (arg 0) (arg 1)))
-    else (if number == sys_faccessat then back s (accessed s.files (arg 2) (name_in_directory s.memory s.files (arg 0) (arg 1)), s.files)
-    else (if number == sys_fchmodat then back s (mode_changed s.files (name_in_directory s.memory s.files (arg 0) (arg 1)), s.files)
-    else (if number == sys_openat then back s (opened_as s.files (arg 0) (arg 2) (name_at s.memory (arg 1)))
-    else (if number == sys_close then back s (answering 0 (closed s.files (low (arg 0))))
-    else (if number == sys_lseek then back s (sought s.files (low (arg 0)) (cast_signed w64 (arg 1)) (low (arg 2)))
-    else (if number == sys_read then read_at s (low (arg 0)) (arg 1) (ready s.files (low (arg 0)) (arg 2))
-    else (if number == sys_write then written_at s (low (arg 0)) (arg 1) (arg 2) (write_place s.files (get s.files.open_files (low (arg 0))))
-    else (if number == sys_exit then exits (arg 0 % 256)
-    else (if number == sys_exit_group then exits (arg 0 % 256)
-    else (if number == sys_brk then moved_break s (arg 0)
-    else is_unknown number))))))))))
+syscall number arguments s =
+    let a = slice_index arguments 0 in
+    let b = slice_index arguments 1 in
+    let c = slice_index arguments 2 in
+    looked_up number
+    ((sys_unlinkat, back s (unlinked s.memory s.files a b c))
+    ∷ (sys_faccessat, back s (accessed s.memory s.files a b c, s.files))
+    ∷ (sys_fchmodat, back s (mode_changed s.memory s.files a b, s.files))
+    ∷ (sys_openat, back s (opened_as s.memory s.files a b c))
+    ∷ (sys_close, back s (answering 0 (closed s.files (low a))))
+    ∷ (sys_lseek, back s (sought s.files (low a) (cast_signed w64 b) (low c)))
+    ∷ (sys_read, answered s (read_at s (low a) b c))
+    ∷ (sys_write, back s (written_at s.memory s.files (low a) b c))
+    ∷ (sys_exit, exits (a % 256))
+    ∷ (sys_exit_group, exits (a % 256))
+    ∷ (sys_brk, moved_break s a)
+    ∷ [])

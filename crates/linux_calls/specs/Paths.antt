@@ -1,16 +1,12 @@
 -- How a call reads a path, and what its directory argument means (docs/reference/calls.md, "Paths").
 use Rattle.std.specs.Prelude.{ℕ, zero, suc, ◌%◌, ◌^◌, Bool, false, ◌||◌, ◌==◌, if◌then◌else◌, Option, Some, None, Result, Ok, Err, List, [], ◌∷◌}
 use Rattle.std.specs.FinMap.{get, contains_key}
+use Rattle.ddc_base.specs.Results.{◌>>=◌}
 use Rattle.paged_mem.specs.Memory.{Memory}
 use Rattle.mem_files.specs.Names.{stripped}
 use Rattle.mem_files.specs.World.{World}
 use Rattle.mem_files.specs.Linux.{enoent, ebadf}
 use Rattle.linux_calls.specs.Linux.{efault, enotdir, enametoolong, at_fdcwd}
-
--- an error number passes, and a value goes on
-abbrev pub and_then : {A B : Type 0} → (A → Result B ℕ) → Result A ℕ → Result B ℕ
-and_then f (Ok x) = f x
-and_then f (Err errno) = Err errno
 
 -- the low 32 bits of a register
 abbrev pub low : ℕ → ℕ
@@ -18,7 +14,7 @@ low register = register % 2 ^ 32
 
 -- a text that begins with this byte, unless the byte ends it
 abbrev pub text_from : ℕ → Result (List ℕ) ℕ → Result (List ℕ) ℕ
-text_from byte rest = if byte == 0 then Ok [] else and_then (λ text. Ok (byte ∷ text)) rest
+text_from byte rest = if byte == 0 then Ok [] else (rest >>= λ text. Ok (byte ∷ text))
 
 abbrev pub text_or_fault : Option ℕ → Result (List ℕ) ℕ → Result (List ℕ) ℕ
 text_or_fault None rest = Err efault
@@ -35,7 +31,9 @@ not_empty (byte ∷ bytes) = Ok (byte ∷ bytes)
 
 -- the name of a file that a path names
 abbrev pub name_at : Memory → ℕ → Result (List ℕ) ℕ
-name_at m at = and_then (λ text. not_empty (stripped text)) (text_at m at 256)
+name_at m at = do
+  text ← text_at m at 256
+  not_empty (stripped text)
 
 -- does a name begin with `/`?
 abbrev pub is_absolute : List ℕ → Bool
@@ -50,4 +48,6 @@ in_directory w dir name =
 
 -- the name that a path names in a directory
 abbrev pub name_in_directory : Memory → World → ℕ → ℕ → Result (List ℕ) ℕ
-name_in_directory m w dir at = and_then (λ name. in_directory w dir name) (name_at m at)
+name_in_directory m w dir at = do
+  name ← name_at m at
+  in_directory w dir name

@@ -1,7 +1,6 @@
 //! The calls that take a path.
 
 ghost use Rattle.std.specs.Prelude.{◌≡◌};
-ghost use Rattle.linux_calls.specs.Paths.{name_in_directory, name_at};
 ghost use Rattle.linux_calls.specs.Calls.{answer_of, unlinked, accessed, mode_changed, opened_as};
 ghost use Rattle.linux_calls.specs.Inside.Parts.{IsFilesAnswer};
 
@@ -28,7 +27,7 @@ pub fn unlinkat<R: Ram>(
     at: u64,
     flags: u64,
 ) -> Result<u64, u16>
-    ensures { unlinked files.old flags (name_in_directory (R.bytes ram.now) files.old dir at) ≡ (result, files.new) }
+    ensures { unlinked (R.bytes ram.now) files.old dir at flags ≡ (result, files.new) }
 {
     let name = read_path_in(ram, files, dir, at)?;
     if low(flags) != 0 {
@@ -40,7 +39,7 @@ pub fn unlinkat<R: Ram>(
 
 /// faccessat(dir, path, mode)
 pub fn faccessat<R: Ram>(ram: &R, files: &Files, dir: u64, at: u64, mode: u64) -> Result<u64, u16>
-    ensures { result ≡ accessed files.now mode (name_in_directory (R.bytes ram.now) files.now dir at) }
+    ensures { result ≡ accessed (R.bytes ram.now) files.now dir at mode }
 {
     let name = read_path_in(ram, files, dir, at)?;
     if low(mode) > 7 {
@@ -54,7 +53,7 @@ pub fn faccessat<R: Ram>(ram: &R, files: &Files, dir: u64, at: u64, mode: u64) -
 
 /// fchmodat(dir, path, mode): the mode isn't kept.
 pub fn fchmodat<R: Ram>(ram: &R, files: &Files, dir: u64, at: u64) -> Result<u64, u16>
-    ensures { result ≡ mode_changed files.now (name_in_directory (R.bytes ram.now) files.now dir at) }
+    ensures { result ≡ mode_changed (R.bytes ram.now) files.now dir at }
 {
     let name = read_path_in(ram, files, dir, at)?;
     if !files.exists(&name) {
@@ -65,7 +64,7 @@ pub fn fchmodat<R: Ram>(ram: &R, files: &Files, dir: u64, at: u64) -> Result<u64
 
 /// openat(dir, path, flags, mode): the flags are looked at between the path and the directory.
 pub fn openat<R: Ram>(ram: &R, files: &mut Files, dir: u64, at: u64, flags: u64) -> CallEnd
-    ensures { IsFilesAnswer files.old files.new (opened_as files.old dir flags (name_at (R.bytes ram.now) at)) result }
+    ensures { IsFilesAnswer files.old files.new (opened_as (R.bytes ram.now) files.old dir at flags) result }
 {
     let name = match read_path(ram, at) {
         Ok(name) => name,

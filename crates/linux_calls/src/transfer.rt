@@ -1,13 +1,11 @@
 //! The calls that move bytes between memory and files.
 
 ghost use Rattle.std.specs.Prelude.{◌≡◌, true, IfOk, Some};
-ghost use Rattle.std.specs.FinMap.{get};
 ghost use Rattle.paged_mem.specs.Memory.{bytes_at, maps};
-ghost use Rattle.mem_files.specs.Calls.{ready, write_place};
 ghost use Rattle.linux_calls.specs.declared.Heap.{Heap as the_heap};
 ghost use Rattle.linux_calls.specs.Linux.{sys_read, sys_write};
 ghost use Rattle.linux_calls.specs.HeapOf.{IsHeapOf};
-ghost use Rattle.linux_calls.specs.Calls.{state, read_at, written_at};
+ghost use Rattle.linux_calls.specs.Calls.{state, answered, back as back_with, read_at, written_at};
 ghost use Rattle.linux_calls.specs.Answer.{IsAnswer};
 
 use crate::names::back;
@@ -17,11 +15,11 @@ use mem_files::{EBADF, Files};
 use paged_mem::{Ram, StoreRefusal};
 use std::alloc::{AllocError, Global};
 
-/// read(fd, buffer, count): the bytes are read_at, all or none.
+/// read(fd, buffer, count): the bytes that are ready are read, all or none.
 pub fn read<R: Ram>(ram: &mut R, files: &mut Files, fd: u32, buffer: u64, count: u64) -> CallEnd
     ensures answer { (heap : the_heap)
         → IsAnswer sys_read (state (R.bytes ram.old) files.old heap) (state (R.bytes ram.new) files.new heap)
-        (read_at (state (R.bytes ram.old) files.old heap) fd buffer (ready files.old fd count)) result }
+        (answered (state (R.bytes ram.old) files.old heap) (read_at (state (R.bytes ram.old) files.old heap) fd buffer count)) result }
     ensures kept { (heap : the_heap) → IsHeapOf (R.bytes ram.old) heap → IsHeapOf (R.bytes ram.new) heap }
 {
     let bytes = match files.ready(fd, count) {
@@ -63,7 +61,7 @@ pub fn write<R: Ram>(
 ) -> CallEnd
     ensures { (heap : the_heap)
         → IsAnswer sys_write (state (R.bytes ram.now) files.old heap) (state (R.bytes ram.now) files.new heap)
-        (written_at (state (R.bytes ram.now) files.old heap) fd buffer count (write_place files.old (get files.old.open_files fd))) result }
+        (back_with (state (R.bytes ram.now) files.old heap) (written_at (R.bytes ram.now) files.old fd buffer count)) result }
 {
     if !files.is_writable(fd) {
         return back(Err(EBADF));

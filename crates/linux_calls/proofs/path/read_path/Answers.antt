@@ -2,7 +2,8 @@ use Rattle.std.proofs.Common.{◌≡◌, ◌≢◌, ◌==◌, ℕ, List, false, 
 use Rattle.std.specs.Prelude.{IsTrue}
 use Rattle.std.proofs.lemmas.Bool.{eqb-false}
 use Rattle.mem_files.specs.Names.{stripped, is_stripped_name}
-use Rattle.linux_calls.specs.Paths.{and_then, not_empty}
+use Rattle.ddc_base.specs.Results.{◌>>=◌}
+use Rattle.linux_calls.specs.Paths.{not_empty}
 use Rattle.linux_calls.proofs.Texts.{text_at-is, name_of_text, not_empty-some, stripped-is}
 use Rattle.linux_calls.proofs.path.read_path.Goals as goal
 
@@ -17,7 +18,7 @@ unreachable-requires g c =
 pub returns-clause-value : goal.returns-clause-value
 returns-clause-value g c =
     let shown = c.strip-name.ensures ∙ ap stripped c.deref.ensures.0 in
-    ap (and_then (λ text. not_empty (stripped text))) c.in_ok-text.ensures
+    ap (λ reading. reading >>= λ text. not_empty (stripped text)) c.in_ok-text.ensures
     ∙ not_empty-some (stripped c.in_ok-text.text.items) (some c.strip-name.result.now _ (sym c.is_empty.ensures ∙ c.if-is_empty.false) shown)
     ∙ ap Ok (sym (c.in-Ok.ensures.0 ∙ shown))
 
