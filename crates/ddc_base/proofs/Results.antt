@@ -1,5 +1,5 @@
 -- What holds of the value of a reading, step by step.
-use Rattle.std.proofs.Common.{◌≡◌, Bool, true, false, Option, None, Some, Result, Ok, Err, IfOk, refl, if◌then◌else◌}
+use Rattle.std.proofs.Common.{◌≡◌, Bool, true, false, Option, None, Some, Result, Ok, Err, IfOk, refl, subst, if◌then◌else◌}
 use Rattle.ddc_base.specs.Results.{◌>>=◌, ◌>>◌, or_error, error_unless}
 
 -- a reading without an error has such a value. As a record: what it speaks of is found from the goal
@@ -28,3 +28,7 @@ found error None rest each = record { is = tt }
 pub chosen : {A E : Type 0} {P : A → Type 0} (test : Bool) (first second : Result A E) → (test ≡ true → Yields P first) → Yields P second → Yields P (if test then first else second)
 chosen true first second holds other = holds refl
 chosen false first second holds other = other
+
+-- what holds of the value of a reading holds of what it gave
+pub taken : {A E : Type 0} {P : A → Type 0} (reading : Result A E) (value : A) → Yields P reading → reading ≡ Ok value → P value
+taken {P = P} reading value holds is = subst (λ r. IfOk r P) is holds.is

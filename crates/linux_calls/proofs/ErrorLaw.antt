@@ -16,7 +16,7 @@ use Rattle.mem_files.specs.Linux.{ebadf, einval, o_accmode, o_creat, o_excl}
 use Rattle.mem_files.specs.Calls.{removed, removed_at, opened, opened_at, closed, closed_at, sought, sought_at, with_file_offset, write_place, written, written_if, fits, has}
 use Rattle.linux_calls.specs.Linux.{efault, sys_unlinkat, sys_faccessat, sys_fchmodat, sys_openat, sys_close, sys_lseek, sys_read, sys_write, sys_exit, sys_exit_group, sys_brk}
 use Rattle.linux_calls.specs.Paths.{low, name_in_directory, name_at, in_directory}
-use Rattle.linux_calls.specs.Calls.{CallState, CallOutcome, is_unknown, answered, answering, back, moved_break, opened_as, or_left, read_at, syscall, unlinked, written_at}
+use Rattle.linux_calls.specs.Calls.{CallState, CallOutcome, is_unknown, or_same_state, answering, back, moved_break, opened_as, or_same_files, read_at, syscall, unlinked, written_at}
 use Rattle.linux_calls.specs.Rules.{LeavesOnError}
 
 -- a pair whose error leaves the files
@@ -74,7 +74,7 @@ leaves-written w fd bytes = at (fits w fd (length bytes))
     at (Ok done) = λ e. cc
     at (Err errno) = λ e. refl
 
-leaves-left : (w : World) (reading : Result (Result ℕ ℕ × World) ℕ) → Yields (Leaves w) reading → Leaves w (or_left w reading)
+leaves-left : (w : World) (reading : Result (Result ℕ ℕ × World) ℕ) → Yields (Leaves w) reading → Leaves w (or_same_files w reading)
 leaves-left w (Ok meant) holds = holds.is
 leaves-left w (Err errno) holds = λ e. refl
 
@@ -107,9 +107,9 @@ chosen s false x y p q = q
 left-back : (s : CallState) (meant : Result ℕ ℕ × World) → Leaves s.files meant → Left s (back s meant)
 left-back s meant p = record { is = λ e. ap (λ files. record s { files = files }) (p e) }
 
-left-answered : (s : CallState) (reading : Result (ℕ × CallState) ℕ) → Left s (answered s reading)
-left-answered s (Ok done) = record { is = λ e. cc }
-left-answered s (Err errno) = record { is = λ e. refl }
+left-or_same_state : (s : CallState) (reading : Result (ℕ × CallState) ℕ) → Left s (or_same_state s reading)
+left-or_same_state s (Ok done) = record { is = λ e. cc }
+left-or_same_state s (Err errno) = record { is = λ e. refl }
 
 every : (number : ℕ) (a : List ℕ) (s : CallState) → Left s (syscall number a s)
 every number a s =
@@ -121,7 +121,7 @@ every number a s =
     (chosen s (number == sys_openat) _ _ (left-back s _ (leaves-opened_as s.memory w (arg 0) (arg 1) (arg 2)))
     (chosen s (number == sys_close) _ _ (left-back s _ (leaves-answering w 0 (closed w (low (arg 0))).0 (closed w (low (arg 0))).1 (leaves-closed w (low (arg 0)))))
     (chosen s (number == sys_lseek) _ _ (left-back s _ (leaves-sought w (low (arg 0)) (cast_signed w64 (arg 1)) (low (arg 2))))
-    (chosen s (number == sys_read) _ _ (left-answered s (read_at s (low (arg 0)) (arg 1) (arg 2)))
+    (chosen s (number == sys_read) _ _ (left-or_same_state s (read_at s (low (arg 0)) (arg 1) (arg 2)))
     (chosen s (number == sys_write) _ _ (left-back s _ (leaves-written_at s.memory w (low (arg 0)) (arg 1) (arg 2)))
     (chosen s (number == sys_exit) _ _ (record { is = tt })
     (chosen s (number == sys_exit_group) _ _ (record { is = tt })

@@ -15,7 +15,7 @@ use Rattle.mem_files.specs.World.{World}
 use Rattle.mem_files.specs.Calls.{ready}
 use Rattle.linux_calls.specs.declared.Heap.{Heap}
 use Rattle.linux_calls.specs.HeapOf.{is_apart_from_heap, is_outside, IsHeapOf, resized}
-use Rattle.linux_calls.specs.Calls.{CallOutcome, CallState, answered, moved_break, read_at, syscall}
+use Rattle.linux_calls.specs.Calls.{CallOutcome, CallState, or_same_state, moved_break, read_at, syscall}
 use Rattle.linux_calls.specs.Calls as call
 use Rattle.linux_calls.specs.Paths.{low}
 use Rattle.linux_calls.specs.Linux.{efault, sys_unlinkat, sys_faccessat, sys_fchmodat, sys_openat, sys_close, sys_lseek, sys_read, sys_write, sys_exit, sys_exit_group, sys_brk}
@@ -51,13 +51,13 @@ nothing : (s : CallState) (answer : Result ℕ ℕ) → IsHeapOf s.memory s.heap
 nothing s answer is = record { is = record { first = refl; limit = refl; heap_of = is; clear = λ q apart. refl } }
 
 -- read moves bytes to where bytes are
-answered_keeps : (s : CallState) (reading : Result (ℕ × CallState) ℕ) → IsHeapOf s.memory s.heap → Yields (λ done. Keeps s done.1) reading → Kept s (answered s reading)
-answered_keeps s (Ok done) is keeps = record { is = keeps.is }
-answered_keeps s (Err errno) is keeps = nothing s _ is
+same_state_keeps : (s : CallState) (reading : Result (ℕ × CallState) ℕ) → IsHeapOf s.memory s.heap → Yields (λ done. Keeps s done.1) reading → Kept s (or_same_state s reading)
+same_state_keeps s (Ok done) is keeps = record { is = keeps.is }
+same_state_keeps s (Err errno) is keeps = nothing s _ is
 
-read_keeps : (s : CallState) (fd buffer count : ℕ) → IsHeapOf s.memory s.heap → Kept s (answered s (read_at s fd buffer count))
+read_keeps : (s : CallState) (fd buffer count : ℕ) → IsHeapOf s.memory s.heap → Kept s (or_same_state s (read_at s fd buffer count))
 read_keeps s fd buffer count is =
-    answered_keeps s _ is
+    same_state_keeps s _ is
     (bound (ready s.files fd count) _ (λ bytes given.
     either (length bytes == 0) _ _ (λ none. record { is = record { first = refl; limit = refl; heap_of = is; clear = λ q apart. refl } })
     (tested efault (maps s.memory buffer (length bytes)) _

@@ -25,7 +25,7 @@ use Rattle.mem_files.proofs.Rules.{kept_of}
 use Rattle.linux_calls.specs.Linux.{efault, sys_unlinkat, sys_faccessat, sys_fchmodat, sys_openat, sys_close, sys_lseek, sys_read, sys_write, sys_exit, sys_exit_group, sys_brk}
 use Rattle.linux_calls.specs.Paths.{in_directory, low, name_at, name_in_directory}
 use Rattle.linux_calls.specs.HeapOf.{IsHeapOf, is_outside}
-use Rattle.linux_calls.specs.Calls.{CallState, CallOutcome, is_unknown, accessed, answer_of, answered, answering, back, mode_changed, moved_break, opened_as, or_left, read_at, syscall, unlinked, written_at}
+use Rattle.linux_calls.specs.Calls.{CallState, CallOutcome, is_unknown, accessed, answer_of, or_same_state, answering, back, mode_changed, moved_break, opened_as, or_same_files, read_at, syscall, unlinked, written_at}
 use Rattle.linux_calls.specs.Rules.{IsState, LeavesNumber}
 use Rattle.linux_calls.proofs.Keeping.{inside}
 
@@ -57,7 +57,7 @@ answering-small : {A : Type 0} (value : ℕ) (r : Result A ℕ) (files : World) 
 answering-small value (Ok done) files small = a_value value small
 answering-small value (Err errno) files small = an_error errno
 
-left-small : (w : World) (reading : Result (Result ℕ ℕ × World) ℕ) → Yields (λ meant. Value meant.0) reading → Value (or_left w reading).0
+left-small : (w : World) (reading : Result (Result ℕ ℕ × World) ℕ) → Yields (λ meant. Value meant.0) reading → Value (or_same_files w reading).0
 left-small w (Ok meant) small = small.is
 left-small w (Err errno) small = an_error errno
 
@@ -151,13 +151,13 @@ ready-small w fd count bytes sound e = at_open_file (get w.open_files fd) e
     at_open_file (Some Stream2) e = cc
     at_open_file (Some (File number file_offset access)) e = readable (is_read access) number file_offset e
 
-answered-small : (s : CallState) (reading : Result (ℕ × CallState) ℕ) → Yields (λ done. done.0 < 2 ^ 64) reading → Small (answered s reading)
-answered-small s (Ok done) small = record { is = small.is }
-answered-small s (Err errno) small = record { is = (an_error errno).is }
+same-state-small : (s : CallState) (reading : Result (ℕ × CallState) ℕ) → Yields (λ done. done.0 < 2 ^ 64) reading → Small (or_same_state s reading)
+same-state-small s (Ok done) small = record { is = small.is }
+same-state-small s (Err errno) small = record { is = (an_error errno).is }
 
-read-small : (s : CallState) (fd buffer count : ℕ) → IsSound s.files → Small (answered s (read_at s fd buffer count))
+read-small : (s : CallState) (fd buffer count : ℕ) → IsSound s.files → Small (or_same_state s (read_at s fd buffer count))
 read-small s fd buffer count sound =
-    answered-small s _ (bound (ready s.files fd count) _ (λ bytes is.
+    same-state-small s _ (bound (ready s.files fd count) _ (λ bytes is.
     either (length bytes == 0) _ _ (λ none. record { is = omega arith })
     (tested efault (maps s.memory buffer (length bytes)) _ (λ there. record { is = ready-small s.files fd count bytes sound is }))))
 

@@ -20,7 +20,7 @@ use Rattle.mem_files.specs.Sound.{AreBytes, IsSound}
 use Rattle.mem_files.proofs.Rules.{closed-sound, removed-sound, opened-sound, skipped-sound, sought-sound, stripped-bytes, written-sound}
 use Rattle.linux_calls.specs.Linux.{at_fdcwd, efault, enotdir, sys_unlinkat, sys_faccessat, sys_fchmodat, sys_openat, sys_close, sys_lseek, sys_read, sys_write, sys_exit, sys_exit_group, sys_brk}
 use Rattle.linux_calls.specs.Paths.{in_directory, is_absolute, low, name_at, name_in_directory, not_empty, text_at, text_from, text_or_fault}
-use Rattle.linux_calls.specs.Calls.{CallState, CallOutcome, is_unknown, answered, answering, back, moved_break, opened_as, or_left, read_at, syscall, unlinked, written_at}
+use Rattle.linux_calls.specs.Calls.{CallState, CallOutcome, is_unknown, or_same_state, answering, back, moved_break, opened_as, or_same_files, read_at, syscall, unlinked, written_at}
 use Rattle.linux_calls.specs.Rules.{LeavesSound}
 use Rattle.linux_calls.proofs.Texts.{text_at-is, name_of_text}
 use Rattle.paged_mem.proofs.Wholes.{bytes_at-bytes}
@@ -97,7 +97,7 @@ answering-sound : {A : Type 0} (value : ℕ) (r : Result A ℕ) (files : World) 
 answering-sound value (Ok done) files s = s
 answering-sound value (Err errno) files s = s
 
-left-sound : (w : World) (reading : Result (Result ℕ ℕ × World) ℕ) → IsSound w → Yields (λ meant. IsSound meant.1) reading → IsSound (or_left w reading).1
+left-sound : (w : World) (reading : Result (Result ℕ ℕ × World) ℕ) → IsSound w → Yields (λ meant. IsSound meant.1) reading → IsSound (or_same_files w reading).1
 left-sound w (Ok meant) sound kept = kept.is
 left-sound w (Err errno) sound kept = sound
 
@@ -135,13 +135,13 @@ chosen false x y p q = q
 back-sound : (s : CallState) (meant : Result ℕ ℕ × World) → IsSound meant.1 → Sound (back s meant)
 back-sound s meant p = record { is = p }
 
-answered-sound : (s : CallState) (reading : Result (ℕ × CallState) ℕ) → IsSound s.files → Yields (λ done. IsSound done.1.files) reading → Sound (answered s reading)
-answered-sound s (Ok done) sound kept = record { is = kept.is }
-answered-sound s (Err errno) sound kept = record { is = sound }
+same-state-sound : (s : CallState) (reading : Result (ℕ × CallState) ℕ) → IsSound s.files → Yields (λ done. IsSound done.1.files) reading → Sound (or_same_state s reading)
+same-state-sound s (Ok done) sound kept = record { is = kept.is }
+same-state-sound s (Err errno) sound kept = record { is = sound }
 
-read-sound : (s : CallState) (fd buffer count : ℕ) → IsSound s.files → Sound (answered s (read_at s fd buffer count))
+read-sound : (s : CallState) (fd buffer count : ℕ) → IsSound s.files → Sound (or_same_state s (read_at s fd buffer count))
 read-sound s fd buffer count sound =
-    answered-sound s _ sound
+    same-state-sound s _ sound
     (bound (ready s.files fd count) _ (λ bytes is.
     either (length bytes == 0) _ _ (λ none. record { is = sound })
     (tested efault (maps s.memory buffer (length bytes)) _ (λ there. record { is = skipped-sound s.files fd (length bytes) sound (ready_again s.files fd count bytes is) }))))

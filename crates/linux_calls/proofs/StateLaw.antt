@@ -21,7 +21,7 @@ use Rattle.linux_calls.specs.declared.Heap.{Heap}
 use Rattle.linux_calls.specs.Linux.{efault, sys_unlinkat, sys_faccessat, sys_fchmodat, sys_openat, sys_close, sys_lseek, sys_read, sys_write, sys_exit, sys_exit_group, sys_brk}
 use Rattle.linux_calls.specs.Paths.{low}
 use Rattle.linux_calls.specs.HeapOf.{IsHeapOf, is_outside, resized}
-use Rattle.linux_calls.specs.Calls.{CallState, CallOutcome, goes, exits, is_unknown, answered, back, moved_break, read_at, syscall}
+use Rattle.linux_calls.specs.Calls.{CallState, CallOutcome, goes, exits, is_unknown, or_same_state, back, moved_break, read_at, syscall}
 use Rattle.linux_calls.specs.Rules.{IsState, LeavesSound, LeavesState}
 use Rattle.paged_mem.proofs.Wholes.{whole-mapped, whole-without, whole-written}
 use Rattle.linux_calls.proofs.SoundLaw.{syscall-sound}
@@ -60,13 +60,13 @@ chosen false x y p q = q
 back-whole : (s : CallState) (meant : Result ℕ ℕ × World) → IsWhole s.memory → Whole (back s meant)
 back-whole s meant whole = record { is = whole }
 
-answered-whole : (s : CallState) (reading : Result (ℕ × CallState) ℕ) → IsWhole s.memory → Yields (λ done. IsWhole done.1.memory) reading → Whole (answered s reading)
-answered-whole s (Ok done) whole kept = record { is = kept.is }
-answered-whole s (Err errno) whole kept = record { is = whole }
+same-state-whole : (s : CallState) (reading : Result (ℕ × CallState) ℕ) → IsWhole s.memory → Yields (λ done. IsWhole done.1.memory) reading → Whole (or_same_state s reading)
+same-state-whole s (Ok done) whole kept = record { is = kept.is }
+same-state-whole s (Err errno) whole kept = record { is = whole }
 
-read-whole : (s : CallState) (fd buffer count : ℕ) → IsWhole s.memory → IsSound s.files → Whole (answered s (read_at s fd buffer count))
+read-whole : (s : CallState) (fd buffer count : ℕ) → IsWhole s.memory → IsSound s.files → Whole (or_same_state s (read_at s fd buffer count))
 read-whole s fd buffer count whole sound =
-    answered-whole s _ whole
+    same-state-whole s _ whole
     (bound (ready s.files fd count) _ (λ bytes is.
     either (length bytes == 0) _ _ (λ none. record { is = whole })
     (tested efault (maps s.memory buffer (length bytes)) _

@@ -12,7 +12,7 @@ use Rattle.linux_calls.specs.declared.CallEnd.{CallEnd}
 use Rattle.linux_calls.specs.declared.CallEnd.TheVariants.{Back, OutOfMemory}
 use Rattle.mem_files.specs.Linux.{ebadf}
 use Rattle.linux_calls.specs.Linux.{efault, sys_write}
-use Rattle.linux_calls.specs.Calls.{state, CallOutcome, back, answer_of, answering, or_left, written_at}
+use Rattle.linux_calls.specs.Calls.{state, CallOutcome, back, answer_of, answering, or_same_files, written_at}
 use Rattle.linux_calls.specs.Answer.{IsAnswer}
 
 module _ (m : Memory) (w : World) (fd buffer count : ℕ) (writable : is_some (write_place w (get w.open_files fd)) ≡ true) (some : count ≢ 0) (heap : Heap) where
@@ -24,7 +24,7 @@ module _ (m : Memory) (w : World) (fd buffer count : ℕ) (writable : is_some (w
   meant_is bytes there = ap (back (state m w heap)) is
     where
       through : Bool → Option (ℕ × ℕ) → Option (List ℕ) → Result ℕ ℕ × World
-      through empty place there = or_left w do
+      through empty place there = or_same_files w do
         _ ← or_error ebadf place
         if empty then Ok (Ok 0, w) else (do
           bytes ← or_error efault there

@@ -37,23 +37,23 @@ answer_of (Err errno) = (2 ^ 64 - errno) % 2 ^ 64
 abbrev pub back : CallState → Result ℕ ℕ × World → CallOutcome
 back s meant = goes meant.0 (record s { files = meant.1 })
 
--- a value with the state after it, or an error, which leaves the state
-abbrev pub answered : CallState → Result (ℕ × CallState) ℕ → CallOutcome
-answered s (Ok (value, next)) = goes (Ok value) next
-answered s (Err errno) = goes (Err errno) s
+-- a value with the state after it, or an error with the same state
+abbrev pub or_same_state : CallState → Result (ℕ × CallState) ℕ → CallOutcome
+or_same_state s (Ok (value, next)) = goes (Ok value) next
+or_same_state s (Err errno) = goes (Err errno) s
 
 -- an answer that is `value` where there is no error
 abbrev pub answering : {A : Type 0} → ℕ → Result A ℕ × World → Result ℕ ℕ × World
 answering value (Ok done, files) = (Ok value, files)
 answering value (Err errno, files) = (Err errno, files)
 
--- what a call on the files comes to, or the error by which it never comes to them
-abbrev pub or_left : World → Result (Result ℕ ℕ × World) ℕ → Result ℕ ℕ × World
-or_left w (Ok meant) = meant
-or_left w (Err errno) = (Err errno, w)
+-- what a call on the files comes to, or an error before it with the same files
+abbrev pub or_same_files : World → Result (Result ℕ ℕ × World) ℕ → Result ℕ ℕ × World
+or_same_files w (Ok meant) = meant
+or_same_files w (Err errno) = (Err errno, w)
 
 abbrev pub unlinked : Memory → World → ℕ → ℕ → ℕ → Result ℕ ℕ × World
-unlinked m w directory path flags = or_left w do
+unlinked m w directory path flags = or_same_files w do
   name ← name_in_directory m w directory path
   error_unless einval (low flags == 0)
   Ok (answering 0 (removed w name))
@@ -74,7 +74,7 @@ mode_changed m w directory path = do
 
 -- the flags are looked at between the path and the directory
 abbrev pub opened_as : Memory → World → ℕ → ℕ → ℕ → Result ℕ ℕ × World
-opened_as m w directory path flags = or_left w do
+opened_as m w directory path flags = or_same_files w do
   name ← name_at m path
   error_unless einval (not (bit_and (low flags) o_accmode == o_accmode))
   here ← in_directory w directory name
@@ -90,7 +90,7 @@ read_at s fd buffer count = do
 
 -- the bytes are written, all or none
 abbrev pub written_at : Memory → World → ℕ → ℕ → ℕ → Result ℕ ℕ × World
-written_at m w fd buffer count = or_left w do
+written_at m w fd buffer count = or_same_files w do
   place ← or_error ebadf (write_place w (get w.open_files fd))
   if count == 0 then Ok (Ok 0, w) else (do
     bytes ← or_error efault (bytes_at m buffer count)
@@ -121,7 +121,7 @@ syscall number arguments s =
     ∷ (sys_openat, back s (opened_as s.memory s.files a b c))
     ∷ (sys_close, back s (answering 0 (closed s.files (low a))))
     ∷ (sys_lseek, back s (sought s.files (low a) (cast_signed w64 b) (low c)))
-    ∷ (sys_read, answered s (read_at s (low a) b c))
+    ∷ (sys_read, or_same_state s (read_at s (low a) b c))
     ∷ (sys_write, back s (written_at s.memory s.files (low a) b c))
     ∷ (sys_exit, exits (a % 256))
     ∷ (sys_exit_group, exits (a % 256))

@@ -5,7 +5,7 @@ ghost use Rattle.paged_mem.specs.Memory.{bytes_at, maps};
 ghost use Rattle.linux_calls.specs.declared.Heap.{Heap as the_heap};
 ghost use Rattle.linux_calls.specs.Linux.{sys_read, sys_write};
 ghost use Rattle.linux_calls.specs.HeapOf.{IsHeapOf};
-ghost use Rattle.linux_calls.specs.Calls.{state, answered, back as back_with, read_at, written_at};
+ghost use Rattle.linux_calls.specs.Calls.{state, or_same_state, back as back_with, read_at, written_at};
 ghost use Rattle.linux_calls.specs.Answer.{IsAnswer};
 
 use crate::names::back;
@@ -19,7 +19,7 @@ use std::alloc::{AllocError, Global};
 pub fn read<R: Ram>(ram: &mut R, files: &mut Files, fd: u32, buffer: u64, count: u64) -> CallEnd
     ensures answer { (heap : the_heap)
         → IsAnswer sys_read (state (R.bytes ram.old) files.old heap) (state (R.bytes ram.new) files.new heap)
-        (answered (state (R.bytes ram.old) files.old heap) (read_at (state (R.bytes ram.old) files.old heap) fd buffer count)) result }
+        (or_same_state (state (R.bytes ram.old) files.old heap) (read_at (state (R.bytes ram.old) files.old heap) fd buffer count)) result }
     ensures kept { (heap : the_heap) → IsHeapOf (R.bytes ram.old) heap → IsHeapOf (R.bytes ram.new) heap }
 {
     let bytes = match files.ready(fd, count) {
