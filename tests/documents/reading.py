@@ -1,7 +1,7 @@
-"""What every document keeps: README is read in five minutes, a page says in its first line which question it answers, and days stand in the log."""
+"""What every document keeps: its length, a page's question in its first line, and days in the log alone."""
 import re
 
-README_WORDS = 1500
+MOST_WORDS = {"README.md": 1500, "docs/TESTING.md": 2500, "docs/DECISIONS.md": 3500, "docs/PROVING.md": 6000}
 DATED = ("docs/LOG.md", "docs/BENCHMARKS.md")
 
 
@@ -16,10 +16,11 @@ def asks(text):
 
 
 def faults(root):
-    """Each fault, behind the name of its document."""
-    count = words((root / "README.md").read_text())
-    if count > README_WORDS:
-        yield f"README.md: {count} words, more than {README_WORDS}"
+    """Each fault, after the name of its document."""
+    for name, most in MOST_WORDS.items():
+        count = words((root / name).read_text())
+        if count > most:
+            yield f"{name}: {count} words, more than {most}"
     for page in sorted((root / "docs").rglob("*.md")):
         if not asks(page.read_text()):
             yield f"{page.relative_to(root)}: no question under the title"
