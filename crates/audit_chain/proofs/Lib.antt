@@ -1,2 +1,3 @@
 mod Turns
 mod Composing
+pub mod RestsLemmas

@@ -79,12 +79,12 @@ fn push_line(
     }
     lines.push(ChainLine {
         audit: earlier.len() as u32 + 1,
-        line: copy(line),
+        line: copy_line(line),
     })
 }
 
 /// The same line again.
-fn copy(line: &Assumption) -> Assumption
+pub(crate) fn copy_line(line: &Assumption) -> Assumption
     ensures { result ≡ line.now }
 {
     match line {

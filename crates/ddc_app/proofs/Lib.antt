@@ -17,3 +17,4 @@ pub mod Leaving
 pub mod Relative
 pub mod Differing
 pub mod Scripting
+mod Written

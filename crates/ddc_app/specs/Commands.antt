@@ -19,7 +19,10 @@ use Rattle.audit_commands.specs.Demo.{demo_plan}
 use Rattle.stage_commands.specs.Cut.{cut_plan}
 use Rattle.stage_commands.specs.Ends.{ends_plan}
 use Rattle.stage_commands.specs.Segment.{segment_plan}
+use Rattle.verify_commands.specs.Rests.{rests_plan}
 use Rattle.verify_commands.specs.Verify.{verify_plan}
+use Rattle.ddc_app.specs.Help.{help_plan}
+use Rattle.ddc_app.specs.Version.{version_plan}
 
 -- what the commands do that say one text
 abbrev pub text_plan : List (List ℕ) → Plan
@@ -44,7 +47,12 @@ text_plan (command ∷ words) =
     else (if bytes_eq command (codes "chain") then chain_plan words
     else (if bytes_eq command (codes "kaem") then kaem_plan words
     else (if bytes_eq command (codes "kaem-verify") then kaem_verify_plan words
-    else usage))))))))))))))))))
+    else (if bytes_eq command (codes "rests") then rests_plan words
+    else (if bytes_eq command (codes "help") then help_plan words
+    else (if bytes_eq command (codes "--help") then help_plan words
+    else (if bytes_eq command (codes "version") then version_plan words
+    else (if bytes_eq command (codes "--version") then version_plan words
+    else usage)))))))))))))))))))))))
 
 -- whether a command line is one of `step`, the command that may begin a session
 abbrev pub is_step : List (List ℕ) → Bool

@@ -10,3 +10,5 @@ pub mod Judged
 pub mod Chained
 pub mod ChainJudged
 pub mod Scripted
+pub mod Help
+pub mod Version

@@ -16,6 +16,7 @@ ghost use Rattle.ddc_app.specs.Run.{plan_for, expected, IsExpected, IsOneText, L
 ghost use Rattle.ddc_app.specs.Inside.Concluding.{Closes, Leaves, PutEnds, SaysEnding, unless_lost};
 
 use crate::laws::{chained, verified};
+use crate::{help, version};
 use audit_commands::{audit, delta_resume, delta_start, demo, part, resume, show};
 use command_plan::{Answer, Status, Stop, usage};
 use ddc_base::{PutFail, Shelf, Sink};
@@ -23,7 +24,7 @@ use prompt::Prompt;
 use stage_commands::{cut, ends, left, segment, step};
 use std::alloc::Global;
 use tool_commands::{asm, hex0, kaem, kaem_verify, list, run};
-use verify_commands::{chain, verify};
+use verify_commands::{chain, rests, verify};
 use wheeler::Meaning;
 
 /// Everything that the program does: it takes the words of the command line, without the program's own name, and answers the
@@ -192,6 +193,11 @@ fn perform<M: Meaning, S: Shelf>(
         "chain" => chain::perform(alloc, words, shelf),
         "kaem" => kaem::perform(alloc, words, shelf),
         "kaem-verify" => kaem_verify::perform(alloc, words, shelf),
+        "rests" => rests::perform(alloc, words, shelf),
+        "help" => help::perform(alloc, words),
+        "--help" => help::perform(alloc, words),
+        "version" => version::perform(alloc, words),
+        "--version" => version::perform(alloc, words),
         _ => usage(alloc),
     }
 }

@@ -1,2 +1,3 @@
 -- No promise rests on this file being read.
 pub mod Ends
+pub mod BasisTexts

@@ -1,5 +1,6 @@
 pub mod Chain
 pub mod ChainTexts
 pub mod Inside
+pub mod Rests
 pub mod Texts
 pub mod Verify

@@ -1,10 +1,12 @@
-//! The commands that rest on the verifier: a report is judged, and several are, one after the other.
+//! The commands that judge: a report, several of them one after the other, and what a stage's artefact rests on.
 //!
-//! Their rules for people: docs/reference/command-line.md, and docs/reference/verify.md for what a replay judges.
+//! Their rules for people: docs/reference/command-line.md, and docs/reference/verify.md for what a replay judges,
+//! docs/reference/rests.md for what an artefact rests on.
 #![tactic(auto)]
 
 pub mod chain;
 mod chain_texts;
 mod pair;
+pub mod rests;
 pub mod texts;
 pub mod verify;

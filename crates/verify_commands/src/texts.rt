@@ -121,7 +121,7 @@ fn place_of(recipe: &Recipe, name: &Name) -> Option<usize>
 }
 
 /// Adds a line for each assumption.
-fn put_assumptions(
+pub(crate) fn put_assumptions(
     alloc: Global,
     text: &mut Bytes,
     assumptions: &[Assumption],

@@ -1,0 +1,11 @@
+//! What a stage's artefact rests on: the texts that people read, and what has to be believed of programs.
+//!
+//! The rules for people: docs/reference/rests.md.
+
+mod basis_part;
+pub mod laws;
+mod resting;
+mod walking;
+
+pub use basis_part::{BasisPart, BasisParts};
+pub use resting::{Basis, basis_of};

@@ -1,0 +1,232 @@
+//! The commands by the words that name them, and what is said of each.
+
+ghost use Rattle.std.specs.Prelude.{◌≡◌, bytes_eq, find, option_map};
+ghost use Rattle.ddc_app.specs.Help.{all_commands, command_answers, command_form, command_name, command_named, command_statuses};
+
+/// A command of the program, in the order in which they are listed.
+#[derive(Clone, Copy, PartialEq, Eq)]
+pub enum CommandWord {
+    Hex0,
+    Asm,
+    List,
+    Run,
+    Audit,
+    Part,
+    Resume,
+    DeltaStart,
+    DeltaResume,
+    Show,
+    Verify,
+    Chain,
+    Rests,
+    Step,
+    Left,
+    Cut,
+    Segment,
+    Ends,
+    Kaem,
+    KaemVerify,
+    Demo,
+    Help,
+    Version,
+}
+
+/// All commands, in order.
+static COMMANDS: [CommandWord; 23] = [
+    CommandWord::Hex0,
+    CommandWord::Asm,
+    CommandWord::List,
+    CommandWord::Run,
+    CommandWord::Audit,
+    CommandWord::Part,
+    CommandWord::Resume,
+    CommandWord::DeltaStart,
+    CommandWord::DeltaResume,
+    CommandWord::Show,
+    CommandWord::Verify,
+    CommandWord::Chain,
+    CommandWord::Rests,
+    CommandWord::Step,
+    CommandWord::Left,
+    CommandWord::Cut,
+    CommandWord::Segment,
+    CommandWord::Ends,
+    CommandWord::Kaem,
+    CommandWord::KaemVerify,
+    CommandWord::Demo,
+    CommandWord::Help,
+    CommandWord::Version,
+];
+
+impl CommandWord {
+    /// All of them, in order.
+    #[tactic(auto, unfolding(crate::specs::Help::all_commands))]
+    pub fn all() -> &'static [CommandWord; 23]
+        ensures { result.now ≡ all_commands }
+    {
+        &COMMANDS
+    }
+
+    /// The command that a word names, and `None` for every other word.
+    #[tactic(auto, unfolding(crate::specs::Help::command_named))]
+    pub fn named(word: &str) -> Option<CommandWord>
+        ensures { result ≡ command_named word.now }
+    {
+        match named_in(CommandWord::all(), word) {
+            Some(command) => Some(*command),
+            None => None,
+        }
+    }
+
+    /// The word that names it.
+    #[tactic(auto, unfolding(crate::specs::Help::command_name))]
+    pub fn name(self) -> &'static str
+        ensures { result.now ≡ command_name self }
+    {
+        match self {
+            CommandWord::Hex0 => "hex0",
+            CommandWord::Asm => "asm",
+            CommandWord::List => "list",
+            CommandWord::Run => "run",
+            CommandWord::Audit => "audit",
+            CommandWord::Part => "part",
+            CommandWord::Resume => "resume",
+            CommandWord::DeltaStart => "delta-start",
+            CommandWord::DeltaResume => "delta-resume",
+            CommandWord::Show => "show",
+            CommandWord::Verify => "verify",
+            CommandWord::Chain => "chain",
+            CommandWord::Rests => "rests",
+            CommandWord::Step => "step",
+            CommandWord::Left => "left",
+            CommandWord::Cut => "cut",
+            CommandWord::Segment => "segment",
+            CommandWord::Ends => "ends",
+            CommandWord::Kaem => "kaem",
+            CommandWord::KaemVerify => "kaem-verify",
+            CommandWord::Demo => "demo",
+            CommandWord::Help => "help",
+            CommandWord::Version => "version",
+        }
+    }
+
+    /// Its words, as they are called.
+    #[tactic(auto, unfolding(crate::specs::Help::command_form))]
+    pub fn form(self) -> &'static str
+        ensures { result.now ≡ command_form self }
+    {
+        match self {
+            CommandWord::Hex0 => "hex0 SOURCE BINARY",
+            CommandWord::Asm => "asm LANG BASE SOURCE OUT",
+            CommandWord::List => "list BINARY",
+            CommandWord::Run => "run PROGRAM STEPS ARG..",
+            CommandWord::Audit => "audit RECIPE REPORT",
+            CommandWord::Part => "part RECIPE SAVE REPORT STEPS",
+            CommandWord::Resume => "resume RECIPE SAVE REPORT STEPS",
+            CommandWord::DeltaStart => "delta-start RECIPE BASE PATCH REPORT STEPS",
+            CommandWord::DeltaResume => "delta-resume RECIPE BASE PATCH REPORT STEPS",
+            CommandWord::Show => "show REPORT",
+            CommandWord::Verify => "verify RECIPE REPORT",
+            CommandWord::Chain => "chain LIST",
+            CommandWord::Rests => "rests RECIPE STAGE",
+            CommandWord::Step => "step RECIPE STAGE",
+            CommandWord::Left => "left RECIPE STAGE FILE OUT",
+            CommandWord::Cut => "cut RECIPE STAGE EVERY PREFIX",
+            CommandWord::Segment => "segment FROM TO",
+            CommandWord::Ends => "ends RECIPE STAGE PREFIX COUNT",
+            CommandWord::Kaem => "kaem SCRIPT LIST REPORT STEPS",
+            CommandWord::KaemVerify => "kaem-verify SCRIPT LIST REPORT",
+            CommandWord::Demo => "demo N",
+            CommandWord::Help => "help [COMMAND]",
+            CommandWord::Version => "version",
+        }
+    }
+
+    /// What it does.
+    #[tactic(auto, unfolding(crate::specs::Help::command_answers))]
+    pub fn answers(self) -> &'static str
+        ensures { result.now ≡ command_answers self }
+    {
+        match self {
+            CommandWord::Hex0 => "compares the hex0 value of SOURCE with BINARY, byte for byte",
+            CommandWord::Asm =>
+                "saves under OUT the value of SOURCE in LANG (hex0, hex1, hex2) at the address BASE, of m1 the text of its items",
+            CommandWord::List =>
+                "lists the words of BINARY, each with its value and its instruction",
+            CommandWord::Run =>
+                "runs PROGRAM within STEPS steps, and says how it ended and what it left",
+            CommandWord::Audit => "makes the audit of RECIPE, and saves its report under REPORT",
+            CommandWord::Part =>
+                "begins the audit of RECIPE by at most STEPS steps: its save is kept under SAVE, or its report under REPORT",
+            CommandWord::Resume => "goes on with the audit from where SAVE stands",
+            CommandWord::DeltaStart =>
+                "goes on from the save BASE, and keeps under PATCH what differs from it",
+            CommandWord::DeltaResume => "goes on from where BASE and PATCH stand",
+            CommandWord::Show => "prints the report in REPORT, or says at which line it is none",
+            CommandWord::Verify =>
+                "replays the stages of RECIPE, and says whether every word of REPORT is true",
+            CommandWord::Chain =>
+                "replays the audits that LIST names, and says what remains to be believed of them together",
+            CommandWord::Rests =>
+                "says what the artefact of STAGE rests on: texts, runs, and what has to be believed",
+            CommandWord::Step =>
+                "answers lines from standard input on what the program of STAGE does",
+            CommandWord::Left => "runs STAGE, and saves under OUT what it left at FILE",
+            CommandWord::Cut =>
+                "runs STAGE, and saves its state after every EVERY steps as PREFIX.0, PREFIX.1 and so on",
+            CommandWord::Segment => "says whether the state in TO is reached from that in FROM",
+            CommandWord::Ends =>
+                "says whether PREFIX.0 is the start of STAGE, and how the run after the last of COUNT states ends",
+            CommandWord::Kaem =>
+                "runs the commands of SCRIPT over the files that LIST names, and saves their report under REPORT",
+            CommandWord::KaemVerify =>
+                "replays these commands, and says whether every word of REPORT is true",
+            CommandWord::Demo =>
+                "makes and verifies an audit of N bytes with copy.elf and copy.hex0, and saves nothing",
+            CommandWord::Help =>
+                "lists the commands, or says of COMMAND what it answers, and with which statuses",
+            CommandWord::Version => "names this release of ddc, and the kit that proves it",
+        }
+    }
+
+    /// The statuses that are its own.
+    #[tactic(auto, unfolding(crate::specs::Help::command_statuses))]
+    pub fn statuses(self) -> &'static str
+        ensures { result.now ≡ command_statuses self }
+    {
+        match self {
+            CommandWord::Hex0 => "0 3",
+            CommandWord::Asm => "0 7",
+            CommandWord::List => "0",
+            CommandWord::Run => "0 6",
+            CommandWord::Audit => "0 3 4 6 7",
+            CommandWord::Part => "0 3 4 6 7 8",
+            CommandWord::Resume => "0 3 4 6 7 8 9",
+            CommandWord::DeltaStart => "0 3 4 6 7 8 9",
+            CommandWord::DeltaResume => "0 3 4 6 7 8 9",
+            CommandWord::Show => "0 5",
+            CommandWord::Verify => "0 1 3 4 5",
+            CommandWord::Chain => "0 1 3 4 5 16",
+            CommandWord::Rests => "0 4",
+            CommandWord::Step => "0 4 6 7",
+            CommandWord::Left => "0 4 6 7 10",
+            CommandWord::Cut => "0 4 6 7 14",
+            CommandWord::Segment => "0 1",
+            CommandWord::Ends => "0 1 4 6 7",
+            CommandWord::Kaem => "0 6 15 16",
+            CommandWord::KaemVerify => "0 1 5 15 16",
+            CommandWord::Demo => "0 3 6 7",
+            CommandWord::Help => "0",
+            CommandWord::Version => "0",
+        }
+    }
+}
+
+/// The one of these commands that a word names.
+fn named_in<'c>(commands: &'c [CommandWord], word: &str) -> Option<&'c CommandWord>
+    ensures { option_map (λ x. x.now) result ≡ find (λ command. bytes_eq (command_name command) word.now) commands.now }
+{
+    commands
+        .iter()
+        .find(|command| command.name().as_bytes() == word.as_bytes())
+}

@@ -1,0 +1,12 @@
+use Rattle.command_plan.proofs.Obtaining.{ends_before, ends_with, goes_on_with}
+use Rattle.command_plan.proofs.Performing.{says}
+use Rattle.verify_commands.specs.Rests.{rests_files}
+use Rattle.verify_commands.proofs.rests.rests.Goals as goal
+
+pub returns-in_err-recipe : goal.returns-in_err-recipe
+unfolding rests_files
+returns-in_err-recipe g c = ends_with c.from_residual.ensures.1 (ends_before c.in_err-recipe.ensures)
+
+pub returns : goal.returns
+unfolding rests_files
+returns g c = goes_on_with c.in_ok-recipe.ensures (says _ _ _ c.on_recipe.ensures)

@@ -1,0 +1,62 @@
+# What an artefact rests on, by recipes of examples/report and examples/chain. Sourced by run, in its folder.
+
+cp -R "$root/examples/report" rests
+cd rests || exit 1
+rests() {
+    local name=$1 text=$2
+    shift 2
+    check "$name" 0 "$text" "$ddc" rests "$@"
+}
+rests 'a checked stage rests on its text' 'text text\n' a.toml one
+rests 'an unchecked stage rests on its program, and on what it reads' 'text text\ntext src\nrun two\n' a.toml two
+rests 'a checked stage whose text another stage made' 'text text\nrun one\nassumes implements prog copy_src\n' made-text.toml two
+rests 'that text' 'text text\nrun one\nassumes implements prog copy_src\n' made-text.toml one
+sed 's/^format = 1/format = 2/; s/^stage = "two"/stages = ["two"]/' made-text.toml >routes.toml
+rests 'the same in format 2' 'text text\nrun one\nassumes implements prog copy_src\n' routes.toml two
+sed '0,/files = \["text"\]/s//files = ["one"]/' made-text.toml >on-the-way.toml
+rests 'a line whose source a stage on the way made' 'text text\nrun one\nassumes implements prog copy_src\n' on-the-way.toml two
+third='[[stage]]\nname = "three"\nprogram = "prog"\nargs = ["copy"]\nfiles = [{ path = "in", from = "text" }]\noutput = "out"\nsteps = 100000\n&'
+sed "0,/files = \[\"text\"\]/s//files = [\"three\"]/; s/^\[compare\]/$third/" made-text.toml >off-the-way.toml
+rests 'a line whose source a stage off the way made' 'text text\nrun one\nassumes implements prog copy_src\nspeaks three\n' off-the-way.toml two
+check 'a stage that is none' 2 'usage\n' "$ddc" rests a.toml three
+check 'an input is no stage' 2 'usage\n' "$ddc" rests a.toml prog
+check 'an empty name' 2 'usage\n' "$ddc" rests a.toml ''
+check 'no stage' 2 'usage\n' "$ddc" rests a.toml
+check 'a word more' 2 'usage\n' "$ddc" rests a.toml one two
+check 'a file word that is none' 2 'usage\n' "$ddc" rests '' one
+check 'a recipe that is not there' 10 'file refused none absent\n' "$ddc" rests none one
+check 'no recipe' 4 'recipe refused 1\n' "$ddc" rests copy.hex0 one
+mkdir folder
+check 'a folder as a recipe' 11 'shelf fault folder\n' "$ddc" rests folder one
+check 'the output is closed for what an artefact rests on' 12 '' closed "$ddc" rests a.toml one
+rm copy.elf copy.hex0 a.bin b.bin
+rests 'no input is loaded' 'text text\n' a.toml one
+cp "$root"/examples/chain/*.toml .
+for stage in made_hex0 made_hex1 made_hex2; do
+    check "the chain's $stage rests on texts alone" 0 '' sh -c "\"$ddc\" rests chain.toml $stage | grep -v '^text '; true"
+done
+sed '/^check = "m1_linked"/d' chain.toml >laid-out.toml
+rests 'a layout that a check in M1 leaves free' 'text hex2_text\ntext m1_text\nlayout m1_expanded\nrun m1_again\n' laid-out.toml m1_again
+rests 'where a check in hex2 takes its items, it does not matter' 'text m1_text\n' chain.toml m1_again
+rests 'four runs and a line' "text hex2_text\ntext m1_text_in_hex2\ntext m1_text\n$(printf 'run %s\\n' first_expanded first second_expanded second)assumes compiles hex2 first m1\n" wheeler.toml second
+cd .. || exit 1
+
+# What is said of the commands and of the program.
+"$ddc" help >forms
+check 'a line for each command' 0 'hex0 SOURCE BINARY\n' head -n 1 forms
+check 'help, as the first word with dashes' 0 '' cmp forms <("$ddc" --help)
+while read -r command _; do
+    "$ddc" help "$command" >page
+    check "the words of $command" 0 '1\n' grep -cxFf <(head -n 1 page) forms
+    check "its statuses" 0 '3\n' sh -c 'grep -c . page; sed -n 3p page | grep -vx "statuses [0-9 ]*"; true'
+done <forms
+check 'help of hex0' 0 'hex0 SOURCE BINARY\ncompares the hex0 value of SOURCE with BINARY, byte for byte\nstatuses 0 3\n' "$ddc" help hex0
+check 'help of help' 0 'help [COMMAND]\nlists the commands, or says of COMMAND what it answers, and with which statuses\nstatuses 0\n' "$ddc" --help help
+check 'help of no command' 2 'usage\n' "$ddc" help none
+check 'help of a word with dashes' 2 'usage\n' "$ddc" help --help
+check 'help of two commands' 2 'usage\n' "$ddc" help hex0 asm
+check 'the release and the kit' 0 "ddc 1.0\n$(grep -o 'rattle-kit-.* logic .*' "$root/README.md")\n" "$ddc" version
+check 'the same with dashes' 0 "$("$ddc" version)\n" "$ddc" --version
+check 'version has no words' 2 'usage\n' "$ddc" version 1
+check 'no other word with dashes' 2 'usage\n' "$ddc" --usage
+check 'the output is closed for help' 12 '' closed "$ddc" help
