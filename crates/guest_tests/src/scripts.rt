@@ -273,7 +273,7 @@ fn is_end(alloc: Global, end: &ScriptEnd, wanted: Ending) -> bool {
             cause,
             step,
         } => is_stop((*command, *cause, *step), wanted),
-        ScriptEnd::OutOfMemory => false,
+        ScriptEnd::OutOfMemory { .. } => false,
     }
 }
 

@@ -1,6 +1,6 @@
 -- A command's start: its files are put in afterwards, and it is refused only where its file is no program.
 use Rattle.std.proofs.Common.{◌≡◌, ℕ, ◌*◌, ◌≤◌, false, List, [], ◌∷◌, length, sum_by, None, Some, Result, Ok, Err, refl, sym, ap, ◌∙◌, subst, arith, All, IsTrue, length-append}
-use Rattle.std.specs.Prelude.{nat_lt}
+use Rattle.std.specs.Prelude.{nat_lt, IsOk}
 use Rattle.std.specs.List.{fold}
 use Rattle.std.specs.FinMap as fin
 use Rattle.std.specs.Cmp.Lexicographic.{nat_list_cmp_total}
@@ -28,6 +28,7 @@ use Rattle.kaem_script.specs.declared.cause.CommandCause.TheVariants as cause
 use Rattle.kaem_script.specs.Fold.{command_box, by_first_end, by_program, by_started, command, program_name}
 use Rattle.kaem_script.specs.Inside.Commands.{renewed, texts_of}
 use Rattle.kaem_script.specs.Kept.{IsCommand, IsWord}
+use Rattle.kaem_script.specs.Wants.{HasProgram}
 
 -- ---- the texts of a command fit
 
@@ -109,9 +110,14 @@ pub only-elf : (program : List ℕ) (w : World) (words : List (List ℕ)) (refus
     → start_of program (command_box w words) ≡ Err refusal → (fault : ElfRefusal) × (refusal ≡ Elf fault)
 only-elf program w words refusal sound is refused = refused-by-image program (command_box w words) refusal (box-fits w words sound is) refused
 
-pub only-elf-without-files : (program : List ℕ) (words : List (List ℕ)) (refusal : Refusal) → IsCommand words
-    → start_of program (texts_of words) ≡ Err refusal → (fault : ElfRefusal) × (refusal ≡ Elf fault)
-only-elf-without-files program words refusal is refused = refused-by-image program (texts_of words) refusal (texts-of-fit words is) refused
+-- a program that can be loaded starts
+pub loaded-starts : (program : List ℕ) (words : List (List ℕ)) (refusal : Refusal) → IsCommand words → IsOk (image_of program)
+    → start_of program (texts_of words) ≡ Err refusal → ⊥
+loaded-starts program words refusal is loads refused = at (image_of program) loads (sym (starts-by-image program (texts_of words) (texts-of-fit words is)) ∙ refused)
+  where
+    at : (image : Result Image ElfRefusal) → IsOk image → by_image program (texts_of words) image ≡ Err refusal → ⊥
+    at (Err fault) ok here = let no = ok in absurd cc
+    at (Ok image) ok here = absurd cc
 
 -- ---- the files are put in after the start
 
@@ -137,17 +143,6 @@ starts program w words guest sound is without =
         let same : start_state program (texts_of words) image ≡ guest = cc in
         ap Ok (state-of-box program w words image sound ∙ ap (λ (g : GuestState). record g { world = renewed w }) same)
 
-pub refuses : (program : List ℕ) (w : World) (words : List (List ℕ)) (fault : ElfRefusal) → IsSound w → IsCommand words
-    → start_of program (texts_of words) ≡ Err (Elf fault) → start_of program (command_box w words) ≡ Err (Elf fault)
-refuses program w words fault sound is without =
-    starts-by-image program (command_box w words) (box-fits w words sound is)
-    ∙ at (image_of program) (sym (starts-by-image program (texts_of words) (texts-of-fit words is)) ∙ without)
-  where
-    at : (image : Result Image ElfRefusal) → by_image program (texts_of words) image ≡ Err (Elf fault)
-        → by_image program (command_box w words) image ≡ Err (Elf fault)
-    at (Err other) here = cc
-    at (Ok image) here = absurd cc
-
 -- ---- a command, by its start
 
 pub program-named : (words : List (List ℕ)) → IsCommand words → IsTrue (is_stripped_name (program_name words))
@@ -162,11 +157,15 @@ command-starts most w words program guest sound is there without =
     ap (by_program most w words) there ∙ ap (by_started most) (starts program w words guest sound is without)
 
 pub command-refused : (most : ℕ) (w : World) (words : List (List ℕ)) (program : List ℕ) (fault : ElfRefusal) → IsSound w → IsCommand words
-    → content_at w (program_name words) ≡ Some program → start_of program (texts_of words) ≡ Err (Elf fault)
-    → command most w words ≡ Err (cause.Elf fault, 0)
+    → content_at w (program_name words) ≡ Some program → image_of program ≡ Err fault → command most w words ≡ Err (cause.Elf fault, 0)
 unfolding command
-command-refused most w words program fault sound is there without =
-    ap (by_program most w words) there ∙ ap (by_started most) (refuses program w words fault sound is without)
+command-refused most w words program fault sound is there refused =
+    ap (by_program most w words) there
+    ∙ ap (by_started most) (starts-by-image program (command_box w words) (box-fits w words sound is) ∙ ap (by_image program (command_box w words)) refused)
+
+pub has-program : (w : World) (words : List (List ℕ)) (program : List ℕ) (image : Image) → content_at w (program_name words) ≡ Some program
+    → ◌≡◌ {A = Result Image ElfRefusal} (Ok image) (image_of program) → HasProgram w words
+has-program w words program image there is = record { program = program; there = there; loads = subst IsOk is refl }
 
 pub command-without : (most : ℕ) (w : World) (words : List (List ℕ)) → content_at w (program_name words) ≡ None → command most w words ≡ Err (cause.NoProgram, 0)
 unfolding command

@@ -43,10 +43,10 @@ end_of_script most script listed = script_ended script listed (folded most liste
 abbrev pub Audits : ScriptEnd → ScriptEnd → Type 0
 Audits meant (Done report) = meant ≡ Done report
 Audits meant (Failed number why step) = meant ≡ Failed number why step
-Audits meant OutOfMemory = Unit {0}
+Audits meant (OutOfMemory number) = Unit {0}
 
 -- the report of a script that is done has a text
 abbrev pub HasReport : ScriptEnd → Type 0
 HasReport (Done report) = IsScriptReport report
 HasReport (Failed number why step) = Unit {0}
-HasReport OutOfMemory = Unit {0}
+HasReport (OutOfMemory number) = Unit {0}

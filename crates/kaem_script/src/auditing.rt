@@ -5,6 +5,7 @@ ghost use Rattle.kaem_script.specs.Reported.{Audits, HasReport, end_of_script, m
 ghost use Rattle.mem_files.specs.Outputs.{left};
 ghost use Rattle.report.specs.Reports.{IsDigest};
 ghost use Rattle.report.specs.Script.Reports.{IsCommandLine, IsScriptReport};
+ghost use Rattle.kaem_script.specs.Wants.{OnScriptWant, WantsAt};
 ghost use Rattle.std.specs.Prelude.{◌≡◌, ◌≤◌, ◌^◌, All, IfOk, length, map};
 
 use crate::cause::CommandCause;
@@ -30,7 +31,11 @@ pub enum ScriptEnd {
         cause: CommandCause,
         step: u64,
     },
-    OutOfMemory,
+    /// Want of memory of this process at the command of this number, from 1, after those that all ran; the number that follows the last command
+    /// is that of the report.
+    OutOfMemory {
+        command: u32,
+    },
 }
 
 /// Runs a script's commands in order over one world of files, which begins with those of the list, each within `most` steps: from 1 to 2^48.
@@ -38,42 +43,32 @@ pub enum ScriptEnd {
 /// A command runs the content that its program's name has at that moment. Its program is given all words as arguments, no environment, a heap
 /// of 536,870,912 bytes, and all files that are there; what it leaves is there for the next one. The first command that does not exit with
 /// 0 stops the script.
+///
+/// Want of memory comes only at a command whose program is there and can be loaded, or for the report.
+#[tactic(auto, unfolding(crate::specs::Reported::script_report))]
 pub fn audit(alloc: Global, script: &Script, files: &FileList, most: u64) -> ScriptEnd
     requires some { 1 ≤ most }
     requires few { most ≤ 2 ^ 48 }
     ensures answer { Audits (end_of_script most script.now files.now) result }
+    ensures memory { OnScriptWant result (WantsAt most files.now.world script.now.commands) }
     // A report that is answered has a text.
     ensures report { HasReport result }
 {
-    match script_ended(alloc, script, files, most) {
-        Ok(end) => end,
-        Err(OutOfMemory) => ScriptEnd::OutOfMemory,
-    }
-}
-
-/// How the audit ends, which is not by want of memory.
-#[tactic(auto, unfolding(crate::specs::Reported::script_report))]
-fn script_ended(
-    alloc: Global,
-    script: &Script,
-    files: &FileList,
-    most: u64,
-) -> Result<ScriptEnd, OutOfMemory>
-    requires some { 1 ≤ most }
-    requires few { most ≤ 2 ^ 48 }
-    ensures answer { IfOk result (λ end. end ≡ end_of_script most script.now files.now) }
-    ensures report { IfOk result HasReport }
-{
-    match fold(alloc, script.commands(), files.files(), most)? {
+    match fold(alloc, script.commands(), files.files(), most) {
         Folding::RanAll(commands, present) => {
-            let report = report_of(alloc, script, files, commands, files_in(&present))?;
-            Ok(ScriptEnd::Done(report))
+            match report_of(alloc, script, files, commands, files_in(&present)) {
+                Ok(report) => ScriptEnd::Done(report),
+                Err(OutOfMemory) => ScriptEnd::OutOfMemory {
+                    command: script.commands().len() as u32 + 1,
+                },
+            }
         }
-        Folding::Stopped(command, (cause, step)) => Ok(ScriptEnd::Failed {
+        Folding::Stopped(command, (cause, step)) => ScriptEnd::Failed {
             command,
             cause,
             step,
-        }),
+        },
+        Folding::OutOfMemory(command) => ScriptEnd::OutOfMemory { command },
     }
 }
 

@@ -1,18 +1,20 @@
 //! One command of a script.
 
+ghost use Rattle.elf_load.specs.Image.{image_of};
 ghost use Rattle.guest_run.specs.Run.{first_end};
 ghost use Rattle.guest_run.specs.Start.{start_of};
 ghost use Rattle.kaem_script.specs.Fold.{by_first_end, command, program_name};
-ghost use Rattle.kaem_script.specs.Inside.Commands.{Begins, Comes, Exits, StartsWith, renewed, texts_of, world_in};
+ghost use Rattle.kaem_script.specs.Inside.Commands.{Begins, Comes, Exits, UnlessStopped, renewed, texts_of, world_in};
 ghost use Rattle.kaem_script.specs.Kept.{IsCommand};
 ghost use Rattle.kaem_script.specs.Reported.{command_line};
-ghost use Rattle.std.specs.Prelude.{◌≡◌, ◌+◌, ◌<◌, ◌≤◌, ◌^◌, ℕ, IfOk};
+ghost use Rattle.kaem_script.specs.Wants.{HasProgram};
+ghost use Rattle.std.specs.Prelude.{◌≡◌, ◌+◌, ◌<◌, ◌≤◌, ◌^◌, ℕ, Ok, IfOk, IsOk};
 
 use crate::cause::CommandCause;
 use crate::present::{Present, files_in, renewed};
 use crate::reading::Command;
 use ddc_base::OutOfMemory;
-use elf_load::ElfRefusal;
+use elf_load::read_image;
 use guest_run::{Guest, RunBox, RunEnd, RunRam, StartRefusal};
 use mem_files::{Files, strip};
 use report::Mark;
@@ -38,7 +40,8 @@ pub(crate) fn run_command(
     requires words { IsCommand words.now }
     requires some { 1 ≤ most }
     requires few { most ≤ 2 ^ 48 }
-    ensures { IfOk result (Comes (command most (world_in present.entry) words.now)) }
+    ensures comes { IfOk result (Comes (command most (world_in present.entry) words.now)) }
+    ensures program { UnlessStopped result (HasProgram (world_in present.entry) words.now) }
 {
     match begun(alloc, files_in(&present), words)? {
         Ok(guest) => run_over(alloc, guest, present, most),
@@ -46,7 +49,7 @@ pub(crate) fn run_command(
     }
 }
 
-/// Starts the program that a command names among these files, without files, or says why it does not start.
+/// Starts the program that a command names among these files, without files, or says why it does not start, for which no memory is taken.
 #[tactic(auto, unfolding(crate::specs::Fold::command))]
 pub(crate) fn begun(
     alloc: Global,
@@ -55,6 +58,7 @@ pub(crate) fn begun(
 ) -> Result<Result<Guest<RunRam>, CommandCause>, OutOfMemory>
     requires { IsCommand words.now }
     ensures begins { (most : ℕ) → IfOk result (Begins files.now words.now most) }
+    ensures program { UnlessStopped result (HasProgram files.now words.now) }
     ensures fresh { IfOk result (λ begun. IfOk begun (λ guest. guest.steps ≡ 0)) }
 {
     // What files keep is told by a call of theirs.
@@ -62,8 +66,11 @@ pub(crate) fn begun(
     let Some(program) = files.content(program_name(words)) else {
         return Ok(Err(CommandCause::NoProgram));
     };
-    match start(alloc, program, words)? {
-        Ok(guest) => Ok(Ok(guest)),
+    match read_image(program) {
+        Ok(_) => {
+            let guest = start(alloc, program, words)?;
+            Ok(Ok(guest))
+        }
         Err(refusal) => Ok(Err(CommandCause::Elf(refusal))),
     }
 }
@@ -94,23 +101,20 @@ fn program_name(words: &Command) -> &[u8]
     }
 }
 
-/// Starts a command's program, without files.
-fn start(
-    alloc: Global,
-    program: &[u8],
-    words: &Command,
-) -> Result<Result<Guest<RunRam>, ElfRefusal>, OutOfMemory>
-    requires { IsCommand words.now }
-    ensures meant { IfOk result (StartsWith (start_of program.now (texts_of words.now))) }
-    ensures fresh { IfOk result (λ started. IfOk started (λ guest. guest.steps ≡ 0)) }
+/// Starts a command's program, which can be loaded, without files.
+fn start(alloc: Global, program: &[u8], words: &Command) -> Result<Guest<RunRam>, OutOfMemory>
+    requires words { IsCommand words.now }
+    requires loads { IsOk (image_of program.now) }
+    ensures meant { IfOk result (λ guest. start_of program.now (texts_of words.now) ≡ Ok guest) }
+    ensures fresh { IfOk result (λ guest. guest.steps ≡ 0) }
 {
     let mut given = RunBox::new(alloc, HEAP);
     for word in words.as_slice() {
         given.push_arg(word.as_slice())?;
     }
     match Guest::<RunRam>::start(alloc, program, &given) {
-        Ok(guest) => Ok(Ok(guest)),
-        Err(StartRefusal::Elf(refusal)) => Ok(Err(refusal)),
+        Ok(guest) => Ok(guest),
+        Err(StartRefusal::Elf(_)) => unreachable!(),
         Err(StartRefusal::ArgsTooLong) => unreachable!(),
         Err(StartRefusal::BoxTooLarge) => unreachable!(),
         Err(StartRefusal::OutOfMemory) => Err(OutOfMemory),

@@ -1,9 +1,10 @@
 //! All commands of a script, one after the other.
 
 ghost use Rattle.kaem_script.specs.Fold.{folded};
-ghost use Rattle.kaem_script.specs.Inside.Commands.{Folds, HasLines};
+ghost use Rattle.kaem_script.specs.Inside.Commands.{Folds, HasLines, OnFoldWant};
 ghost use Rattle.kaem_script.specs.Kept.{AreCommands};
-ghost use Rattle.std.specs.Prelude.{◌≤◌, ◌^◌, IfOk, length};
+ghost use Rattle.kaem_script.specs.Wants.{WantsAt};
+ghost use Rattle.std.specs.Prelude.{◌≤◌, ◌^◌, length};
 
 use crate::command::{CommandStop, run_command};
 use crate::present::Present;
@@ -20,6 +21,8 @@ pub(crate) enum Folding<'a> {
     RanAll(CommandLines, Present<'a>),
     /// The command of this number, from 1, stopped the script.
     Stopped(u32, CommandStop),
+    /// Memory was wanting at the command of this number.
+    OutOfMemory(u32),
 }
 
 /// Runs commands over one world of files, each within so many steps.
@@ -28,25 +31,30 @@ pub(crate) fn fold<'a>(
     commands: &[Command],
     files: &'a Files,
     most: u64,
-) -> Result<Folding<'a>, OutOfMemory>
+) -> Folding<'a>
     requires kept { AreCommands commands.now }
     requires some { 1 ≤ most }
     requires few { most ≤ 2 ^ 48 }
-    ensures folds { IfOk result (Folds (folded most files.now commands.now)) }
-    ensures lines { IfOk result (HasLines (length commands.now)) }
+    ensures folds { Folds (folded most files.now commands.now) result }
+    ensures memory { OnFoldWant result (WantsAt most files.now commands.now) }
+    ensures lines { HasLines (length commands.now) result }
 {
     let mut lines = CommandLines::new(alloc);
     let mut present = Present::Given(files);
     for (index, words) in commands.iter().enumerate() {
-        match run_command(alloc, present, words, most)? {
-            Ok((line, left)) => {
+        let number = index as u32 + 1;
+        match run_command(alloc, present, words, most) {
+            Ok(Ok((line, left))) => {
                 // What files keep is told by a call of theirs.
                 left.stream(1);
-                lines.push(line)?;
-                present = Present::Left(left);
+                match lines.push(line) {
+                    Ok(()) => present = Present::Left(left),
+                    Err(OutOfMemory) => return Folding::OutOfMemory(number),
+                }
             }
-            Err(stop) => return Ok(Folding::Stopped(index as u32 + 1, stop)),
+            Ok(Err(stop)) => return Folding::Stopped(number, stop),
+            Err(OutOfMemory) => return Folding::OutOfMemory(number),
         }
     }
-    Ok(Folding::RanAll(lines, present))
+    Folding::RanAll(lines, present)
 }

@@ -119,7 +119,7 @@ fn run<S: Shelf>(
             cause,
             step,
         } => stopped(alloc, command, cause, step),
-        ScriptEnd::OutOfMemory => Err(Stop::OutOfMemory),
+        ScriptEnd::OutOfMemory { .. } => Err(Stop::OutOfMemory),
     }
 }
 

@@ -3,12 +3,11 @@ use Rattle.std.specs.Prelude.{◌≡◌, ℕ, ◌≤◌, All, Result, Ok, Err, L
 use Rattle.report.specs.Script.Reports.{IsCommandLine}
 use Rattle.std.specs.List.{fold}
 use Rattle.std.specs.FinMap as files
-use Rattle.elf_load.specs.declared.refusal.ElfRefusal.{ElfRefusal}
 use Rattle.mem_files.specs.World.{World}
 use Rattle.mem_files.specs.Calls.{first_world}
 use Rattle.mem_files.specs.Outputs.{left}
 use Rattle.guest_run.specs.Setting.{Setting}
-use Rattle.guest_run.specs.Start.{Elf, Refusal, with_given}
+use Rattle.guest_run.specs.Start.{with_given}
 use Rattle.guest_run.specs.Run.{first_end}
 use Rattle.guest_run.specs.State.{GuestState}
 use Rattle.kaem_script.specs.declared.cause.CommandCause.{CommandCause}
@@ -32,11 +31,6 @@ renewed world = fold with_given first_world (left world)
 -- what a command's program is given, but for the files
 abbrev pub texts_of : List (List ℕ) → Setting
 texts_of words = record { args = words; env = []; files = files.empty; heap = 536_870_912 }
-
--- a start that only a file which is no program refuses
-abbrev pub StartsWith : Result GuestState Refusal → Result GuestState ElfRefusal → Type 0
-StartsWith meant (Ok guest) = meant ≡ Ok guest
-StartsWith meant (Err refusal) = meant ≡ Err (Elf refusal)
 
 -- how a command goes on with the guest that its program starts as, without files, or why that does not start
 abbrev pub Begins : World → List (List ℕ) → ℕ → Result GuestState CommandCause → Type 0
@@ -67,8 +61,20 @@ pub record Finishes (meant : Folded) (lines : List CommandLine) (world : World) 
 abbrev pub Folds : Folded → Folding → Type 0
 Folds meant (fold.RanAll lines present) = Finishes meant lines (world_in present)
 Folds meant (fold.Stopped number why) = meant ≡ Stopped number why.0 why.1
+Folds meant (fold.OutOfMemory number) = Unit {0}
+
+-- a fact on the number at which memory was wanting
+abbrev pub OnFoldWant : Folding → (ℕ → Type 0) → Type 0
+OnFoldWant (fold.OutOfMemory number) fact = fact number
+OnFoldWant folding fact = Unit {0}
+
+-- a fact where a command did not stop its script: it went on, or memory was wanting
+abbrev pub UnlessStopped : {A B E : Type 0} → Result (Result A B) E → Type 0 → Type 0
+UnlessStopped (Ok (Err why)) fact = Unit {0}
+UnlessStopped answer fact = fact
 
 -- the lines of commands that all ran are those of a report, and at most so many
 abbrev pub HasLines : ℕ → Folding → Type 0
 HasLines most (fold.RanAll lines present) = All IsCommandLine lines × (length lines ≤ most)
 HasLines most (fold.Stopped number why) = Unit {0}
+HasLines most (fold.OutOfMemory number) = Unit {0}
