@@ -1,14 +1,16 @@
 -- A stage that is done keeps the rules of finished stages.
-use Rattle.std.proofs.Common.{◌≡◌, ℕ, ◌+◌, ◌≤◌, ◌==◌, Bool, true, false, IsTrue, if◌then◌else◌, nat_lt, Option, None, Some, Result, Ok, Err, List, [], ◌∷◌, length, map, refl, sym, ap, ◌∙◌, arith}
+use Rattle.std.proofs.Common.{◌≡◌, ℕ, ◌+◌, ◌≤◌, ◌==◌, Bool, true, false, IsTrue, nat_le, Option, None, Some, Result, Ok, Err, List, [], ◌∷◌, length, map, refl, sym, ap, ◌∙◌, arith}
 use Rattle.std.specs.List.{Contains}
 use Rattle.std.specs.Ordering.{is_lt}
 use Rattle.std.specs.FinMap.{is_sorted}
 use Rattle.std.specs.FinMap.Entries.{below_all}
-use Rattle.std.proofs.lemmas.Bool.{and_parts, and_from, ltb-false, eqb-true}
+use Rattle.std.proofs.lemmas.Bool.{and_parts, and_from, leb-true, le-leb, eqb-true}
 use Rattle.std.proofs.lemmas.List.{length-map}
 use Rattle.std.proofs.lemmas.List.Elements.{All-map, All-weaker}
 use Rattle.std.proofs.lemmas.Option.{same_Some}
 use Rattle.std.proofs.Math.ListN.{get_or-map}
+use Rattle.ddc_base.specs.Results.{◌>>=◌, ◌>>◌, or_error, error_unless}
+use Rattle.ddc_base.proofs.Results.{bound, found, taken, tested}
 use Rattle.mem_files.specs.Names.{bytes_cmp}
 use Rattle.mem_files.specs.Outputs.{IsLeftFile, left, out}
 use Rattle.mem_files.specs.Sound.{IsSound}
@@ -28,7 +30,7 @@ use Rattle.audit_rules.specs.declared.answer.Finished.{Finished}
 use Rattle.audit_rules.specs.declared.cause.RunCause.TheVariants as run
 use Rattle.audit_rules.specs.Contents.{check_of}
 use Rattle.report.specs.Marks.{mark_of}
-use Rattle.audit_rules.specs.Stages.{artefact_bytes, checked_by, contents, ending, finished, marked_left, made_by, output_of}
+use Rattle.audit_rules.specs.Stages.{artefact_bytes, check_passed, contents, ending, exited_with, finished, marked_left, output_of}
 use Rattle.audit_rules.specs.Valid.{HasMark, IsFinished, IsLeftLine}
 use Rattle.audit_rules.proofs.Marks.{mark-small}
 
@@ -85,46 +87,39 @@ pub record Ended (recipe : RecipeContents) (inputs : List (List ℕ)) (done : Li
   pub right : check_of recipe (contents inputs done) stage made ≡ None
   pub is : f ≡ finished (guest.steps + 1) guest.world made
 
+right-check : (o : Option CheckCause) (passed : Unit {0}) → check_passed o ≡ Ok passed → o ≡ None
+right-check None passed is = refl
+right-check (Some why) passed is = cc
+
 pub ended : (recipe : RecipeContents) (inputs : List (List ℕ)) (done : List Finished) (stage : Stage) (end : End) (guest : GuestState) (f : Finished)
     → ending recipe inputs done stage end guest ≡ Ok f → Ended recipe inputs done stage end guest f
 ended recipe inputs done stage (Trapped cause) guest f is = cc
 ended recipe inputs done stage (UnknownCall number) guest f is = cc
-ended recipe inputs done stage (Exited status) guest f is = by_status (status == 0) refl is where
-  steps : ℕ
-  steps = guest.steps + 1
+ended recipe inputs done stage (Exited status) guest f is =
+    let steps = guest.steps + 1 in
+    taken {P = Ended recipe inputs done stage (Exited status) guest} (exited_with recipe inputs done stage status steps guest.world) f
+    (tested (Runs (run.Status status) steps) (status == 0) _ (λ none.
+    found (Runs run.NoOutput steps) (out guest.world (output_of stage.output)) _ (λ made there.
+    tested (Runs run.Crowded steps) (nat_le (artefact_bytes done + length made) 1073741824) _ (λ small.
+    bound (check_passed (check_of recipe (contents inputs done) stage made)) _ (λ passed right. record {
+      is = record {
+        exit = ap Exited (eqb-true status 0 none);
+        made = made;
+        there = there;
+        small = leb-true _ _ small;
+        right = right-check _ passed right;
+        is = refl;
+      };
+    })))))
+    is
 
-  made_else : Finished → Result Finished StageFault → Finished
-  made_else other (Ok g) = g
-  made_else other (Err fault) = other
-
-  by_check : (made : List ℕ) → out guest.world (output_of stage.output) ≡ Some made → (status == 0) ≡ true → artefact_bytes done + length made ≤ 1073741824
-      → (why : Option CheckCause) → check_of recipe (contents inputs done) stage made ≡ why → checked_by why steps guest.world made ≡ Ok f
-      → Ended recipe inputs done stage (Exited status) guest f
-  by_check made there none small None right is = record {
-    exit = ap Exited (eqb-true status 0 none);
-    made = made;
-    there = there;
-    small = small;
-    right = right;
-    is = sym (ap (made_else f) is);
-  }
-  by_check made there none small (Some why) right is = cc
-
-  by_size : (made : List ℕ) → out guest.world (output_of stage.output) ≡ Some made → (status == 0) ≡ true
-      → (large : Bool) → nat_lt 1073741824 (artefact_bytes done + length made) ≡ large
-      → (if large then Err (Runs run.Crowded steps) else checked_by (check_of recipe (contents inputs done) stage made) steps guest.world made) ≡ Ok f
-      → Ended recipe inputs done stage (Exited status) guest f
-  by_size made there none true large is = cc
-  by_size made there none false large is =
-      by_check made there none (ltb-false _ _ large) (check_of recipe (contents inputs done) stage made) refl is
-
-  by_output : (status == 0) ≡ true → (o : Option (List ℕ)) → out guest.world (output_of stage.output) ≡ o
-      → made_by recipe inputs done stage steps guest.world o ≡ Ok f → Ended recipe inputs done stage (Exited status) guest f
-  by_output none None there is = cc
-  by_output none (Some made) there is = by_size made there none (nat_lt 1073741824 (artefact_bytes done + length made)) refl is
-
-  by_status : (b : Bool) → (status == 0) ≡ b
-      → (if b then made_by recipe inputs done stage steps guest.world (out guest.world (output_of stage.output)) else Err (Runs (run.Status status) steps)) ≡ Ok f
-      → Ended recipe inputs done stage (Exited status) guest f
-  by_status false none is = cc
-  by_status true none is = by_output none (out guest.world (output_of stage.output)) refl is
+-- and the way back
+pub exit-done : (recipe : RecipeContents) (inputs : List (List ℕ)) (done : List Finished) (stage : Stage) (steps : ℕ) (world : World) (made : List ℕ)
+    → out world (output_of stage.output) ≡ Some made → artefact_bytes done + length made ≤ 1073741824 → check_of recipe (contents inputs done) stage made ≡ None
+    → exited_with recipe inputs done stage 0 steps world ≡ Ok (finished steps world made)
+exit-done recipe inputs done stage steps world made there small right =
+    let kept : List ℕ → Result Finished StageFault = λ m. check_passed (check_of recipe (contents inputs done) stage m) >> Ok (finished steps world m) in
+    let sized : Bool → List ℕ → Result Finished StageFault = λ b m. error_unless (Runs run.Crowded steps) b >> kept m in
+    ap (λ o. or_error (Runs run.NoOutput steps) o >>= λ m. sized (nat_le (artefact_bytes done + length m) 1073741824) m) there
+    ∙ ap (λ b. sized b made) (le-leb _ _ small)
+    ∙ ap (λ o. check_passed o >> Ok (finished steps world made)) right

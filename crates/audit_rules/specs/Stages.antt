@@ -1,6 +1,7 @@
 -- One stage: the start of its program, its run, and what its end comes to. docs/reference/audit.md says the same for people. Digests are
 -- SHA-256 (FIPS 180-4).
-use Rattle.std.specs.Prelude.{ℕ, ◌+◌, ◌==◌, if◌then◌else◌, nat_lt, Option, None, Some, Result, Ok, Err, List, length, map, sum_by}
+use Rattle.std.specs.Prelude.{ℕ, ◌+◌, ◌==◌, nat_le, Option, None, Some, Result, Ok, Err, List, length, map, sum_by}
+use Rattle.ddc_base.specs.Results.{◌>>=◌, ◌>>◌, or_error, error_unless}
 use Rattle.mem_files.specs.World.{World}
 use Rattle.mem_files.specs.Outputs.{FirstStream, AtPath, left, out}
 use Rattle.mem_files.specs.Outputs as outputs
@@ -59,23 +60,25 @@ start_cause BoxTooLarge = start.BoxTooLarge
 abbrev pub start_stage : RecipeContents → Contents → Stage → Result GuestState Refusal
 start_stage recipe so_far stage = start_of (program_of recipe so_far stage) (box_of recipe so_far stage)
 
--- an artefact that was checked
-abbrev pub checked_by : Option CheckCause → ℕ → World → List ℕ → Result Finished StageFault
-checked_by None steps world made = Ok (finished steps world made)
-checked_by (Some why) steps world made = Err (Checks why)
+-- the start, or the fault that there is none
+abbrev pub start_or_fault : Result GuestState Refusal → Result GuestState StageFault
+start_or_fault (Ok guest) = Ok guest
+start_or_fault (Err why) = Err (Runs (run.Start (start_cause why)) 0)
 
--- an exit with the status 0 at a step, by what is at the stage's output: it is there, all artefacts together have at most 1,073,741,824
+-- an artefact in which its check found nothing wrong
+abbrev pub check_passed : Option CheckCause → Result (Unit {0}) StageFault
+check_passed None = Ok tt
+check_passed (Some why) = Err (Checks why)
+
+-- an exit with a status at a step: the status is 0, something is at the stage's output, all artefacts together have at most 1,073,741,824
 -- bytes, and the check is right
-abbrev pub made_by : RecipeContents → List (List ℕ) → List Finished → Stage → ℕ → World → Option (List ℕ) → Result Finished StageFault
-made_by recipe inputs done stage steps world None = Err (Runs run.NoOutput steps)
-made_by recipe inputs done stage steps world (Some made) =
-    if nat_lt 1_073_741_824 (artefact_bytes done + length made) then Err (Runs run.Crowded steps)
-    else checked_by (check_of recipe (contents inputs done) stage made) steps world made
-
 abbrev pub exited_with : RecipeContents → List (List ℕ) → List Finished → Stage → ℕ → ℕ → World → Result Finished StageFault
-exited_with recipe inputs done stage status steps world =
-    if status == 0 then made_by recipe inputs done stage steps world (out world (output_of stage.output))
-    else Err (Runs (run.Status status) steps)
+exited_with recipe inputs done stage status steps world = do
+  error_unless (Runs (run.Status status) steps) (status == 0)
+  made ← or_error (Runs run.NoOutput steps) (out world (output_of stage.output))
+  error_unless (Runs run.Crowded steps) (nat_le (artefact_bytes done + length made) 1_073_741_824)
+  check_passed (check_of recipe (contents inputs done) stage made)
+  Ok (finished steps world made)
 
 -- what the end of a stage's run comes to. It comes in the step that follows the state, so its own step is counted too
 abbrev pub ending : RecipeContents → List (List ℕ) → List Finished → Stage → End → GuestState → Result Finished StageFault
@@ -83,14 +86,16 @@ ending recipe inputs done stage (Exited status) guest = exited_with recipe input
 ending recipe inputs done stage (Trapped cause) guest = Err (Runs (run.Trap cause) (guest.steps + 1))
 ending recipe inputs done stage (UnknownCall number) guest = Err (Runs (run.Call number) (guest.steps + 1))
 
--- what a stage's run comes to, by its first end within the steps that are left of the stage's limit
+-- what a stage's run comes to, by its first end within the steps that remain of the stage's limit
 abbrev pub by_end : RecipeContents → List (List ℕ) → List Finished → Stage → Option (End × GuestState) → Result Finished StageFault
-by_end recipe inputs done stage None = Err (Runs run.Spent stage.steps)
-by_end recipe inputs done stage (Some (end, guest)) = ending recipe inputs done stage end guest
+by_end recipe inputs done stage first = do
+  (end, guest) ← or_error (Runs run.Spent stage.steps) first
+  ending recipe inputs done stage end guest
 
 abbrev pub by_start : RecipeContents → List (List ℕ) → List Finished → Stage → Result GuestState Refusal → Result Finished StageFault
-by_start recipe inputs done stage (Err why) = Err (Runs (run.Start (start_cause why)) 0)
-by_start recipe inputs done stage (Ok guest) = by_end recipe inputs done stage (first_end guest stage.steps)
+by_start recipe inputs done stage start = do
+  guest ← start_or_fault start
+  by_end recipe inputs done stage (first_end guest stage.steps)
 
 -- what a stage comes to, after those that are done
 abbrev pub stage_result : RecipeContents → List (List ℕ) → List Finished → Stage → Result Finished StageFault

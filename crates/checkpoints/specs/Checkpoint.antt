@@ -68,20 +68,24 @@ pub record IsInRange (s : StateText) : Type 0 where
 abbrev pub IsJoined : StateText → Type 0
 IsJoined s = AreJoined (lists_in s)
 
--- what becomes of what a text says: the guest, where counts and ranges are right, and then references. Want of memory comes only where the pc is
--- that of an instruction, a hart can hold the reservation, and the runs can be mapped
+-- memory is taken for a state only where the pc is that of an instruction, a hart can hold the reservation, and the runs can be mapped
+pub record MayBeMade (s : StateText) : Type 0 where
+  pub aligned : s.pc % 4 ≡ 0
+  pub reserved : IsReservation s.reservation
+  pub runs : AreMappable s.runs
+
+-- what becomes of what a text says: the guest, where counts and ranges are right, and then references
 abbrev pub Becomes : StateText → Result GuestState RestoreRefusal → Type 0
 Becomes s (Ok guest) = IsInRange s × IsJoined s × (guest ≡ guest_of s)
 Becomes s (Err restored.Range) = ¬ (IsInRange s)
 Becomes s (Err restored.FileRef) = IsInRange s × ¬ (IsJoined s)
-Becomes s (Err restored.OutOfMemory) = (s.pc % 4 ≡ 0) × IsReservation s.reservation × AreMappable s.runs
+Becomes s (Err restored.OutOfMemory) = MayBeMade s
 
--- memory may be wanted for the state that a text says: its form holds, and its runs can be mapped
+-- memory may be wanting for the state that a text says: its form holds, and memory is taken for it
 abbrev pub MayWantMemory : List ℕ → Type 0
-MayWantMemory text = (s : StateText) × (parsed_state text ≡ Ok s) × AreMappable s.runs
+MayWantMemory text = (s : StateText) × (parsed_state text ≡ Ok s) × MayBeMade s
 
--- what a text becomes: its form is judged first, then counts and ranges, then references. Want of memory comes only where the form holds and the
--- runs can be mapped
+-- what a text becomes: its form is judged first, then counts and ranges, then references
 abbrev pub ReadsState : List ℕ → Result GuestState StateRefusal → Type 0
 ReadsState text (Ok guest) = (s : StateText) × (parsed_state text ≡ Ok s) × IsInRange s × IsJoined s × (guest ≡ guest_of s)
 ReadsState text (Err (state.Form offset)) = parsed_state text ≡ Err offset

@@ -2,20 +2,19 @@
 use Rattle.std.specs.Prelude.{◌≡◌, ℕ, List, Result, Ok, Err}
 use Rattle.guest_run.specs.State.{GuestState}
 use Rattle.save_format.specs.PatchText.PatchText.{parsed_patch}
-use Rattle.save_format.specs.StateText.Mappable.{AreMappable}
 use Rattle.save_format.specs.StateText.StateText.{StateText}
-use Rattle.checkpoints.specs.Checkpoint.{IsInRange, IsJoined, guest_of}
+use Rattle.checkpoints.specs.Checkpoint.{IsInRange, IsJoined, MayBeMade, guest_of}
 use Rattle.checkpoints.specs.declared.reading.StateRefusal.{StateRefusal}
 use Rattle.checkpoints.specs.declared.reading.StateRefusal.TheVariants as state
 
 -- its form is judged first beside the base, then counts and ranges of the state that it says, then references. Want of memory comes only where the
--- form holds and the runs can be mapped
+-- form holds, and memory is taken for that state
 abbrev pub AppliesPatch : StateText → List ℕ → Result GuestState StateRefusal → Type 0
 AppliesPatch base text (Ok guest) = (s : StateText) × (parsed_patch base text ≡ Ok s) × IsInRange s × IsJoined s × (guest ≡ guest_of s)
 AppliesPatch base text (Err (state.Form offset)) = parsed_patch base text ≡ Err offset
 AppliesPatch base text (Err state.Range) = (s : StateText) × (parsed_patch base text ≡ Ok s) × ¬ (IsInRange s)
 AppliesPatch base text (Err state.FileRef) = (s : StateText) × (parsed_patch base text ≡ Ok s) × IsInRange s × ¬ (IsJoined s)
-AppliesPatch base text (Err state.OutOfMemory) = (s : StateText) × (parsed_patch base text ≡ Ok s) × AreMappable s.runs
+AppliesPatch base text (Err state.OutOfMemory) = (s : StateText) × (parsed_patch base text ≡ Ok s) × MayBeMade s
 
 -- the same where the base has yet to be listed, for which memory may be wanting whatever the text is
 abbrev pub AppliesPatchTo : StateText → List ℕ → Result GuestState StateRefusal → Type 0

@@ -14,10 +14,9 @@ mod restoring;
 mod writing;
 
 pub use crate::file_parts::RestoreRefusal;
-pub use memory::are_mappable;
 pub use patching::{
     apply_patch, guest_relative, known_of, patched_guest_of, put_patch_of, write_patch,
 };
 pub use reading::{StateRefusal, read_state};
-pub use restoring::guest_of;
+pub use restoring::{front_in, guest_of, may_be_made};
 pub use writing::{put_state, write_state};

@@ -13,12 +13,12 @@ ghost use Rattle.checkpoints.specs.Patching.{AppliesPatch, AppliesPatchTo};
 
 use crate::file_parts::RestoreRefusal;
 use crate::reading::StateRefusal;
-use crate::restoring::guest_of;
+use crate::restoring::{guest_of, may_be_made};
 use crate::writing::parts_of;
 use ddc_base::{Bytes, OutOfMemory};
 use guest_run::Guest;
 use paged_mem::Ram;
-use save_format::patch_text::{is_mappable, put_patch, read};
+use save_format::patch_text::{front_of, put_patch, read};
 use save_format::state_text::{StateParts, TextRefusal};
 use std::alloc::Global;
 
@@ -124,7 +124,8 @@ fn wanting(base: &StateParts<'_>, text: &[u8]) -> StateRefusal
     requires { IsOk (parsed_patch (state_view base.now) text.now) }
     ensures { AppliesPatch (state_view base.now) text.now (Err result) }
 {
-    if is_mappable(base, text) {
+    let front = front_of(base, text);
+    if may_be_made(&front) {
         StateRefusal::OutOfMemory
     } else {
         StateRefusal::Range

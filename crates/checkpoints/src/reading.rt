@@ -8,10 +8,10 @@ ghost use Rattle.save_format.specs.StateText.StateText.{parsed_state};
 ghost use Rattle.checkpoints.specs.Checkpoint.{IsReadAs, ReadsState, state_of, state_refusal_number};
 
 use crate::file_parts::RestoreRefusal;
-use crate::restoring::guest_of;
+use crate::restoring::{guest_of, may_be_made};
 use guest_run::Guest;
 use paged_mem::Ram;
-use save_format::state_text::{TextRefusal, is_mappable, read};
+use save_format::state_text::{TextRefusal, front_of, read};
 use std::alloc::Global;
 
 /// Why a text is no guest's. Its form is judged first, then counts and ranges, then references.
@@ -57,7 +57,8 @@ fn wanting(text: &[u8]) -> StateRefusal
     requires { IsOk (parsed_state text.now) }
     ensures { ReadsState text.now (Err result) }
 {
-    if is_mappable(text) {
+    let front = front_of(text);
+    if may_be_made(&front) {
         StateRefusal::OutOfMemory
     } else {
         StateRefusal::Range

@@ -1,22 +1,23 @@
 //! The guest that a text says.
 
-ghost use Rattle.std.specs.Prelude.{◌≡◌, ◌∷◌, [], ◌%◌, MatchResult, OnOk, map, option_map};
+ghost use Rattle.std.specs.Prelude.{◌≡◌, ◌∷◌, [], ◌%◌, ◌↔◌, IsTrue, MatchResult, OnOk, map, option_map};
 ghost use Rattle.save_format.specs.ByteFields.Spelling.{InTurn};
-ghost use Rattle.save_format.specs.StateText.StateText.{after_descriptor, after_file};
+ghost use Rattle.save_format.specs.StateText.StateText.{StateText, after_descriptor, after_file};
+ghost use Rattle.save_format.specs.StateText.Mappable.{IsFrontOf};
 ghost use Rattle.save_format.specs.StateText.Spelled.{IsDescriptor, IsFile, IsReserved, IsStateText};
 ghost use Rattle.save_format.specs.StateText.Seen.{descriptor_view, file_view, reserved_view, state_view};
 ghost use Rattle.rv64_machine.specs.Hart.{IsReservation, reserved_bytes};
-ghost use Rattle.checkpoints.specs.Checkpoint.{Becomes, lists_in};
+ghost use Rattle.checkpoints.specs.Checkpoint.{Becomes, MayBeMade, lists_in};
 ghost use Rattle.checkpoints.specs.Inside.Parts.{MakesFiles, RefusesReservation};
 
 use crate::file_parts::{FileParts, RestoreRefusal, restore};
-use crate::memory::memory_of;
+use crate::memory::{are_mappable, memory_of};
 use ddc_base::OutOfMemory;
 use guest_run::{Guest, fit_together};
 use mem_files::Files;
 use paged_mem::Ram;
 use rv64_machine::{Hart, Reservation};
-use save_format::state_text::{File, NumberedDescriptor, Reserved, StateParts};
+use save_format::state_text::{File, NumberedDescriptor, Reserved, StateFront, StateParts};
 use std::alloc::Global;
 
 /// The guest that a text says: `Range` where a count or a range is that of no guest, and only then `FileRef`, where a reference is.
@@ -35,6 +36,39 @@ pub fn guest_of<R: Ram>(alloc: Global, parts: &StateParts<'_>) -> Result<Guest<R
     }
     let files = files_of(alloc, parts)?;
     Ok(Guest::restore(alloc, hart, files, parts.heap, parts.steps))
+}
+
+/// Whether memory is taken for a state whose text says this in front of its pages.
+pub fn may_be_made(front: &StateFront) -> bool
+    ensures { (s : StateText) → IsFrontOf front.now s → IsTrue result ↔ MayBeMade s }
+{
+    front.pc % 4 == 0 && is_held(front.reservation) && front.mappable
+}
+
+/// What the parts of a text say in front of its pages.
+pub fn front_in(parts: &StateParts<'_>) -> StateFront
+    ensures { IsFrontOf result (state_view parts.now) }
+{
+    StateFront {
+        steps: parts.steps,
+        pc: parts.pc,
+        reservation: parts.reservation,
+        heap: parts.heap,
+        mappable: are_mappable(&parts.runs),
+    }
+}
+
+/// Whether a hart can hold this as reserved.
+fn is_held(reserved: Option<Reserved>) -> bool
+    ensures { IsTrue result ↔ IsReservation (option_map reserved_view reserved) }
+{
+    match reserved {
+        None => true,
+        Some(Reserved { width, at }) => {
+            let count = width.count();
+            (count == 4 || count == 8) && at % count == 0 && at < 1 << 38
+        }
+    }
 }
 
 /// What a hart is to hold as reserved: a multiple of so many bytes, below 2^38.

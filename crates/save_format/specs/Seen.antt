@@ -1,7 +1,9 @@
 -- What the code has, as the definitions see it.
-use Rattle.std.specs.Prelude.{◌≡◌, ℕ, map, IsOk, Result, Ok, Err}
+use Rattle.std.specs.Prelude.{◌≡◌, ℕ, length, map, IsOk, Result, Ok, Err}
 use Rattle.ddc_base.specs.declared.digests.Digest.{Digest}
+use Rattle.save_format.specs.StateText.Mappable.{IsFrontOf}
 use Rattle.save_format.specs.StateText.Seen as state
+use Rattle.save_format.specs.declared.mapping.SaveFront.{SaveFront}
 use Rattle.save_format.specs.declared.state_text.reading.TextRefusal.{TextRefusal}
 use Rattle.save_format.specs.declared.state_text.reading.TextRefusal.TheVariants.{Form, OutOfMemory}
 use Rattle.save_format.specs.declared.parts.InputPart.{InputPart}
@@ -23,3 +25,8 @@ abbrev pub ReadsSaveText : Result Parts TextRefusal → Result SaveText ℕ → 
 ReadsSaveText (Ok p) read = read ≡ Ok (save_view p)
 ReadsSaveText (Err (Form offset)) read = read ≡ Err offset
 ReadsSaveText (Err OutOfMemory) read = IsOk read
+
+-- what a save says in front of the pages of its state: how many stages are done, and the front of the state
+pub record IsSaveFrontOf (front : SaveFront) (save : SaveText) : Type 0 where
+  pub stages : front.stages ≡ length save.stages
+  pub state : IsFrontOf front.state save.state

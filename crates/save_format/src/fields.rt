@@ -239,13 +239,20 @@ pub(crate) fn pass_stage(cursor: &mut Cursor<'_>) -> Result<(), WrongField>
     Ok(())
 }
 
+/// Goes past so many stages that are done.
+pub(crate) fn pass_several(cursor: &mut Cursor<'_>, count: u32) -> Result<(), WrongField>
+    ensures { GoesPast result cursor.new (several saved_stage_at (λ stage. 0) 0 count cursor.old) }
+{
+    for _ in 0..count {
+        pass_stage(cursor)?;
+    }
+    Ok(())
+}
+
 /// Goes past a count of 4 bytes, and that many stages that are done.
 pub(crate) fn pass_stages(cursor: &mut Cursor<'_>) -> Result<(), WrongField>
     ensures { GoesPast result cursor.new (counted saved_stage_at (λ stage. 0) 0 cursor.old) }
 {
     let count = cursor.u32()?;
-    for _ in 0..count {
-        pass_stage(cursor)?;
-    }
-    Ok(())
+    pass_several(cursor, count)
 }

@@ -17,7 +17,7 @@ pub mod state_text;
 mod writing;
 
 pub use fields::digest_of;
-pub use mapping::{is_mappable, origin_of};
+pub use mapping::{SaveFront, front_of, origin_of};
 pub use parts::{InputPart, Parts, StagePart};
 pub use reading::{MAGIC, read};
 pub use writing::put_stage;

@@ -1,38 +1,49 @@
-//! What is told of a save without memory: whether the runs of its state can be mapped, and of which recipe it is.
+//! What is told of a save without memory: what it says in front of its pages, and of which recipe it is.
 
-ghost use Rattle.std.specs.Prelude.{◌≡◌, ◌↔◌, IsTrue, Ok};
+ghost use Rattle.std.specs.Prelude.{◌≡◌, IsOk, Ok};
 ghost use Rattle.save_format.specs.ByteFields.Reader.{Finds};
-ghost use Rattle.save_format.specs.Inside.Mapping.{TellsRuns};
+ghost use Rattle.save_format.specs.Inside.Mapping.{Tells};
 ghost use Rattle.save_format.specs.SaveText.{SaveText, origin_at, parsed_save, save_at};
-ghost use Rattle.save_format.specs.StateText.Mappable.{AreMappable};
+ghost use Rattle.save_format.specs.Seen.{IsSaveFrontOf};
 
 use crate::byte_fields::{Cursor, WrongField, pass_counted};
-use crate::fields::{digest_of, pass_stages};
+use crate::fields::{digest_of, pass_several};
 use crate::parts::InputPart;
 use crate::reading::{MAGIC, OLD_MAGIC};
-use crate::state_text::state_mappable;
+use crate::state_text::{StateFront, state_front};
 use ddc_base::digests::Digest;
 
-/// Whether the runs of the state in a save's text at the front of what is left can be mapped.
+/// What a save says in front of the pages of its state.
+#[derive(Clone, Copy)]
+pub struct SaveFront {
+    /// How many stages are done.
+    pub stages: u32,
+    pub state: StateFront,
+}
+
+/// The front of a save's text at the front of what remains.
 #[tactic(auto, unfolding(crate::specs::SaveText::save_at, crate::specs::SaveText::fields_at))]
-fn save_mappable(cursor: &mut Cursor<'_>) -> Result<bool, WrongField>
-    ensures { TellsRuns (λ save. save.state.runs) result (save_at cursor.old) }
+fn save_front(cursor: &mut Cursor<'_>) -> Result<SaveFront, WrongField>
+    ensures { Tells IsSaveFrontOf result (save_at cursor.old) }
 {
     let form = cursor.begins_with_either(&OLD_MAGIC, &MAGIC)?;
     let _recipe = digest_of(cursor)?;
     pass_counted::<InputPart>(cursor)?;
-    pass_stages(cursor)?;
-    state_mappable(cursor, form)
+    let stages = cursor.u32()?;
+    pass_several(cursor, stages)?;
+    let state = state_front(cursor, form)?;
+    Ok(SaveFront { stages, state })
 }
 
-/// Whether the runs of the state that a save says can be mapped. Of a text without the form nothing is said.
-pub fn is_mappable(text: &[u8]) -> bool
-    ensures { (save : SaveText) → parsed_save text.now ≡ Ok save → IsTrue result ↔ AreMappable save.state.runs }
+/// What a save of the form says in front of the pages of its state, which takes no memory.
+pub fn front_of(text: &[u8]) -> SaveFront
+    requires { IsOk (parsed_save text.now) }
+    ensures { (save : SaveText) → parsed_save text.now ≡ Ok save → IsSaveFrontOf result save }
 {
     let mut cursor = Cursor::new(text);
-    match save_mappable(&mut cursor) {
-        Ok(mappable) => mappable,
-        Err(_) => false,
+    match save_front(&mut cursor) {
+        Ok(front) => front,
+        Err(_) => unreachable!(),
     }
 }
 

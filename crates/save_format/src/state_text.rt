@@ -13,8 +13,8 @@ mod writing;
 
 pub(crate) use items::{is_zero, name_of};
 pub use listing::{descriptors_of, files_of};
-pub use mapping::{MOST_PAGES, is_mappable};
-pub(crate) use mapping::{runs_mappable, state_mappable};
+pub use mapping::{MOST_PAGES, StateFront, front_of};
+pub(crate) use mapping::{runs_mappable, state_front};
 pub(crate) use parts::FrontNumbers;
 pub use parts::{File, NumberedDescriptor, Page, Reserved, Run, StateParts};
 pub(crate) use reading::{heap_of, parts_in, pass_state_in, reservation_of};

@@ -2,8 +2,9 @@
 use Rattle.std.proofs.Common.{◌≡◌, ℕ, zero, suc, ◌+◌, ◌≤◌, ◌==◌, ◌&&◌, Bool, true, false, nat_le, if◌then◌else◌, Option, None, Some, Result, Ok, Err, List, [], ◌∷◌, length, map, refl, sym, ap, ◌∙◌, arith}
 use Rattle.std.specs.List.{fold}
 use Rattle.std.specs.Prelude.{Contains}
-use Rattle.std.proofs.lemmas.Bool.{and_parts, and_from, eqb-true, le-leb, leb-true, le-ltb}
+use Rattle.std.proofs.lemmas.Bool.{and_parts, and_from, eqb-true, le-leb, leb-true}
 use Rattle.std.proofs.lemmas.Option.{same_Some}
+use Rattle.ddc_base.specs.Results.{◌>>=◌, or_error}
 use Rattle.mem_files.specs.World.{World}
 use Rattle.mem_files.specs.Outputs.{IsContent, out}
 use Rattle.mem_files.proofs.Leftovers.{output-is}
@@ -19,21 +20,19 @@ use Rattle.recipe.specs.declared.contents.RecipeContents.{RecipeContents}
 use Rattle.recipe.specs.declared.parts.Stage.{Stage}
 use Rattle.report.specs.declared.types.StageLine.{StageLine}
 use Rattle.audit_rules.specs.declared.source_check.cause.CheckCause.{CheckCause}
-use Rattle.audit_rules.specs.declared.answer.StageFault.TheVariants.{Runs}
 use Rattle.audit_rules.specs.declared.answer.Finished.{Finished}
-use Rattle.audit_rules.specs.declared.cause.RunCause.TheVariants as run
 use Rattle.recipe.specs.Kept.{IsRecipe}
 use Rattle.audit_rules.specs.Contents.{Contents, box_of, check_of, program_of}
-use Rattle.audit_rules.specs.Stages.{artefact_bytes, by_end, by_start, checked_by, contents, finished, made_by, output_of, stage_result, start_stage}
+use Rattle.audit_rules.specs.Stages.{artefact_bytes, by_end, by_start, contents, exited_with, finished, output_of, stage_result, start_stage}
 use Rattle.audit_rules.proofs.Continues.{fresh}
-use Rattle.audit_rules.proofs.Endings.{ended}
+use Rattle.audit_rules.proofs.Endings.{ended, exit-done}
 use Rattle.audit_rules.proofs.GivenBoxes.{AreContents, box-is, content-is}
 use Rattle.audit_rules.proofs.Slices.{end-place}
 use Rattle.verifier.proofs.StageRules.{rules-of}
 use Rattle.verifier.specs.declared.part.Part.{Part}
 use Rattle.verifier.specs.declared.part.Part.TheVariants as part
 use Rattle.report.specs.Marks.{is_mark_of}
-use Rattle.verifier.specs.Faults.{◌>>=◌, checked_artefact, exit_of, has_left, left_at, made_as, or_fails, recorded, replayed, size_of}
+use Rattle.verifier.specs.Faults.{checked_artefact, exit_of, has_left, left_at, made_as, recorded, replayed, size_of}
 
 -- the program ends by an exit with 0 at this step, and what it leaves has an artefact that is small enough and right
 pub record IsDone (recipe : RecipeContents) (inputs : List (List ℕ)) (done : List Finished) (stage : Stage) (steps : ℕ) (world : World) (made : List ℕ) : Type 0 where
@@ -92,10 +91,8 @@ done-result recipe inputs done stage steps world made ok =
     let number : ok.last.steps + 1 ≡ steps = omega (arith, counted, zero_steps) in
     ap (by_start recipe inputs done stage) ok.started
     ∙ ap (by_end recipe inputs done stage) (first_end-found ok.guest steps stage.steps (Exited 0, ok.last) ok.within ok.ended)
-    ∙ (λ i. made_by recipe inputs done stage (number i) (ok.leaves i) (out (ok.leaves i) (output_of stage.output)))
-    ∙ ap (made_by recipe inputs done stage steps world) ok.there
-    ∙ ap (λ b. if b then Err (Runs run.Crowded steps) else checked_by (check_of recipe (contents inputs done) stage made) steps world made) (le-ltb _ _ ok.small)
-    ∙ ap (λ o. checked_by o steps world made) ok.right
+    ∙ (λ i. exited_with recipe inputs done stage 0 (number i) (ok.leaves i))
+    ∙ exit-done recipe inputs done stage steps world made ok.there ok.small ok.right
 
 -- ---- a judged line
 
@@ -112,7 +109,7 @@ chained : {A B : Type 0} (r : Result A Part) (rest : A → Result B Part) (value
 chained (Ok found) rest value is = (found, refl, is)
 chained (Err why) rest value is = absurd cc
 
-there-is : {A : Type 0} (why : Part) (o : Option A) (value : A) → or_fails why o ≡ Ok value → o ≡ Some value
+there-is : {A : Type 0} (why : Part) (o : Option A) (value : A) → or_error why o ≡ Ok value → o ≡ Some value
 there-is why None value is = absurd cc
 there-is {A = A} why (Some found) value is = ap (λ r. Some (value_of r)) is where
   value_of : Result A Part → A
@@ -207,10 +204,10 @@ judged : (recipe : RecipeContents) (so_far : Contents) (stage : Stage) (line : S
 unfolding replayed
 judged recipe so_far stage line made is =
     let start = start_stage recipe so_far stage in
-    let first = chained (or_fails part.Run (left_at start stage.steps line.steps))
-    (λ world. or_fails part.Files (recorded so_far stage line world) >>= (λ found. checked_artefact found (check_of recipe so_far stage found))) made is in
+    let first = chained (or_error part.Run (left_at start stage.steps line.steps))
+    (λ world. or_error part.Files (recorded so_far stage line world) >>= (λ found. checked_artefact found (check_of recipe so_far stage found))) made is in
     let world = first.0 in
-    let second = chained (or_fails part.Files (recorded so_far stage line world)) (λ found. checked_artefact found (check_of recipe so_far stage found)) made first.2 in
+    let second = chained (or_error part.Files (recorded so_far stage line world)) (λ found. checked_artefact found (check_of recipe so_far stage found)) made first.2 in
     let third = right-is second.0 made (check_of recipe so_far stage second.0) second.2 in
     record {
       world = world;
@@ -263,18 +260,18 @@ pub done-replayed : (recipe : RecipeContents) (inputs : List (List ℕ)) (done :
 unfolding replayed
 done-replayed recipe inputs done stage line world made ok left mark =
     let files : World → Result (List ℕ) Part =
-    λ w. or_fails part.Files (recorded (contents inputs done) stage line w) >>= (λ found. checked_artefact found (check_of recipe (contents inputs done) stage found)) in
+    λ w. or_error part.Files (recorded (contents inputs done) stage line w) >>= (λ found. checked_artefact found (check_of recipe (contents inputs done) stage found)) in
     let check : Result (List ℕ) Part → Result (List ℕ) Part = λ r. r >>= (λ found. checked_artefact found (check_of recipe (contents inputs done) stage found)) in
     let size = size-of inputs done in
     let small : size_of (contents inputs done) + length made ≤ 1_073_741_824 = omega (arith, ok.small, size) in
-    ap (λ s. or_fails part.Run (left_at s stage.steps line.steps) >>= files) ok.started
-    ∙ ap (λ b. or_fails part.Run (if b then exit_of (end_at ok.guest line.steps) else None) >>= files)
+    ap (λ s. or_error part.Run (left_at s stage.steps line.steps) >>= files) ok.started
+    ∙ ap (λ b. or_error part.Run (if b then exit_of (end_at ok.guest line.steps) else None) >>= files)
     (and_from (nat_le 1 line.steps) (nat_le line.steps stage.steps) (le-leb 1 line.steps (some-step ok.guest (Exited 0, ok.last) line.steps ok.ended)) (le-leb line.steps stage.steps ok.within))
-    ∙ ap (λ o. or_fails part.Run (exit_of o) >>= files) ok.ended
+    ∙ ap (λ o. or_error part.Run (exit_of o) >>= files) ok.ended
     ∙ ap files ok.leaves
-    ∙ ap (λ b. check (or_fails part.Files (if b then made_as (contents inputs done) line (out world (output_of stage.output)) else None))) left
-    ∙ ap (λ o. check (or_fails part.Files (made_as (contents inputs done) line o))) ok.there
-    ∙ ap (λ b. check (or_fails part.Files (if b then Some made else None)))
+    ∙ ap (λ b. check (or_error part.Files (if b then made_as (contents inputs done) line (out world (output_of stage.output)) else None))) left
+    ∙ ap (λ o. check (or_error part.Files (made_as (contents inputs done) line o))) ok.there
+    ∙ ap (λ b. check (or_error part.Files (if b then Some made else None)))
     (and_from (is_mark_of line.made made) (nat_le (size_of (contents inputs done) + length made) 1_073_741_824) mark (le-leb (size_of (contents inputs done) + length made) 1_073_741_824 small))
     ∙ ap (checked_artefact made) ok.right
 

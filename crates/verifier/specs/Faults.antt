@@ -2,6 +2,7 @@
 -- A stage's recorded step is judged and not searched for, and programs and files are the bytes that the earlier runs left. Digests are SHA-256 (FIPS 180-4).
 use Rattle.std.specs.Prelude.{ℕ, ◌+◌, ◌==◌, Bool, true, false, ◌&&◌, if◌then◌else◌, nat_le, bytes_eq, Option, None, Some, Result, Ok, Err, List, [], ◌∷◌, ◌++◌, length, option_map, sum_by}
 use Rattle.ddc_base.specs.Difference.{first_difference}
+use Rattle.ddc_base.specs.Results.{◌>>=◌, or_error}
 use Rattle.ddc_base.specs.declared.languages.Language.{Language}
 use Rattle.ddc_base.specs.declared.languages.Language.TheVariants.{Hex0, Hex1, Hex2, M1}
 use Rattle.mem_files.specs.World.{World}
@@ -107,26 +108,16 @@ made_as so_far line (Some made) =
 abbrev pub recorded : Contents → Stage → StageLine → World → Option (List ℕ)
 recorded so_far stage line world = if has_left line world then made_as so_far line (out world (output_of stage.output)) else None
 
--- what is there, or this part fails
-abbrev pub or_fails : {A : Type 0} → Part → Option A → Result A Part
-or_fails part None = Err part
-or_fails part (Some found) = Ok found
-
 -- an artefact in which its check found nothing wrong
 abbrev pub checked_artefact : List ℕ → Option CheckCause → Result (List ℕ) Part
 checked_artefact made None = Ok made
 checked_artefact made (Some why) = Err part.Assembled
 
-infixl 10 ◌>>=◌
-abbrev pub ◌>>=◌ : {A B : Type 0} → Result A Part → (A → Result B Part) → Result B Part
-Ok value >>= rest = rest value
-Err part >>= rest = Err part
-
 -- a stage's line, judged by a replay: the artefact, or the part that fails
 unfoldable pub replayed : RecipeContents → Contents → Stage → StageLine → Result (List ℕ) Part
 replayed recipe so_far stage line = do
-  world ← or_fails part.Run (left_at (start_of (program_of recipe so_far stage) (box_of recipe so_far stage)) stage.steps line.steps)
-  made ← or_fails part.Files (recorded so_far stage line world)
+  world ← or_error part.Run (left_at (start_of (program_of recipe so_far stage) (box_of recipe so_far stage)) stage.steps line.steps)
+  made ← or_error part.Files (recorded so_far stage line world)
   checked_artefact made (check_of recipe so_far stage made)
 
 -- ---- comparisons: each line says what the bytes say

@@ -1,11 +1,12 @@
 //! A stage's line, judged by a replay.
 
+ghost use Rattle.ddc_base.specs.Results.{or_error};
 ghost use Rattle.guest_run.specs.Run.{end_at};
 ghost use Rattle.guest_run.specs.Start.{start_of};
 ghost use Rattle.mem_files.specs.Outputs.{out};
 ghost use Rattle.std.specs.Option.{option_copied};
 ghost use Rattle.std.specs.Prelude.{◌≡◌, ◌+◌, ◌≤◌, ◌^◌, Contains};
-ghost use Rattle.verifier.specs.Faults.{exit_of, left_at, or_fails, recorded, replayed, size_of};
+ghost use Rattle.verifier.specs.Faults.{exit_of, left_at, recorded, replayed, size_of};
 ghost use Rattle.verifier.specs.Inside.Holdings.{IsHeld, IsOutputName, Judged, judged_left, so_far};
 ghost use Rattle.verifier.specs.declared.part.Part.TheVariants as part;
 ghost use Rattle.audit_rules.specs.Contents.{Contents, box_of, program_of};
@@ -77,7 +78,7 @@ fn exited(
 ) -> Result<Guest<RunRam>, JudgingStop>
     requires held { IsHeld held.now }
     requires known { Contains held.now.recipe.now.stages stage.now }
-    ensures { Judged (λ guest. guest.world) (or_fails part.Run (left_at (start_of (program_of held.now.recipe.now (so_far held.now) stage.now) (box_of held.now.recipe.now (so_far held.now) stage.now)) stage.now.steps step)) result }
+    ensures { Judged (λ guest. guest.world) (or_error part.Run (left_at (start_of (program_of held.now.recipe.now (so_far held.now) stage.now) (box_of held.now.recipe.now (so_far held.now) stage.now)) stage.now.steps step)) result }
 {
     if step == 0 || step > stage.steps {
         return Err(JudgingStop::Refuted(Part::Run));
@@ -97,7 +98,7 @@ fn run_out(guest: Guest<RunRam>, step: u64) -> Result<Guest<RunRam>, JudgingStop
     requires fresh { guest.steps ≡ 0 }
     requires some { 1 ≤ step }
     requires few { step ≤ 2 ^ 48 }
-    ensures { Judged (λ guest. guest.world) (or_fails part.Run (exit_of (end_at guest step))) result }
+    ensures { Judged (λ guest. guest.world) (or_error part.Run (exit_of (end_at guest step))) result }
 {
     let mut guest = guest;
     run_to(&mut guest, step)?;
@@ -109,7 +110,7 @@ fn run_to(guest: &mut Guest<RunRam>, step: u64) -> Result<(), JudgingStop>
     requires fresh { guest.old.steps ≡ 0 }
     requires some { 1 ≤ step }
     requires few { step ≤ 2 ^ 48 }
-    ensures { Judged (λ _. guest.new.world) (or_fails part.Run (exit_of (end_at guest.old step))) result }
+    ensures { Judged (λ _. guest.new.world) (or_error part.Run (exit_of (end_at guest.old step))) result }
 {
     match guest.run(step) {
         RunEnd::Exited(status) => {

@@ -14,6 +14,7 @@ use Rattle.audit_run.specs.declared.save.reading.SaveRefusal.{SaveRefusal}
 use Rattle.audit_run.specs.declared.save.reading.SaveRefusal.TheVariants as saves
 use Rattle.audit_run.proofs.SaveLemmas.Answered.{is_answer}
 use Rattle.audit_run.proofs.SaveLemmas.Exactly.{same_save}
+use Rattle.audit_run.proofs.SaveLemmas.Placed.{place_may_stand}
 
 -- what ends the judging of the base ends the whole
 pub stops : (recipe : RecipeContents) (inputs : List (List ℕ)) (base text : List ℕ) (refusal : DeltaRefusal) → JudgesBase recipe inputs base (Err refusal) → ResumesRelative recipe inputs base text (Err refusal)
@@ -25,7 +26,7 @@ stops recipe inputs base text State judges = absurd judges
 
 -- memory may be wanted for a base that is resumed
 pub may_want : (recipe : RecipeContents) (inputs : List (List ℕ)) (base : List ℕ) (b : Position) → Resumes recipe inputs base (Ok b) → Resumes recipe inputs base (Err saves.OutOfMemory)
-may_want recipe inputs base b (save, is, of, (stage, stages, place), found) = (save, is, of, place.range.memory.runs)
+may_want recipe inputs base b (save, is, of, place, found) = (save, is, of, place_may_stand recipe save place)
 
 -- and what was read of it is the save of its position
 pub known_is : (recipe : RecipeContents) (inputs : List (List ℕ)) (base : List ℕ) (b : Position) (known : SaveText) → Resumes recipe inputs base (Ok b) → parsed_save base ≡ Ok known → IsSaveText known

@@ -7,12 +7,16 @@ use Rattle.save_format.specs.ByteFields.Spelling.{InTurn}
 use Rattle.recipe.specs.declared.contents.RecipeContents.{RecipeContents}
 use Rattle.recipe.specs.declared.parts.Stage.{Stage}
 use Rattle.save_format.specs.declared.parts.StagePart.{StagePart}
-use Rattle.save_format.specs.SaveText.{StageText, after_left}
+use Rattle.save_format.specs.SaveText.{SaveText, StageText, after_left}
 use Rattle.save_format.specs.Spelled.{IsSavedLeft, IsStageText}
+use Rattle.ddc_base.specs.declared.digests.Digest.{Digest}
 use Rattle.save_format.specs.Seen.{stage_view}
+use Rattle.save_format.specs.StateText.Seen.{state_view}
+use Rattle.save_format.specs.declared.state_text.parts.StateParts.{StateParts}
 use Rattle.audit_rules.specs.declared.answer.Finished.{Finished}
 use Rattle.audit_rules.specs.Positions.{todo}
-use Rattle.audit_run.specs.Save.Saves.{finished_of}
+use Rattle.checkpoints.proofs.Refused.{front_made}
+use Rattle.audit_run.specs.Save.Saves.{IsSavedPlace, MayStand, finished_of}
 
 -- the names of each stage's left files are in order
 abbrev pub IsOrdered : Finished → Type 0
@@ -47,3 +51,12 @@ present recipe items count done fs stage same counted are inside there =
     subst (λ n. drop n recipe.stages ≡ stage ∷ drop (n + 1) recipe.stages) index
     (subst (λ (stages : List Stage). drop count stages ≡ stage ∷ drop (count + 1) stages) same
     (at_index items count stage (ltb-true count (length items) (sym inside)) there))
+
+-- the save of which these are the stages and the state
+abbrev pub said_by : List StagePart → StateParts → Digest → List Digest → SaveText
+said_by parts state recipe inputs = record { recipe = recipe; inputs = inputs; stages = map stage_view parts; state = state_view state }
+
+-- for a place memory is taken
+pub place_may_stand : (recipe : RecipeContents) (save : SaveText) → IsSavedPlace recipe save → MayStand recipe save
+place_may_stand recipe save (stage, stages, place) =
+    (stage, stages, record { left = place.left; within = place.within; heap = place.heap; state = front_made save.state place.range })

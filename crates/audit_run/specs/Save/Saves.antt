@@ -5,9 +5,8 @@ use Rattle.sha2.specs.Sha256.{sha256}
 use Rattle.ddc_base.specs.declared.digests.Digest.{Digest}
 use Rattle.recipe.specs.declared.contents.RecipeContents.{RecipeContents}
 use Rattle.recipe.specs.declared.parts.Stage.{Stage}
-use Rattle.checkpoints.specs.Checkpoint.{IsInRange, IsJoined, guest_of, state_of}
+use Rattle.checkpoints.specs.Checkpoint.{IsInRange, IsJoined, MayBeMade, guest_of, state_of}
 use Rattle.save_format.specs.SaveText.{SaveText, StageText, parsed_save}
-use Rattle.save_format.specs.StateText.Mappable.{AreMappable}
 use Rattle.audit_rules.specs.declared.answer.Finished.{Finished}
 use Rattle.audit_rules.specs.Positions.{Position, at, todo}
 use Rattle.audit_rules.specs.Valid.{AreDone}
@@ -58,22 +57,32 @@ pub record IsSavedPlaceIn (recipe : RecipeContents) (save : SaveText) (stage : S
 abbrev pub IsSavedPlace : RecipeContents → SaveText → Type 0
 IsSavedPlace recipe save = (stage : Stage) × (stages : List Stage) × IsSavedPlaceIn recipe save stage stages
 
--- what becomes of what a save of the recipe says; want of memory comes only where the runs of its state can be mapped
+-- memory is taken for a save of a recipe only where it is taken for its state, and what the numbers of the state say of the present stage is right
+pub record MayStandIn (recipe : RecipeContents) (save : SaveText) (stage : Stage) (stages : List Stage) : Type 0 where
+  pub left : todo recipe (done_in save) ≡ stage ∷ stages
+  pub within : save.state.steps < stage.steps
+  pub heap : save.state.heap.limit ≡ stage.heap
+  pub state : MayBeMade save.state
+
+abbrev pub MayStand : RecipeContents → SaveText → Type 0
+MayStand recipe save = (stage : Stage) × (stages : List Stage) × MayStandIn recipe save stage stages
+
+-- what becomes of what a save of the recipe says
 abbrev pub Stands : RecipeContents → SaveText → Result Position SaveRefusal → Type 0
 Stands recipe save (Ok p) = IsSavedPlace recipe save × (p ≡ position_of save)
 Stands recipe save (Err State) = ¬ (IsSavedPlace recipe save)
-Stands recipe save (Err OutOfMemory) = AreMappable save.state.runs
+Stands recipe save (Err OutOfMemory) = MayStand recipe save
 Stands recipe save (Err (Form offset)) = ⊥
 Stands recipe save (Err OtherRecipe) = ⊥
 
 -- what becomes of a text: its form is judged first, then whether it is of this recipe and these inputs, then whether it is a place. Want of
--- memory comes only where the form holds, the save is of this recipe and these inputs, and the runs of its state can be mapped
+-- memory comes only where the form holds, the save is of this recipe and these inputs, and memory is taken for it
 abbrev pub Resumes : RecipeContents → List (List ℕ) → List ℕ → Result Position SaveRefusal → Type 0
 Resumes recipe inputs text (Ok p) = (save : SaveText) × (parsed_save text ≡ Ok save) × IsOf recipe inputs save × IsSavedPlace recipe save × (p ≡ position_of save)
 Resumes recipe inputs text (Err (Form offset)) = parsed_save text ≡ Err offset
 Resumes recipe inputs text (Err OtherRecipe) = (save : SaveText) × (parsed_save text ≡ Ok save) × ¬ (IsOf recipe inputs save)
 Resumes recipe inputs text (Err State) = (save : SaveText) × (parsed_save text ≡ Ok save) × IsOf recipe inputs save × ¬ (IsSavedPlace recipe save)
-Resumes recipe inputs text (Err OutOfMemory) = (save : SaveText) × (parsed_save text ≡ Ok save) × IsOf recipe inputs save × AreMappable save.state.runs
+Resumes recipe inputs text (Err OutOfMemory) = (save : SaveText) × (parsed_save text ≡ Ok save) × IsOf recipe inputs save × MayStand recipe save
 
 -- the answer to a text: what the rules allow of it where memory is not wanting, of which there is exactly one
 -- (`laws::every_text_has_one_answer`)

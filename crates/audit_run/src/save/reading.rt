@@ -1,13 +1,14 @@
 //! The place in an audit that a text says.
 
-ghost use Rattle.std.specs.Prelude.{◌≡◌, ◌↔◌, All, Err, IfOk, IsOk, IsTrue, List, map};
-ghost use Rattle.audit_run.specs.Save.Saves.{IsResumedAs, Resumes, Stands, digest_of, finished_of, save_of, save_refusal_number};
+ghost use Rattle.std.specs.Prelude.{◌≡◌, ◌↔◌, All, Err, IfOk, IsOk, IsTrue, List, length, map};
+ghost use Rattle.audit_run.specs.Save.Saves.{IsResumedAs, MayStand, Resumes, Stands, digest_of, finished_of, save_of, save_refusal_number};
 ghost use Rattle.audit_run.specs.Save.Inside.Seen.{AreDigests};
 ghost use Rattle.guest_run.specs.Valid.{IsValid};
 ghost use Rattle.recipe.specs.Kept.{IsRecipe};
 ghost use Rattle.ddc_base.specs.declared.digests.Digest.{Digest};
 ghost use Rattle.save_format.specs.PatchText.Spelled.{IsPatched};
-ghost use Rattle.save_format.specs.SaveText.{parsed_save};
+ghost use Rattle.save_format.specs.SaveText.{SaveText, parsed_save};
+ghost use Rattle.save_format.specs.StateText.Mappable.{IsFrontOf};
 ghost use Rattle.save_format.specs.Spelled.{IsStageText, IsTextOfSave};
 ghost use Rattle.save_format.specs.Seen.{stage_view};
 ghost use Rattle.save_format.specs.StateText.Seen.{state_view};
@@ -19,13 +20,13 @@ use crate::save::judging::are_done;
 use crate::save::origin::is_text_of;
 use crate::stage::Done;
 use audit_rules::Finished;
-use checkpoints::{RestoreRefusal, are_mappable, patched_guest_of};
+use checkpoints::{RestoreRefusal, front_in, may_be_made, patched_guest_of};
 use ddc_base::digests::Digest;
 use ddc_base::{Bytes, OutOfMemory, digest};
 use guest_run::{Guest, RunRam};
 use recipe::Recipe;
-use save_format::state_text::{self, TextRefusal};
-use save_format::{InputPart, Parts, StagePart, is_mappable};
+use save_format::state_text::{self, StateFront, TextRefusal};
+use save_format::{InputPart, Parts, StagePart, front_of};
 use std::alloc::Global;
 use std::marker::Model;
 
@@ -148,11 +149,25 @@ fn wanting(recipe: &Recipe, inputs: &[Bytes], text: &[u8]) -> SaveRefusal
     if !is_text_of(text, recipe, inputs) {
         return SaveRefusal::OtherRecipe;
     }
-    if is_mappable(text) {
+    let front = front_of(text);
+    if may_stand(recipe, front.stages as usize, &front.state) {
         SaveRefusal::OutOfMemory
     } else {
         SaveRefusal::State
     }
+}
+
+/// Whether memory is taken for a save of the recipe in which so many stages are done, and whose state says this in front of its pages.
+fn may_stand(recipe: &Recipe, stages: usize, front: &StateFront) -> bool
+    ensures { (save : SaveText) → stages ≡ length save.stages → IsFrontOf front.now save.state → IsTrue result ↔ MayStand recipe.now save }
+{
+    let Some(stage) = recipe.stages().as_slice().get(stages) else {
+        return false;
+    };
+    if front.steps >= stage.steps || front.heap.limit != stage.heap {
+        return false;
+    }
+    may_be_made(front)
 }
 
 /// Whether a save is of the recipe of this digest and of these inputs.
@@ -198,20 +213,12 @@ pub(crate) fn place_of(
     ensures stands { (digest : Digest) (inputs : List Digest) → Stands recipe.now (record { recipe = digest; inputs = inputs; stages = map stage_view parts.items; state = state_view state.now }) result }
     ensures valid { IfOk result (λ p. IsValid p.at) }
 {
-    if !are_mappable(&state.runs) {
+    let front = front_in(state);
+    if !may_stand(recipe, parts.as_slice().len(), &front) {
         return Err(SaveRefusal::State);
     }
     let done = done_of(alloc, parts)?;
     if !are_done(recipe, done.as_slice()) {
-        return Err(SaveRefusal::State);
-    }
-    let Some(stage) = recipe.stages().as_slice().get(done.as_slice().len()) else {
-        return Err(SaveRefusal::State);
-    };
-    if state.steps >= stage.steps {
-        return Err(SaveRefusal::State);
-    }
-    if state.heap.limit != stage.heap {
         return Err(SaveRefusal::State);
     }
     match patched_guest_of(alloc, state) {

@@ -1,15 +1,19 @@
 -- Runs that are gone past one after the other, and what is known of them after what is still read.
-use Rattle.std.proofs.Common.{◌≡◌, ℕ, ◌+◌, ◌-◌, ◌^◌, ◌<◌, ◌≤◌, Bool, Option, None, Some, List, [], ◌∷◌, ◌++◌, length, All, sum_by, Result, Ok, Err, refl, sym, ap, subst, ◌∙◌, arith}
+use Rattle.std.proofs.Common.{◌≡◌, ℕ, zero, suc, ◌+◌, ◌-◌, ◌^◌, ◌<◌, ◌≤◌, Bool, Option, None, Some, List, [], ◌∷◌, ◌++◌, length, All, sum_by, Result, Ok, Err, refl, sym, ap, subst, ◌∙◌, arith}
 use Rattle.std.specs.Option.{is_some}
-use Rattle.std.specs.Prelude.{◌↔◌, IsTrue}
+use Rattle.std.specs.Prelude.{◌↔◌, IsOk, IsTrue, option_map}
 use Rattle.std.proofs.lemmas.List.Elements.{All-append, All-cons, All-head, All-nil, All-tail}
 use Rattle.std.proofs.lemmas.List.Sums.{sum_by_push}
 use Rattle.save_format.specs.declared.byte_fields.cursor.WrongField.{WrongField}
 use Rattle.save_format.specs.declared.state_text.parts.Run.{Run}
-use Rattle.save_format.specs.ByteFields.Reader.{Read, Reader, ◌>>=◌, done, read_onward, several, whole}
-use Rattle.save_format.specs.Inside.Mapping.{IsLeftAfter, PassesRuns, TellsRuns}
-use Rattle.save_format.specs.StateText.Mappable.{AreMappable}
-use Rattle.save_format.specs.StateText.StateText.{after_run, run_at}
+use Rattle.save_format.specs.declared.state_text.parts.FrontNumbers.{FrontNumbers}
+use Rattle.mem_files.specs.Lists.{ListedFile}
+use Rattle.mem_files.specs.declared.open_file.OpenFile.{OpenFile}
+use Rattle.save_format.specs.ByteFields.Reader.{Read, Reader, ◌>>=◌, counted, done, ended, placed_in, read_onward, several, whole}
+use Rattle.save_format.specs.Inside.Mapping.{IsLeftAfter, PassesRuns, Tells}
+use Rattle.save_format.specs.StateText.Mappable.{AreMappable, IsFrontOf}
+use Rattle.save_format.specs.StateText.Seen.{reserved_view}
+use Rattle.save_format.specs.StateText.StateText.{PageText, StateText, after_run, run_at}
 use Rattle.save_format.proofs.ByteFieldsLemmas.Loop.{goes_on, is_done, none_before, with_front}
 use Rattle.save_format.proofs.ByteFieldsLemmas.Spells.{all_taken}
 
@@ -83,6 +87,20 @@ went_past left least count i cursor total some le is went =
 
 -- ---- after the runs
 
+-- a state of numbers and lists
+abbrev said : FrontNumbers → List Run → List PageText → List ListedFile → List (ℕ × OpenFile) → List ℕ → List ℕ → StateText
+said numbers runs pages files descriptors stream1 stream2 = record { steps = numbers.steps; pc = numbers.pc; registers = numbers.registers; reservation = option_map reserved_view numbers.reservation; heap = numbers.heap; runs = runs; pages = pages; files = files; descriptors = descriptors; stream1 = stream1; stream2 = stream2 }
+
+abbrev pub all_lists : Reader (List PageText) → Reader (List ListedFile) → Reader (List (ℕ × OpenFile)) → Reader (List ℕ) → Reader (List ℕ) → FrontNumbers → Reader StateText
+all_lists pages_at files_at descriptors_at stream1_at stream2_at numbers = do
+  runs ← counted run_at after_run 0
+  pages ← pages_at
+  files ← files_at
+  descriptors ← descriptors_at
+  stream1 ← stream1_at
+  stream2 ← stream2_at
+  done (said numbers runs pages files descriptors stream1 stream2)
+
 -- what is read in two steps is read in each
 pub onward : {A B : Type 0} (read : Read A) (next : A → Reader B) (b : B) (left : List ℕ) → read_onward read next ≡ Ok (b, left) → (a : A) × (l : List ℕ) × (read ≡ Ok (a, l)) × (next a l ≡ Ok (b, left))
 onward (Ok x) next b left e = (x.0, x.1, refl, e)
@@ -103,21 +121,55 @@ same_value a b l m e = ap (value_or a) e
 pub same_rest : {A : Type 0} (a b : A) (l m : List ℕ) → ◌≡◌ {A = Read A} (Ok (a, l)) (Ok (b, m)) → l ≡ m
 same_rest a b l m e = ap rest_of e
 
--- what is told of a part is told of what is made of it
-pub told_in : {X Y : Type 0} (part_runs : X → List Run) (runs_of : Y → List Run) (make : X → Y) → ((x : X) → part_runs x ≡ runs_of (make x)) → (result : Result Bool WrongField) (read : Read X)
-    → TellsRuns part_runs result read → TellsRuns runs_of result (read_onward read (λ x. done (make x)))
-told_in {X} {Y} part_runs runs_of make same (Ok mappable) read tells = λ y rest e.
-    let on = onward read (λ x. done (make x)) y rest e in
-    let is : make on.0 ≡ y = same_value (make on.0) y on.1 rest on.3 in
-    subst (λ (runs : List Run). IsTrue mappable ↔ AreMappable runs) (same on.0 ∙ ap runs_of is) (tells on.0 on.1 on.2)
-told_in part_runs runs_of make same (Err field) read tells = rw tells refl
+-- what is told of a part, as of what is made of it
+pub told_in : {W X Y Z : Type 0} (Part : W → Y → Type 0) (Holds : X → Z → Type 0) (make : Y → Z) (as_whole : W → X) → ((told : W) (y : Y) → Part told y → Holds (as_whole told) (make y)) → (told : W) (read : Read Y)
+    → Tells Part (Ok told) read → Tells Holds (Ok (as_whole told)) (read_onward read (λ y. done (make y)))
+told_in {X = X} Part Holds make as_whole same told read tells = λ z rest e.
+    let on = onward read (λ y. done (make y)) z rest e in
+    let is : make on.0 ≡ z = same_value (make on.0) z on.1 rest on.3 in
+    subst (Holds (as_whole told)) is (same told on.0 (tells on.0 on.1 on.2))
+
+-- the numbers, and what was told of the runs behind them, are the front of what the lists are read as, whatever reads the other lists
+pub front_says : (pages : Reader (List PageText)) (files : Reader (List ListedFile)) (descriptors : Reader (List (ℕ × OpenFile))) (stream1 stream2 : Reader (List ℕ))
+    (numbers : FrontNumbers) (runs : List Run) (cursor after : List ℕ) (mappable : Bool) → counted run_at after_run 0 cursor ≡ Ok (runs, after) → (IsTrue mappable ↔ AreMappable runs)
+    → Tells IsFrontOf (Ok (record { steps = numbers.steps; pc = numbers.pc; reservation = numbers.reservation; heap = numbers.heap; mappable = mappable }))
+    (all_lists pages files descriptors stream1 stream2 numbers cursor)
+front_says pages files descriptors stream1 stream2 numbers runs cursor after mappable read maps = λ y rest e.
+    let one = onward (counted run_at after_run 0 cursor) _ y rest e in
+    let two = onward (pages one.1) _ y rest one.3 in
+    let three = onward (files two.1) _ y rest two.3 in
+    let four = onward (descriptors three.1) _ y rest three.3 in
+    let five = onward (stream1 four.1) _ y rest four.3 in
+    let six = onward (stream2 five.1) _ y rest five.3 in
+    let made : said numbers one.0 two.0 three.0 four.0 five.0 six.0 ≡ y = same_value _ y six.1 rest six.3 in
+    let same : runs ≡ y.runs = same_value runs one.0 after one.1 (sym read ∙ one.2) ∙ ap (λ s. s.runs) made in
+    record {
+      steps = ap (λ s. s.steps) made;
+      pc = ap (λ s. s.pc) made;
+      reservation = ap (λ s. s.reservation) made;
+      heap = ap (λ s. s.heap) made;
+      mappable = subst (λ (rs : List Run). IsTrue mappable ↔ AreMappable rs) same maps;
+    }
+
+-- ---- so many items are read
+
+pub several_length : {A : Type 0} (item : ℕ → Reader A) (next : A → ℕ) (s count : ℕ) (cursor rest : List ℕ) (items : List A) → several item next s count cursor ≡ Ok (items, rest) → count ≡ length items
+unfolding several
+several_length {A} item next s zero cursor rest items is = ap length (same_value {A = List A} [] items cursor rest is)
+several_length item next s (suc count) cursor rest items is =
+    let one = onward (item s cursor) _ items rest is in
+    let more = onward (several item next (next one.0) count one.1) _ items rest one.3 in
+    let all : one.0 ∷ more.0 ≡ items = same_value _ items more.1 rest more.3 in
+    ap suc (several_length item next (next one.0) count one.1 more.1 more.0 more.2) ∙ ap length all
 
 -- ---- whole texts
 
-pub whole_told : {Y : Type 0} (runs_of : Y → List Run) (field : Reader Y) (text cursor : List ℕ) (mappable : Bool) → cursor ≡ text → TellsRuns runs_of (Ok mappable) (field cursor) → (y : Y) → whole field text ≡ Ok y → IsTrue mappable ↔ AreMappable (runs_of y)
-whole_told {Y} runs_of field text cursor mappable is tells y formed = tells y [] (ap field is ∙ all_taken (length text) (field text) y formed)
+pub whole_told : {X Y : Type 0} (Holds : X → Y → Type 0) (field : Reader Y) (text cursor : List ℕ) (told : X) → cursor ≡ text → Tells Holds (Ok told) (field cursor) → (y : Y) → whole field text ≡ Ok y → Holds told y
+whole_told Holds field text cursor told is tells y formed = tells y [] (ap field is ∙ all_taken (length text) (field text) y formed)
 
-pub whole_wrong : {Y : Type 0} (runs_of : Y → List Run) (field : Reader Y) (text cursor : List ℕ) (at : ℕ) (mappable : Bool) → cursor ≡ text → field cursor ≡ Err at → (y : Y) → whole field text ≡ Ok y → IsTrue mappable ↔ AreMappable (runs_of y)
-whole_wrong {Y} runs_of field text cursor at mappable is wrong y formed =
-    let both : ◌≡◌ {A = Read Y} (Err at) (Ok (y, [])) = sym wrong ∙ ap field is ∙ all_taken (length text) (field text) y formed in
-    absurd cc
+pub never_wrong : {Y : Type 0} (field : Reader Y) (text cursor : List ℕ) (at : ℕ) → cursor ≡ text → field cursor ≡ Err at → IsOk (whole field text) → ⊥
+never_wrong {Y} field text cursor at is wrong formed = by (field text) (ap field (sym is) ∙ wrong) formed
+  where
+    by : (read : Read Y) → read ≡ Err at → IsOk (placed_in (length text) (ended read)) → ⊥
+    by (Ok x) e ok = cc
+    by (Err left) e ok = cc

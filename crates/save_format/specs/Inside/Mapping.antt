@@ -1,4 +1,4 @@
--- Telling whether the runs in a text can be mapped, on the way to them, with no memory.
+-- Telling what a text says in front of its pages, on the way to them, with no memory.
 use Rattle.std.specs.Prelude.{◌≡◌, ◌+◌, ◌^◌, ◌≤◌, ◌↔◌, ℕ, All, Bool, IsTrue, List, Option, None, Some, Result, Ok, Err, sum_by}
 use Rattle.save_format.specs.ByteFields.Reader.{Read}
 use Rattle.save_format.specs.StateText.Mappable.{AreMappable}
@@ -15,7 +15,7 @@ abbrev pub PassesRuns : Result Bool WrongField → List ℕ → Read (List Run) 
 PassesRuns (Ok mappable) left read = (runs : List Run) × (read ≡ Ok (runs, left)) × (IsTrue mappable ↔ AreMappable runs)
 PassesRuns (Err field) left read = read ≡ Err field.left
 
--- a function told whether the runs of what is read can be mapped, or found a field before them or in them wrong
-abbrev pub TellsRuns : {Y : Type 0} → (Y → List Run) → Result Bool WrongField → Read Y → Type 0
-TellsRuns {Y} runs (Ok mappable) read = (y : Y) (left : List ℕ) → read ≡ Ok (y, left) → IsTrue mappable ↔ AreMappable (runs y)
-TellsRuns runs (Err field) read = read ≡ Err field.left
+-- a function told something of what is read, or found a field on the way to that wrong
+abbrev pub Tells : {X Y : Type 0} → (X → Y → Type 0) → Result X WrongField → Read Y → Type 0
+Tells {X} {Y} Holds (Ok told) read = (y : Y) (left : List ℕ) → read ≡ Ok (y, left) → Holds told y
+Tells Holds (Err field) read = read ≡ Err field.left

@@ -1,32 +1,33 @@
-//! Whether the runs of the state that a patch says can be mapped, which is told without memory.
+//! What a patch says in front of its pages, which is told without memory.
 
-ghost use Rattle.std.specs.Prelude.{◌≡◌, ◌↔◌, IsTrue, Ok};
-ghost use Rattle.save_format.specs.Inside.Mapping.{TellsRuns};
+ghost use Rattle.std.specs.Prelude.{◌≡◌, IsOk, Ok};
+ghost use Rattle.save_format.specs.Inside.Mapping.{Tells};
 ghost use Rattle.save_format.specs.PatchText.PatchText.{parsed_patch, patch_at};
-ghost use Rattle.save_format.specs.StateText.Mappable.{AreMappable};
+ghost use Rattle.save_format.specs.StateText.Mappable.{IsFrontOf};
 ghost use Rattle.save_format.specs.StateText.Seen.{state_view};
 ghost use Rattle.save_format.specs.StateText.StateText.{StateText};
 
 use crate::byte_fields::{Cursor, WrongField};
 use crate::patch_text::fields::numbers_of;
-use crate::state_text::{StateParts, runs_mappable};
+use crate::state_text::{StateFront, StateParts, runs_mappable};
 
-/// Whether the runs of a patch's text at the front of what is left can be mapped.
-#[tactic(auto, unfolding(crate::specs::Inside::Fronts::lists_relative_at))]
-fn patch_mappable(cursor: &mut Cursor<'_>, base: &StateParts<'_>) -> Result<bool, WrongField>
-    ensures { TellsRuns (λ s. s.runs) result (patch_at (state_view base.now) cursor.old) }
+/// The front of a patch's text at the front of what remains.
+fn patch_front(cursor: &mut Cursor<'_>, base: &StateParts<'_>) -> Result<StateFront, WrongField>
+    ensures { Tells IsFrontOf result (patch_at (state_view base.now) cursor.old) }
 {
-    let _numbers = numbers_of(cursor, base)?;
-    runs_mappable(cursor)
+    let numbers = numbers_of(cursor, base)?;
+    let mappable = runs_mappable(cursor)?;
+    Ok(numbers.front(mappable))
 }
 
-/// Whether the runs of the state that a patch says beside its base can be mapped. Of a text without the form nothing is said.
-pub fn is_mappable(base: &StateParts<'_>, text: &[u8]) -> bool
-    ensures { (s : StateText) → parsed_patch (state_view base.now) text.now ≡ Ok s → IsTrue result ↔ AreMappable s.runs }
+/// What the state that a patch of the form says beside its base says in front of its pages. It takes no memory.
+pub fn front_of(base: &StateParts<'_>, text: &[u8]) -> StateFront
+    requires { IsOk (parsed_patch (state_view base.now) text.now) }
+    ensures { (s : StateText) → parsed_patch (state_view base.now) text.now ≡ Ok s → IsFrontOf result s }
 {
     let mut cursor = Cursor::new(text);
-    match patch_mappable(&mut cursor, base) {
-        Ok(mappable) => mappable,
-        Err(_) => false,
+    match patch_front(&mut cursor, base) {
+        Ok(front) => front,
+        Err(_) => unreachable!(),
     }
 }

@@ -1,15 +1,43 @@
-//! Whether the runs of a text can be mapped, which is told without memory.
+//! What a text says in front of its pages, which is told without memory.
 
-ghost use Rattle.std.specs.Prelude.{◌≡◌, ◌++◌, ◌∷◌, [], ◌↔◌, IsTrue, List, Ok};
+ghost use Rattle.std.specs.Prelude.{◌≡◌, ◌++◌, ◌∷◌, [], ◌↔◌, IsOk, IsTrue, List, Ok};
 ghost use Rattle.save_format.specs.ByteFields.Reader.{counted};
-ghost use Rattle.save_format.specs.Inside.Mapping.{IsLeftAfter, PassesRuns, TellsRuns};
-ghost use Rattle.save_format.specs.StateText.Mappable.{AreMappable};
+ghost use Rattle.save_format.specs.Inside.Mapping.{IsLeftAfter, PassesRuns, Tells};
+ghost use Rattle.save_format.specs.StateText.Mappable.{AreMappable, IsFrontOf};
 ghost use Rattle.save_format.specs.StateText.StateText.{StateText, after_run, body_at, parsed_state, run_at, state_at, state_in};
 ghost use Rattle.save_format.specs.declared.state_text.parts.Run.{Run as RunText};
 
 use crate::byte_fields::{Cursor, TextForm, TextItem, WrongField};
-use crate::state_text::parts::Run;
+use crate::state_text::parts::{FrontNumbers, Reserved, Run};
 use crate::state_text::reading::{MAGIC, OLD_MAGIC, begin, numbers_of};
+use linux_calls::Heap;
+
+/// What a state's text says in front of its pages.
+#[derive(Clone, Copy)]
+pub struct StateFront {
+    /// How many steps were taken.
+    pub steps: u64,
+    pub pc: u64,
+    pub reservation: Option<Reserved>,
+    pub heap: Heap,
+    /// Whether its runs can be mapped.
+    pub mappable: bool,
+}
+
+impl FrontNumbers {
+    /// These numbers in front of runs that can be mapped, or cannot.
+    pub(crate) fn front(&self, mappable: bool) -> StateFront
+        ensures { result ≡ record { steps = self.now.steps; pc = self.now.pc; reservation = self.now.reservation; heap = self.now.heap; mappable = mappable } }
+    {
+        StateFront {
+            steps: self.steps,
+            pc: self.pc,
+            reservation: self.reservation,
+            heap: self.heap,
+            mappable,
+        }
+    }
+}
 
 /// How many pages a guest can have: 67,584 beside its heap, and 262,144 of its heap.
 pub const MOST_PAGES: u64 = 329_728;
@@ -45,40 +73,41 @@ pub(crate) fn runs_mappable(cursor: &mut Cursor<'_>) -> Result<bool, WrongField>
     Ok(left.is_some())
 }
 
-/// Whether the runs after the magic of a form can be mapped.
-#[tactic(auto, unfolding(crate::specs::Inside::Fronts::lists_at))]
-fn body_mappable(cursor: &mut Cursor<'_>, form: TextForm) -> Result<bool, WrongField>
-    ensures { TellsRuns (λ s. s.runs) result (body_at form cursor.old) }
+/// What stands after the magic of a form, in front of the pages.
+fn body_front(cursor: &mut Cursor<'_>, form: TextForm) -> Result<StateFront, WrongField>
+    ensures { Tells IsFrontOf result (body_at form cursor.old) }
 {
-    let _numbers = numbers_of(cursor, form)?;
-    runs_mappable(cursor)
+    let numbers = numbers_of(cursor, form)?;
+    let mappable = runs_mappable(cursor)?;
+    Ok(numbers.front(mappable))
 }
 
-/// Whether the runs of a state's text of this form at the front of what is left can be mapped.
+/// The front of a state's text of this form at the front of what remains.
 #[tactic(auto, unfolding(crate::specs::StateText::StateText::state_in))]
-pub(crate) fn state_mappable(cursor: &mut Cursor<'_>, form: TextForm) -> Result<bool, WrongField>
-    ensures { TellsRuns (λ s. s.runs) result (state_in form cursor.old) }
+pub(crate) fn state_front(cursor: &mut Cursor<'_>, form: TextForm) -> Result<StateFront, WrongField>
+    ensures { Tells IsFrontOf result (state_in form cursor.old) }
 {
     begin(cursor, form)?;
-    body_mappable(cursor, form)
+    body_front(cursor, form)
 }
 
 /// The same of a text of either form.
 #[tactic(auto, unfolding(crate::specs::StateText::StateText::state_at))]
-fn either_mappable(cursor: &mut Cursor<'_>) -> Result<bool, WrongField>
-    ensures { TellsRuns (λ s. s.runs) result (state_at cursor.old) }
+fn either_front(cursor: &mut Cursor<'_>) -> Result<StateFront, WrongField>
+    ensures { Tells IsFrontOf result (state_at cursor.old) }
 {
     let form = cursor.begins_with_either(&OLD_MAGIC, &MAGIC)?;
-    body_mappable(cursor, form)
+    body_front(cursor, form)
 }
 
-/// Whether the runs of the state that a text says can be mapped. Of a text without the form nothing is said.
-pub fn is_mappable(text: &[u8]) -> bool
-    ensures { (s : StateText) → parsed_state text.now ≡ Ok s → IsTrue result ↔ AreMappable s.runs }
+/// What a text of the form says in front of its pages, which takes no memory.
+pub fn front_of(text: &[u8]) -> StateFront
+    requires { IsOk (parsed_state text.now) }
+    ensures { (s : StateText) → parsed_state text.now ≡ Ok s → IsFrontOf result s }
 {
     let mut cursor = Cursor::new(text);
-    match either_mappable(&mut cursor) {
-        Ok(mappable) => mappable,
-        Err(_) => false,
+    match either_front(&mut cursor) {
+        Ok(front) => front,
+        Err(_) => unreachable!(),
     }
 }

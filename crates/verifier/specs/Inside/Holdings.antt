@@ -2,6 +2,7 @@
 use Rattle.std.specs.Prelude.{ℕ, ◌≡◌, ◌+◌, ◌≤◌, false, bytes_eq, IsTrue, Result, Ok, Err, List, length, map, All}
 use Rattle.std.specs.List.{IsDistinct}
 use Rattle.std.specs.FinMap as finite
+use Rattle.ddc_base.specs.Results.{◌>>=◌, or_error}
 use Rattle.mem_files.specs.Names.{is_stripped_name}
 use Rattle.mem_files.specs.Outputs.{IsContent}
 use Rattle.guest_run.specs.Setting.{FileMap}
@@ -13,7 +14,7 @@ use Rattle.mem_files.specs.World.{World}
 use Rattle.recipe.specs.declared.contents.RecipeContents.{RecipeContents}
 use Rattle.recipe.specs.declared.parts.Stage.{Stage}
 use Rattle.report.specs.declared.types.StageLine.{StageLine}
-use Rattle.verifier.specs.Faults.{◌>>=◌, checked_artefact, or_fails, recorded}
+use Rattle.verifier.specs.Faults.{checked_artefact, recorded}
 use Rattle.verifier.specs.declared.part.Part.TheVariants as part
 use Rattle.audit_rules.specs.Contents.{Contents, check_of}
 use Rattle.verifier.specs.declared.held.Held.{Held}
@@ -41,7 +42,7 @@ pub record CanPlace (held : FileMap) (files : List StageFile) : Type 0 where
 -- what a line comes to, once the run of its stage has left these files
 abbrev pub judged_left : RecipeContents → Contents → Stage → StageLine → World → Result (List ℕ) Part
 judged_left recipe so_far stage line world = do
-  made ← or_fails part.Files (recorded so_far stage line world)
+  made ← or_error part.Files (recorded so_far stage line world)
   checked_artefact made (check_of recipe so_far stage made)
 
 -- an output in a file is at a name as files hold it

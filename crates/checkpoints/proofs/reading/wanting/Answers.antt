@@ -1,14 +1,19 @@
 use Rattle.std.proofs.Common.{◌≡◌, ◌∙◌, false, sym, true}
 use Rattle.save_format.specs.StateText.StateText.{parsed_state}
-use Rattle.checkpoints.proofs.Refused.{wanted}
+use Rattle.checkpoints.proofs.Refused.{front_made, wanted}
 use Rattle.checkpoints.proofs.reading.wanting.Goals as goal
 
-pub returns-then-is_mappable : goal.returns-then-is_mappable
-returns-then-is_mappable c =
-    let said = wanted (parsed_state c.args.text.now) c.is_mappable.result c.requires c.is_mappable.ensures in
-    (said.0, said.1, said.2.0 c.if-is_mappable.true)
+pub returns-then-may_be_made : goal.returns-then-may_be_made
+returns-then-may_be_made c =
+    let said = wanted (parsed_state c.args.text.now) c.requires in
+    (said.0, said.1, (c.may_be_made.ensures said.0 (c.front_of-front.ensures said.0 said.1)).0 c.if-may_be_made.true)
 
-pub returns-else-is_mappable : goal.returns-else-is_mappable
-returns-else-is_mappable c =
-    let said = wanted (parsed_state c.args.text.now) c.is_mappable.result c.requires c.is_mappable.ensures in
-    (said.0, said.1, λ range. let is : true ≡ false = sym (said.2.1 range.memory.runs) ∙ c.if-is_mappable.false in cc)
+pub returns-else-may_be_made : goal.returns-else-may_be_made
+returns-else-may_be_made c =
+    let said = wanted (parsed_state c.args.text.now) c.requires in (
+      said.0,
+      said.1,
+      λ range.
+          let is : true ≡ false = sym ((c.may_be_made.ensures said.0 (c.front_of-front.ensures said.0 said.1)).1 (front_made said.0 range)) ∙ c.if-may_be_made.false in
+          cc,
+    )

@@ -1,8 +1,0 @@
-use Rattle.std.proofs.Common.{◌-◌}
-use Rattle.save_format.specs.ByteFields.Reader.{counted}
-use Rattle.save_format.specs.SaveText.{saved_stage_at}
-use Rattle.save_format.proofs.ByteFieldsLemmas.Loop.{Went}
-use Rattle.save_format.proofs.fields.pass_stages.Given as goal
-
-abbrev pub invariant-loop : goal.invariant-loop
-invariant-loop l = Went saved_stage_at (λ stage. 0) 0 (l.count - l.counter) l.cursor (counted saved_stage_at (λ stage. 0) 0 l.fn.cursor)
