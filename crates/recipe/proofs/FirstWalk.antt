@@ -3,13 +3,14 @@ use Rattle.std.proofs.Common.{◌≡◌, ℕ, ◌≤◌, ◌^◌, true, List, []
 use Rattle.std.specs.Prelude.{bytes_eq, IfSome, not, unwrap_or}
 use Rattle.std.specs.List.{IsDistinct}
 use Rattle.std.proofs.lemmas.List.{map_push}
+use Rattle.ddc_base.specs.Results.{error_unless, or_error}
 use Rattle.toml.specs.Data.{Data, Members}
 use Rattle.ddc_base.specs.Names.{IsName, name_of}
 use Rattle.recipe.specs.declared.text.keys.Key.{Key}
 use Rattle.recipe.specs.declared.text.keys.Key.TheVariants as key
 use Rattle.recipe.specs.declared.text.keys.Place.{Place}
 use Rattle.recipe.specs.declared.text.refusal.RecipeRefusal.TheVariants.{BadName, BadPath, DoubleName}
-use Rattle.recipe.specs.Text.Reading.{or_refused, refused_unless, is_path, a_text, a_name, a_path, is_word, a_word, a_number, a_table, an_array, a_list, required, optional, no_other_key}
+use Rattle.recipe.specs.Text.Reading.{is_path, a_text, a_name, a_path, is_word, a_word, a_number, a_table, an_array, a_list, required, optional, no_other_key}
 use Rattle.recipe.proofs.TextLemmas.Accepted.{bound, ok_same, or_ok, unless_ok, bind_unless, required_ok, optional_ok, name_ok, path_ok, word_ok, number_ok, list_ok, array_ok, gathered_each, gathered_keeps, gathered_length, Few, At, Read}
 use Rattle.recipe.specs.declared.parts.Input.{Input}
 use Rattle.recipe.specs.declared.parts.Output.{Output}
@@ -93,9 +94,9 @@ file_said place files value file e =
     bound _ (entry_text place key.Files key.Path entry) _ file rest1 (λ path_text path_text_is rest2.
     bound _ (entry_text place key.Files key.From entry) _ file rest2 (λ from_text from_text_is rest3.
     bound _ (no_other_key place (key.Path ∷ key.From ∷ []) entry) _ file rest3 (λ other closed_is rest4.
-    bound _ (or_refused (BadName place key.Files) (name_of from_text)) _ file rest4 (λ from from_is rest5.
-    bound _ (or_refused (BadPath place key.Files) (guest_path path_text)) _ file rest5 (λ path path_is rest6.
-    bound _ (refused_unless (DoubleName place key.Files) (not (is_file_path files path))) _ file rest6 (λ new new_is rest7.
+    bound _ (or_error (BadName place key.Files) (name_of from_text)) _ file rest4 (λ from from_is rest5.
+    bound _ (or_error (BadPath place key.Files) (guest_path path_text)) _ file rest5 (λ path path_is rest6.
+    bound _ (error_unless (DoubleName place key.Files) (not (is_file_path files path))) _ file rest6 (λ new new_is rest7.
     subst (FileSaid files) (ok_same (record { path = path; from = from }) file rest7)
     (record {
       path = guest_path_ok path_text path (or_ok (BadPath place key.Files) (guest_path path_text) path path_is);

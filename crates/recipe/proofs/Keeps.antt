@@ -2,13 +2,14 @@
 use Rattle.std.proofs.Common.{◌≡◌, ℕ, ◌+◌, ◌≤◌, Bool, true, false, cond, inl, inr, List, [], ◌∷◌, ◌++◌, length, take, Option, Some, None, Ok, refl, subst, arith, Result, Err, ap, ◌∙◌}
 use Rattle.std.specs.Prelude.{not, ◌==◌, IfSome, bytes_eq, slice_get, unwrap_or}
 use Rattle.std.specs.List.{IsDistinct}
+use Rattle.ddc_base.specs.Results.{◌>>◌}
 use Rattle.sha2.specs.Sha256.{sha256}
 use Rattle.toml.specs.Data.{Data, Members}
 use Rattle.std.proofs.lemmas.Bool.{cases_lt}
 use Rattle.recipe.specs.declared.text.refusal.RecipeRefusal.TheVariants.{DoubleName}
 use Rattle.recipe.specs.declared.parts.Compare.{Compare}
 use Rattle.recipe.specs.declared.text.keys.Key.TheVariants as key
-use Rattle.recipe.specs.Text.Reading.{a_list, a_name, an_array, a_number, a_table, no_other_key, document_of, gathered, optional, required, ◌>>◌}
+use Rattle.recipe.specs.Text.Reading.{a_list, a_name, an_array, a_number, a_table, no_other_key, document_of, gathered, optional, required}
 use Rattle.recipe.proofs.TextLemmas.Accepted.{bind_unless, number_ok, array_ok, bound, ok_same, required_ok, optional_ok, list_ok, gathered_each, gathered_keeps, gathered_length, passes_at, unless_ok, Few, Read}
 use Rattle.recipe.specs.declared.contents.RecipeContents.{RecipeContents}
 use Rattle.recipe.specs.declared.parts.Input.{Input}

@@ -2,6 +2,7 @@
 use Rattle.std.proofs.Common.{◌≡◌, ℕ, ◌+◌, ◌-◌, ◌^◌, take, List, [], ◌∷◌, Option, Some, None, Err, length, Bool, true, false, cond}
 use Rattle.std.specs.Prelude.{◌==◌, is_some, not, option_and_then}
 use Rattle.std.specs.List.{list_all}
+use Rattle.ddc_base.specs.Results.{error_unless, or_error}
 use Rattle.toml.specs.Data.{Data, Members, get_member, as_str}
 use Rattle.ddc_base.specs.Names.{name_of}
 use Rattle.recipe.specs.declared.text.keys.Key.{Key}
@@ -9,7 +10,7 @@ use Rattle.recipe.specs.declared.text.keys.Key.TheVariants as key
 use Rattle.recipe.specs.declared.text.keys.Place.{Place}
 use Rattle.recipe.specs.declared.text.refusal.RecipeRefusal.TheVariants.{Missing, BadName, DoubleName, NotMadeYet, BadPath, OutOfMemory}
 use Rattle.recipe.specs.Text.Keys.{key_word}
-use Rattle.recipe.specs.Text.Reading.{or_refused, refused_unless, gathered, each_passes, a_text, a_name, a_path, a_word, a_number, a_table, an_array, a_list, required, optional, no_other_key, document_of}
+use Rattle.recipe.specs.Text.Reading.{gathered, each_passes, a_text, a_name, a_path, a_word, a_number, a_table, an_array, a_list, required, optional, no_other_key, document_of}
 use Rattle.recipe.proofs.TextLemmas.Sated.{Sated, fine, sated_bind, sated_ok, sated_or, sated_unless, sated_gathered, sated_passes, sated_text, sated_name, sated_path, sated_word, sated_number, sated_table, sated_array, sated_list, sated_required, sated_optional, sated_no_other_key, sated_document}
 use Rattle.recipe.specs.declared.contents.RecipeContents.{RecipeContents}
 use Rattle.recipe.specs.declared.parts.Content.{Content}
@@ -46,7 +47,7 @@ unfolding a_new_name
 sated_new_name inputs sources stages place table =
     sated_required (a_new_name inputs sources stages) place key.Name table (λ value.
     sated_bind (a_name place key.Name value) _ (sated_name place key.Name value) (λ name.
-    sated_bind (refused_unless (DoubleName place key.Name) (not (is_taken inputs sources stages name))) _
+    sated_bind (error_unless (DoubleName place key.Name) (not (is_taken inputs sources stages name))) _
     (sated_unless (DoubleName place key.Name) (not (is_taken inputs sources stages name)) (λ is. absurd cc)) (λ u. sated_ok name)))
 
 sated_input : (inputs : List Input) (place : Place) (table : Members) → Sated (input_table inputs place table)
@@ -81,9 +82,9 @@ sated_file place k files value =
     sated_bind (entry_text place k key.Path entry) _ (sated_entry place k key.Path entry) (λ path_text.
     sated_bind (entry_text place k key.From entry) _ (sated_entry place k key.From entry) (λ from_text.
     sated_bind (no_other_key place (key.Path ∷ key.From ∷ []) entry) _ (sated_no_other_key place (key.Path ∷ key.From ∷ []) entry) (λ other.
-    sated_bind (or_refused (BadName place k) (name_of from_text)) _ (sated_or (BadName place k) (name_of from_text) (λ is. absurd cc)) (λ from.
-    sated_bind (or_refused (BadPath place k) (guest_path path_text)) _ (sated_or (BadPath place k) (guest_path path_text) (λ is. absurd cc)) (λ path.
-    sated_bind (refused_unless (DoubleName place k) (not (is_file_path files path))) _ (sated_unless (DoubleName place k) (not (is_file_path files path)) (λ is. absurd cc)) (λ new. sated_ok _)))))))
+    sated_bind (or_error (BadName place k) (name_of from_text)) _ (sated_or (BadName place k) (name_of from_text) (λ is. absurd cc)) (λ from.
+    sated_bind (or_error (BadPath place k) (guest_path path_text)) _ (sated_or (BadPath place k) (guest_path path_text) (λ is. absurd cc)) (λ path.
+    sated_bind (error_unless (DoubleName place k) (not (is_file_path files path))) _ (sated_unless (DoubleName place k) (not (is_file_path files path)) (λ is. absurd cc)) (λ new. sated_ok _)))))))
 
 sated_files : (place : Place) (k : Key) (value : Data) → Sated (some_files place k value)
 unfolding some_files
@@ -117,7 +118,7 @@ sated_stage_name : (before : List (List ℕ)) (value : Data) → Sated (next_sta
 unfolding next_stage_name
 sated_stage_name before value =
     sated_bind (a_name compare_place key.Stages value) _ (sated_name compare_place key.Stages value) (λ name.
-    sated_bind (refused_unless (DoubleName compare_place key.Stages) (not (is_among before name))) (λ _. fine name)
+    sated_bind (error_unless (DoubleName compare_place key.Stages) (not (is_among before name))) (λ _. fine name)
     (sated_unless (DoubleName compare_place key.Stages) (not (is_among before name)) (λ is. absurd cc)) (λ u. sated_ok name))
 
 sated_stage_names : (value : Data) → Sated (some_stage_names compare_place key.Stages value)
@@ -159,7 +160,7 @@ sated_reference sources place k (Some name) = sated_unless (NotMadeYet place k) 
 sated_checks : (said : RecipeContents) (earlier : List Stage) (place : Place) (found : Option Source) → Sated (checks_source said earlier place found)
 sated_checks said earlier place None = sated_or {A = Unit {0}} (NotMadeYet place key.Check) None (λ is. absurd cc)
 sated_checks said earlier place (Some source) =
-    sated_bind (refused_unless (NotMadeYet place key.Check) (list_all (is_content said.inputs earlier) source.files)) (λ _. refused_unless (BadName place key.Check) (is_defined source.lang))
+    sated_bind (error_unless (NotMadeYet place key.Check) (list_all (is_content said.inputs earlier) source.files)) (λ _. error_unless (BadName place key.Check) (is_defined source.lang))
     (sated_unless (NotMadeYet place key.Check) (list_all (is_content said.inputs earlier) source.files) (λ is. absurd cc)) (λ u.
     sated_unless (BadName place key.Check) (is_defined source.lang) (λ is. absurd cc))
 
@@ -171,9 +172,9 @@ sated_check said earlier place (Some name) = sated_checks said earlier place (so
 sated_after : (said : RecipeContents) (earlier : List Stage) (place : Place) (stage : Stage) → Sated (stage_refers_after said earlier place stage)
 unfolding stage_refers_after
 sated_after said earlier place stage =
-    sated_bind (refused_unless (NotMadeYet place key.Program) (is_content said.inputs earlier stage.program)) _
+    sated_bind (error_unless (NotMadeYet place key.Program) (is_content said.inputs earlier stage.program)) _
     (sated_unless (NotMadeYet place key.Program) (is_content said.inputs earlier stage.program) (λ is. absurd cc)) (λ u.
-    sated_bind (refused_unless (NotMadeYet place key.Files) (list_all (λ file. is_content said.inputs earlier file.from) stage.files)) _
+    sated_bind (error_unless (NotMadeYet place key.Files) (list_all (λ file. is_content said.inputs earlier file.from) stage.files)) _
     (sated_unless (NotMadeYet place key.Files) (list_all (λ file. is_content said.inputs earlier file.from) stage.files) (λ is. absurd cc)) (λ v.
     sated_bind (check_refers said earlier place stage.check) (λ _. refers_to_source said.sources place key.Becomes stage.becomes) (sated_check said earlier place stage.check) (λ w.
     sated_reference said.sources place key.Becomes stage.becomes)))
@@ -181,8 +182,8 @@ sated_after said earlier place stage =
 sated_comparison : (said : RecipeContents) → Sated (compare_refers said)
 unfolding compare_refers
 sated_comparison said =
-    sated_bind (refused_unless (NotMadeYet compare_place (stages_key said.format)) (list_all (is_stage said.stages) said.compare.stages))
-    (λ _. refused_unless (NotMadeYet compare_place key.Binary) (is_some (input_at said.inputs said.compare.binary)))
+    sated_bind (error_unless (NotMadeYet compare_place (stages_key said.format)) (list_all (is_stage said.stages) said.compare.stages))
+    (λ _. error_unless (NotMadeYet compare_place key.Binary) (is_some (input_at said.inputs said.compare.binary)))
     (sated_unless (NotMadeYet compare_place (stages_key said.format)) (list_all (is_stage said.stages) said.compare.stages) (λ is. absurd cc)) (λ u.
     sated_unless (NotMadeYet compare_place key.Binary) (is_some (input_at said.inputs said.compare.binary)) (λ is. absurd cc))
 

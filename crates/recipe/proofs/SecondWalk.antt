@@ -2,11 +2,12 @@
 use Rattle.std.proofs.Common.{◌≡◌, ℕ, zero, suc, ◌+◌, ◌-◌, Bool, true, List, [], ◌∷◌, take, Option, Some, None, Ok, refl, sym, ap, subst, ◌∙◌, arith}
 use Rattle.std.specs.Prelude.{is_some, IsSome, slice_get, option_and_then}
 use Rattle.std.specs.List.{list_all}
+use Rattle.ddc_base.specs.Results.{error_unless}
 use Rattle.recipe.specs.declared.text.keys.Key.{Key}
 use Rattle.recipe.specs.declared.text.keys.Key.TheVariants as key
 use Rattle.recipe.specs.declared.text.keys.Place.{Place}
 use Rattle.recipe.specs.declared.text.refusal.RecipeRefusal.TheVariants.{BadName, NotMadeYet}
-use Rattle.recipe.specs.Text.Reading.{refused_unless, each_passes}
+use Rattle.recipe.specs.Text.Reading.{each_passes}
 use Rattle.recipe.proofs.TextLemmas.Accepted.{bound, unless_ok, both_true, passes_at, some_same}
 use Rattle.recipe.specs.declared.contents.RecipeContents.{RecipeContents}
 use Rattle.recipe.specs.declared.parts.Content.{Content}
@@ -39,7 +40,7 @@ checks_there : (said : RecipeContents) (earlier : List Stage) (place : Place) (n
     → checks_source said earlier place found ≡ Ok tt → (source : Source) × (source_named said.sources name ≡ Some source) × Checks said earlier source
 checks_there said earlier place name None is e = absurd cc
 checks_there said earlier place name (Some source) is e =
-    bound _ (refused_unless (NotMadeYet place key.Check) (list_all (is_content said.inputs earlier) source.files)) (λ _. refused_unless (BadName place key.Check) (is_defined source.lang)) tt e (λ u made rest. (
+    bound _ (error_unless (NotMadeYet place key.Check) (list_all (is_content said.inputs earlier) source.files)) (λ _. error_unless (BadName place key.Check) (is_defined source.lang)) tt e (λ u made rest. (
       source,
       is,
       record {
@@ -56,8 +57,8 @@ check_there said earlier place (Some name) e = checks_there said earlier place n
 stage_there : (said : RecipeContents) (earlier : List Stage) (place : Place) (stage : Stage) → stage_refers_after said earlier place stage ≡ Ok tt → StageRefers said earlier stage
 unfolding stage_refers_after
 stage_there said earlier place stage e =
-    bound _ (refused_unless (NotMadeYet place key.Program) (is_content said.inputs earlier stage.program)) _ tt e (λ u program rest1.
-    bound _ (refused_unless (NotMadeYet place key.Files) (list_all (λ file. is_content said.inputs earlier file.from) stage.files)) _ tt rest1 (λ v files rest2.
+    bound _ (error_unless (NotMadeYet place key.Program) (is_content said.inputs earlier stage.program)) _ tt e (λ u program rest1.
+    bound _ (error_unless (NotMadeYet place key.Files) (list_all (λ file. is_content said.inputs earlier file.from) stage.files)) _ tt rest1 (λ v files rest2.
     bound _ (check_refers said earlier place stage.check) (λ _. refers_to_source said.sources place key.Becomes stage.becomes) tt rest2 (λ w check rest3.
     record {
       program = unless_ok (NotMadeYet place key.Program) (is_content said.inputs earlier stage.program) u program;
@@ -104,8 +105,8 @@ walked said e =
     bound _ (each_passes (source_refers said) 1 said.sources) _ tt rest1 (λ b sources rest2.
     bound _ (each_passes (stage_refers said) 1 said.stages) _ tt rest2 (λ d stages rest3.
     bound _ (compare_refers said) (λ _. each_passes (program_has_source said) 1 said.stages) tt rest3 (λ f compare argued.
-    bound _ (refused_unless (NotMadeYet compare_place (stages_key said.format)) (list_all (is_stage said.stages) said.compare.stages))
-    (λ _. refused_unless (NotMadeYet compare_place key.Binary) (is_some (input_at said.inputs said.compare.binary))) f compare (λ g compared binary.
+    bound _ (error_unless (NotMadeYet compare_place (stages_key said.format)) (list_all (is_stage said.stages) said.compare.stages))
+    (λ _. error_unless (NotMadeYet compare_place key.Binary) (is_some (input_at said.inputs said.compare.binary))) f compare (λ g compared binary.
     record {
       inputs = inputs;
       sources = sources;

@@ -1,8 +1,9 @@
 -- What the bytes of a recipe say, or the first refusal of its two walks (docs/reference/recipe.md). A recipe's digest is the SHA-256 of its
 -- bytes (FIPS 180-4).
 use Rattle.std.specs.Prelude.{ℕ, List, [], Result, Ok}
+use Rattle.ddc_base.specs.Results.{◌>>=◌, ◌>>◌}
 use Rattle.sha2.specs.Sha256.{sha256}
-use Rattle.recipe.specs.Text.Reading.{◌>>=◌, ◌>>◌, gathered, document_of}
+use Rattle.recipe.specs.Text.Reading.{gathered, document_of}
 use Rattle.recipe.specs.declared.text.refusal.RecipeRefusal.{RecipeRefusal}
 use Rattle.recipe.specs.declared.contents.RecipeContents.{RecipeContents}
 use Rattle.recipe.specs.SecondWalk.{second_walk}

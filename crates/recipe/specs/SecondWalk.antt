@@ -1,7 +1,8 @@
 -- The second walk: what the names of a recipe refer to (docs/reference/recipe.md, "The second walk").
 use Rattle.std.specs.Prelude.{ℕ, ◌+◌, ◌-◌, Bool, true, false, List, take, Option, Some, None, is_some, Result, Ok, Err}
 use Rattle.std.specs.List.{list_all}
-use Rattle.recipe.specs.Text.Reading.{◌>>◌, refused_unless, each_passes}
+use Rattle.ddc_base.specs.Results.{◌>>◌, error_unless}
+use Rattle.recipe.specs.Text.Reading.{each_passes}
 use Rattle.recipe.specs.declared.text.keys.Key.{Key}
 use Rattle.recipe.specs.declared.text.keys.Key.TheVariants as key
 use Rattle.recipe.specs.declared.text.keys.Place.{Place}
@@ -25,7 +26,7 @@ is_content inputs stages name = is_some (content_named inputs stages name)
 -- a source of this name is there, where a name stands at the key
 abbrev pub refers_to_source : List Source → Place → Key → Option (List ℕ) → Result (Unit {0}) RecipeRefusal
 refers_to_source sources place key None = Ok tt
-refers_to_source sources place key (Some name) = refused_unless (NotMadeYet place key) (is_some (source_named sources name))
+refers_to_source sources place key (Some name) = error_unless (NotMadeYet place key) (is_some (source_named sources name))
 
 -- ---- each table, with its number from 1
 
@@ -34,7 +35,7 @@ input_refers said number input = refers_to_source said.sources (input_place numb
 
 abbrev pub source_refers : RecipeContents → ℕ → Source → Result (Unit {0}) RecipeRefusal
 source_refers said number source =
-    refused_unless (NotMadeYet (source_place number) key.Files) (list_all (is_content said.inputs said.stages) source.files)
+    error_unless (NotMadeYet (source_place number) key.Files) (list_all (is_content said.inputs said.stages) source.files)
 
 -- whether ddc has a definition of the language
 abbrev pub is_defined : SourceLanguage → Bool
@@ -45,8 +46,8 @@ is_defined Other = false
 abbrev pub checks_source : RecipeContents → List Stage → Place → Option Source → Result (Unit {0}) RecipeRefusal
 checks_source said earlier place None = Err (NotMadeYet place key.Check)
 checks_source said earlier place (Some source) = do
-  refused_unless (NotMadeYet place key.Check) (list_all (is_content said.inputs earlier) source.files)
-  refused_unless (BadName place key.Check) (is_defined source.lang)
+  error_unless (NotMadeYet place key.Check) (list_all (is_content said.inputs earlier) source.files)
+  error_unless (BadName place key.Check) (is_defined source.lang)
 
 -- the same, where a name stands at `check`
 unfoldable pub check_refers : RecipeContents → List Stage → Place → Option (List ℕ) → Result (Unit {0}) RecipeRefusal
@@ -56,8 +57,8 @@ check_refers said earlier place (Some name) = checks_source said earlier place (
 -- a stage after these earlier ones
 unfoldable pub stage_refers_after : RecipeContents → List Stage → Place → Stage → Result (Unit {0}) RecipeRefusal
 stage_refers_after said earlier place stage = do
-  refused_unless (NotMadeYet place key.Program) (is_content said.inputs earlier stage.program)
-  refused_unless (NotMadeYet place key.Files) (list_all (λ file. is_content said.inputs earlier file.from) stage.files)
+  error_unless (NotMadeYet place key.Program) (is_content said.inputs earlier stage.program)
+  error_unless (NotMadeYet place key.Files) (list_all (λ file. is_content said.inputs earlier file.from) stage.files)
   check_refers said earlier place stage.check
   refers_to_source said.sources place key.Becomes stage.becomes
 
@@ -70,17 +71,17 @@ is_stage stages name = is_some (stage_at stages name)
 
 unfoldable pub compare_refers : RecipeContents → Result (Unit {0}) RecipeRefusal
 compare_refers said = do
-  refused_unless (NotMadeYet compare_place (stages_key said.format)) (list_all (is_stage said.stages) said.compare.stages)
-  refused_unless (NotMadeYet compare_place key.Binary) (is_some (input_at said.inputs said.compare.binary))
+  error_unless (NotMadeYet compare_place (stages_key said.format)) (list_all (is_stage said.stages) said.compare.stages)
+  error_unless (NotMadeYet compare_place key.Binary) (is_some (input_at said.inputs said.compare.binary))
 
 -- ---- the programs of the unchecked stages
 
 -- a program without a source is refused where its source would stand (what names no content was refused above)
 abbrev pub has_source : RecipeContents → Option Content → Result (Unit {0}) RecipeRefusal
 has_source said (Some (content.Input index)) =
-    refused_unless (Missing (input_place (index + 1)) key.Implements) (is_some (content_source said (content.Input index)))
+    error_unless (Missing (input_place (index + 1)) key.Implements) (is_some (content_source said (content.Input index)))
 has_source said (Some (content.Stage index)) =
-    refused_unless (Missing (stage_place (index + 1)) key.Becomes) (is_some (content_source said (content.Stage index)))
+    error_unless (Missing (stage_place (index + 1)) key.Becomes) (is_some (content_source said (content.Stage index)))
 has_source said None = Ok tt
 
 -- the program of an unchecked stage

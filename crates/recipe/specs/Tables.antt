@@ -1,12 +1,13 @@
 -- The first walk: each table of a recipe with its keys in order (docs/reference/recipe.md, "Tables").
 use Rattle.std.specs.Prelude.{ℕ, ◌+◌, ◌^◌, ◌≡◌, ◌⊎◌, ◌==◌, Bool, ◌||◌, not, List, [], ◌∷◌, length, codes, bytes_eq, Option, Some, option_and_then, option_map, unwrap_or, Result, Ok, if◌then◌else◌}
 use Rattle.std.specs.List.{list_any}
+use Rattle.ddc_base.specs.Results.{◌>>=◌, ◌>>◌, error_unless, or_error}
 use Rattle.toml.specs.Data.{Data, Members, get_member, as_str}
 use Rattle.ddc_base.specs.Names.{name_of}
 use Rattle.ddc_base.specs.Languages.Words.{language_named}
 use Rattle.mem_files.specs.Names.{stripped}
 use Rattle.recipe.specs.Text.Keys.{key_word}
-use Rattle.recipe.specs.Text.Reading.{◌>>=◌, ◌>>◌, or_refused, refused_unless, gathered, a_text, a_name, a_path, a_word, a_number, a_table, an_array, a_list, path_of, required, optional, no_other_key}
+use Rattle.recipe.specs.Text.Reading.{gathered, a_text, a_name, a_path, a_word, a_number, a_table, an_array, a_list, path_of, required, optional, no_other_key}
 use Rattle.recipe.specs.declared.text.keys.Key.{Key}
 use Rattle.recipe.specs.declared.text.keys.Key.TheVariants as key
 use Rattle.recipe.specs.declared.text.keys.Place.{Place}
@@ -83,7 +84,7 @@ is_taken inputs sources stages name = is_input_name inputs name || is_source_nam
 unfoldable pub a_new_name : List Input → List Source → List Stage → Place → Key → Data → Result (List ℕ) RecipeRefusal
 a_new_name inputs sources stages place key value = do
   name ← a_name place key value
-  refused_unless (DoubleName place key) (not (is_taken inputs sources stages name))
+  error_unless (DoubleName place key) (not (is_taken inputs sources stages name))
   Ok name
 
 -- ---- an input
@@ -109,7 +110,7 @@ source_language word = if bytes_eq word (codes "other") then Some Other else opt
 unfoldable pub a_language : Place → Key → Data → Result SourceLanguage RecipeRefusal
 a_language place key value = do
   word ← a_text place key value
-  or_refused (BadName place key) (source_language word)
+  or_error (BadName place key) (source_language word)
 
 unfoldable pub source_table : List Input → List Source → Place → Members → Result Source RecipeRefusal
 source_table inputs sources place table = do
@@ -134,7 +135,7 @@ is_file_path files path = list_any (λ file. bytes_eq file.path path) files
 
 -- the string at a key of an entry of a stage's files; its refusal names the stage and the key `files`
 abbrev pub entry_text : Place → Key → Key → Members → Result (List ℕ) RecipeRefusal
-entry_text place key entry_key entry = or_refused (Missing place key) (option_and_then as_str (get_member (key_word entry_key) entry))
+entry_text place key entry_key entry = or_error (Missing place key) (option_and_then as_str (get_member (key_word entry_key) entry))
 
 -- the file that an entry says, after those before it
 unfoldable pub next_file : Place → Key → List StageFile → Data → Result StageFile RecipeRefusal
@@ -143,9 +144,9 @@ next_file place listed files value = do
   path_text ← entry_text place listed key.Path entry
   from_text ← entry_text place listed key.From entry
   no_other_key place (key.Path ∷ key.From ∷ []) entry
-  from ← or_refused (BadName place listed) (name_of from_text)
-  path ← or_refused (BadPath place listed) (guest_path path_text)
-  refused_unless (DoubleName place listed) (not (is_file_path files path))
+  from ← or_error (BadName place listed) (name_of from_text)
+  path ← or_error (BadPath place listed) (guest_path path_text)
+  error_unless (DoubleName place listed) (not (is_file_path files path))
   Ok (record { path = path; from = from })
 
 unfoldable pub some_files : Place → Key → Data → Result (List StageFile) RecipeRefusal
@@ -160,7 +161,7 @@ output_said text = if bytes_eq text (codes "-") then Some Stream else option_map
 unfoldable pub an_output : Place → Key → Data → Result Output RecipeRefusal
 an_output place key value = do
   text ← a_text place key value
-  or_refused (BadPath place key) (output_said text)
+  or_error (BadPath place key) (output_said text)
 
 unfoldable pub stage_table : List Input → List Source → List Stage → Place → Members → Result Stage RecipeRefusal
 stage_table inputs sources stages place table = do
@@ -204,7 +205,7 @@ is_among names name = list_any (λ other. bytes_eq other name) names
 unfoldable pub next_stage_name : Place → Key → List (List ℕ) → Data → Result (List ℕ) RecipeRefusal
 next_stage_name place key names value = do
   name ← a_name place key value
-  refused_unless (DoubleName place key) (not (is_among names name))
+  error_unless (DoubleName place key) (not (is_among names name))
   Ok name
 
 -- 1 to 16 names, each of them once

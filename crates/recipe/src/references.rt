@@ -2,7 +2,8 @@
 
 ghost use Rattle.std.specs.Prelude.{◌≡◌, ◌<◌, ◌≤◌, ◌^◌, ◌-◌, length, is_some, Some};
 ghost use Rattle.std.specs.List.{list_all};
-ghost use Rattle.recipe.specs.Text.Reading.{Gives, NeverWants, each_passes, refused_unless};
+ghost use Rattle.ddc_base.specs.Results.{error_unless};
+ghost use Rattle.recipe.specs.Text.Reading.{Gives, NeverWants, each_passes};
 ghost use Rattle.recipe.specs.declared.text.refusal.RecipeRefusal.TheVariants.{NotMadeYet as NotYet};
 ghost use Rattle.recipe.specs.Lookups as spec;
 ghost use Rattle.recipe.specs.Lookups.{IsIndex};
@@ -79,7 +80,7 @@ fn refers_to_source(
 
 /// Refuses a name that stands for nothing that is there by then.
 fn made_by_now(made: bool, place: Place, key: Key) -> Result<(), RecipeRefusal>
-    ensures refers { Gives (λ x. x) result (refused_unless (NotYet place key) made) }
+    ensures refers { Gives (λ x. x) result (error_unless (NotYet place key) made) }
     ensures memory { NeverWants result }
 {
     if made {

@@ -2,6 +2,7 @@
 use Rattle.std.proofs.Common.{◌≡◌, ℕ, zero, suc, ◌+◌, ◌≤◌, ℤ, pos, negsuc, Bool, true, false, cond, List, [], ◌∷◌, ◌++◌, length, Option, Some, None, Result, Ok, Err, refl, ap, subst, arith, length-append}
 use Rattle.std.proofs.lemmas.Bool.{leb-true}
 use Rattle.std.specs.Prelude.{nat_le, ◌&&◌, IfSome, slice_get, option_map}
+use Rattle.ddc_base.specs.Results.{◌>>=◌, ◌>>◌, error_unless, or_error}
 use Rattle.toml.specs.Data.{Data, Members, get_member, as_integer, as_array}
 use Rattle.ddc_base.specs.Names.{IsName, is_name, name_of}
 use Rattle.recipe.specs.declared.text.keys.Key.{Key}
@@ -9,7 +10,7 @@ use Rattle.recipe.specs.declared.text.keys.Place.{Place}
 use Rattle.recipe.specs.declared.text.refusal.RecipeRefusal.{RecipeRefusal}
 use Rattle.recipe.specs.declared.text.refusal.RecipeRefusal.TheVariants.{Missing, BadName, BadPath, BadNumber, TooMany}
 use Rattle.recipe.specs.Text.Keys.{key_word}
-use Rattle.recipe.specs.Text.Reading.{◌>>=◌, ◌>>◌, or_refused, refused_unless, where_there, gathered, each_passes, a_text, a_name, is_path, path_of, a_path, is_word, a_word, in_range, a_number, an_array, values_of, a_list, required, optional}
+use Rattle.recipe.specs.Text.Reading.{where_there, gathered, each_passes, a_text, a_name, is_path, path_of, a_path, is_word, a_word, in_range, a_number, an_array, values_of, a_list, required, optional}
 
 -- ---- a step that succeeded
 
@@ -29,20 +30,20 @@ fine x = Ok x
 pub ok_same : {A : Type 0} (x y : A) → fine x ≡ fine y → x ≡ y
 ok_same x y e = cc
 
-pub or_ok : {A : Type 0} (refusal : RecipeRefusal) (o : Option A) (x : A) → or_refused refusal o ≡ Ok x → o ≡ Some x
+pub or_ok : {A : Type 0} (refusal : RecipeRefusal) (o : Option A) (x : A) → or_error refusal o ≡ Ok x → o ≡ Some x
 or_ok refusal None x e = absurd cc
 or_ok refusal (Some y) x e = ap Some (ok_same y x e)
 
-pub unless_ok : (refusal : RecipeRefusal) (test : Bool) (x : Unit {0}) → refused_unless refusal test ≡ Ok x → test ≡ true
+pub unless_ok : (refusal : RecipeRefusal) (test : Bool) (x : Unit {0}) → error_unless refusal test ≡ Ok x → test ≡ true
 unless_ok refusal true x e = refl
 unless_ok refusal false x e = absurd cc
 
 -- a step, and a test of what it gave
 pub bind_unless : {A : Type 0} (r : Result A RecipeRefusal) (refusal : RecipeRefusal) (test : A → Bool) (y : A)
-    → (r >>= λ x. refused_unless refusal (test x) >> fine x) ≡ Ok y → (r ≡ Ok y) × (test y ≡ true)
+    → (r >>= λ x. error_unless refusal (test x) >> fine x) ≡ Ok y → (r ≡ Ok y) × (test y ≡ true)
 bind_unless r refusal test y e =
-    let a = bind_ok r (λ x. refused_unless refusal (test x) >> fine x) y e in
-    let b = bind_ok (refused_unless refusal (test a.0)) (λ _. fine a.0) y a.2 in
+    let a = bind_ok r (λ x. error_unless refusal (test x) >> fine x) y e in
+    let b = bind_ok (error_unless refusal (test a.0)) (λ _. fine a.0) y a.2 in
     let same = ok_same a.0 y b.2 in
     (rw (← same) a.1, rw (← same) (unless_ok refusal (test a.0) b.0 b.1))
 
@@ -52,7 +53,7 @@ pub required_ok : {A : Type 0} (read : Place → Key → Data → Result A Recip
     → required read place key table ≡ Ok x → (value : Data) × (read place key value ≡ Ok x)
 unfolding required
 required_ok read place key table x e =
-    let a = bind_ok (or_refused (Missing place key) (get_member (key_word key) table)) (read place key) x e in
+    let a = bind_ok (or_error (Missing place key) (get_member (key_word key) table)) (read place key) x e in
     (a.0, a.2)
 
 abbrev pub Read : {A : Type 0} → (Place → Key → Data → Result A RecipeRefusal) → Place → Key → A → Type 0
@@ -79,7 +80,7 @@ chosen false x y e = absurd cc
 pub name_ok : (place : Place) (key : Key) (value : Data) (name : List ℕ) → a_name place key value ≡ Ok name → IsName name
 unfolding a_name
 name_ok place key value name e =
-    let a = bind_ok (a_text place key value) (λ text. or_refused (BadName place key) (name_of text)) name e in
+    let a = bind_ok (a_text place key value) (λ text. or_error (BadName place key) (name_of text)) name e in
     let b = chosen (is_name a.0) a.0 name (or_ok (BadName place key) (name_of a.0) name a.2) in
     subst IsName b.1 b.0
 
@@ -89,7 +90,7 @@ path_of_ok text path e = let b = chosen (is_path text) text path e in (subst (λ
 pub path_ok : (place : Place) (key : Key) (value : Data) (path : List ℕ) → a_path place key value ≡ Ok path → is_path path ≡ true
 unfolding a_path
 path_ok place key value path e =
-    let a = bind_ok (a_text place key value) (λ text. or_refused (BadPath place key) (path_of text)) path e in
+    let a = bind_ok (a_text place key value) (λ text. or_error (BadPath place key) (path_of text)) path e in
     (path_of_ok a.0 path (or_ok (BadPath place key) (path_of a.0) path a.2)).0
 
 pub word_ok : (place : Place) (key : Key) (value : Data) (text : List ℕ) → a_word place key value ≡ Ok text → is_word text ≡ true
@@ -115,7 +116,7 @@ in_range_ok least most (negsuc n) k e = absurd cc
 pub number_ok : (least most : ℕ) (place : Place) (key : Key) (value : Data) (k : ℕ) → a_number least most place key value ≡ Ok k → (least ≤ k) × (k ≤ most)
 unfolding a_number
 number_ok least most place key value k e =
-    let a = bind_ok (or_refused (Missing place key) (as_integer value)) (λ number. or_refused (BadNumber place key) (in_range least most number)) k e in
+    let a = bind_ok (or_error (Missing place key) (as_integer value)) (λ number. or_error (BadNumber place key) (in_range least most number)) k e in
     in_range_ok least most a.0 k (or_ok (BadNumber place key) (in_range least most a.0) k a.2)
 
 -- ---- lists
@@ -170,10 +171,10 @@ pub record Few (least most n : ℕ) : Type 0 where
 pub array_ok : (least most : ℕ) (place : Place) (key : Key) (value : Data) (values : List Data) → an_array least most place key value ≡ Ok values → Few least most (length values)
 unfolding an_array
 array_ok least most place key value values e =
-    let a = bind_ok (or_refused (Missing place key) (option_map values_of (as_array value)))
-    (λ found. refused_unless (TooMany place key) (nat_le (length found) most) >> (refused_unless (Missing place key) (nat_le least (length found)) >> fine found)) values e in
-    let b = bind_ok (refused_unless (TooMany place key) (nat_le (length a.0) most)) (λ _. refused_unless (Missing place key) (nat_le least (length a.0)) >> fine a.0) values a.2 in
-    let d = bind_ok (refused_unless (Missing place key) (nat_le least (length a.0))) (λ _. fine a.0) values b.2 in
+    let a = bind_ok (or_error (Missing place key) (option_map values_of (as_array value)))
+    (λ found. error_unless (TooMany place key) (nat_le (length found) most) >> (error_unless (Missing place key) (nat_le least (length found)) >> fine found)) values e in
+    let b = bind_ok (error_unless (TooMany place key) (nat_le (length a.0) most)) (λ _. error_unless (Missing place key) (nat_le least (length a.0)) >> fine a.0) values a.2 in
+    let d = bind_ok (error_unless (Missing place key) (nat_le least (length a.0))) (λ _. fine a.0) values b.2 in
     let same = ok_same a.0 values d.2 in
     let few = leb-true (length a.0) most (unless_ok _ _ b.0 b.1) in
     let some = leb-true least (length a.0) (unless_ok _ _ d.0 d.1) in

@@ -1,6 +1,7 @@
 -- No reading is want of memory.
 use Rattle.std.proofs.Common.{◌≡◌, ℕ, ◌+◌, List, [], ◌∷◌, ◌++◌, length, Option, Some, None, Bool, true, false, Result, Ok, Err, ap}
 use Rattle.std.specs.Prelude.{nat_le, option_map}
+use Rattle.ddc_base.specs.Results.{◌>>=◌, ◌>>◌, error_unless, or_error}
 use Rattle.toml.specs.Data.{Data, Members, get_member, as_str, as_integer, as_array, as_table}
 use Rattle.ddc_base.specs.Names.{name_of}
 use Rattle.recipe.specs.declared.text.keys.Key.{Key}
@@ -8,7 +9,7 @@ use Rattle.recipe.specs.declared.text.keys.Place.{Place}
 use Rattle.recipe.specs.declared.text.refusal.RecipeRefusal.{RecipeRefusal}
 use Rattle.recipe.specs.declared.text.refusal.RecipeRefusal.TheVariants.{NotToml, Missing, Unknown, BadName, BadPath, BadNumber, TooMany, OutOfMemory}
 use Rattle.recipe.specs.Text.Keys.{key_word, are_listed}
-use Rattle.recipe.specs.Text.Reading.{◌>>=◌, ◌>>◌, or_refused, refused_unless, where_there, gathered, each_passes, a_text, a_name, path_of, a_path, is_word, a_word, in_range, a_number, a_table, an_array, values_of, a_list, required, optional, no_other_key, document_of}
+use Rattle.recipe.specs.Text.Reading.{where_there, gathered, each_passes, a_text, a_name, path_of, a_path, is_word, a_word, in_range, a_number, a_table, an_array, values_of, a_list, required, optional, no_other_key, document_of}
 
 pub record Sated {A : Type 0} (reading : Result A RecipeRefusal) : Type 0 where
   pub isnt : reading ≡ Err OutOfMemory → ⊥
@@ -30,11 +31,11 @@ sated_bind {A} {B} (Err d) f first then = record { isnt = λ is. first.isnt (ap 
 pub sated_ok : {A : Type 0} (x : A) → Sated (fine x)
 sated_ok x = record { isnt = λ is. absurd cc }
 
-pub sated_or : {A : Type 0} (refusal : RecipeRefusal) (o : Option A) → ¬ (refusal ≡ OutOfMemory) → Sated (or_refused refusal o)
+pub sated_or : {A : Type 0} (refusal : RecipeRefusal) (o : Option A) → ¬ (refusal ≡ OutOfMemory) → Sated (or_error refusal o)
 sated_or refusal (Some x) other = sated_ok x
 sated_or {A} refusal None other = record { isnt = λ is. other (same_refusal {A = A} refusal OutOfMemory is) }
 
-pub sated_unless : (refusal : RecipeRefusal) (test : Bool) → ¬ (refusal ≡ OutOfMemory) → Sated (refused_unless refusal test)
+pub sated_unless : (refusal : RecipeRefusal) (test : Bool) → ¬ (refusal ≡ OutOfMemory) → Sated (error_unless refusal test)
 sated_unless refusal true other = sated_ok tt
 sated_unless refusal false other = record { isnt = λ is. other (same_refusal {A = Unit {0}} refusal OutOfMemory is) }
 
@@ -58,23 +59,23 @@ sated_text place key value = sated_or (Missing place key) (as_str value) (λ is.
 
 pub sated_name : (place : Place) (key : Key) (value : Data) → Sated (a_name place key value)
 unfolding a_name
-sated_name place key value = sated_bind (a_text place key value) (λ text. or_refused (BadName place key) (name_of text)) (sated_text place key value)
+sated_name place key value = sated_bind (a_text place key value) (λ text. or_error (BadName place key) (name_of text)) (sated_text place key value)
     (λ text. sated_or (BadName place key) (name_of text) (λ is. absurd cc))
 
 pub sated_path : (place : Place) (key : Key) (value : Data) → Sated (a_path place key value)
 unfolding a_path
-sated_path place key value = sated_bind (a_text place key value) (λ text. or_refused (BadPath place key) (path_of text)) (sated_text place key value)
+sated_path place key value = sated_bind (a_text place key value) (λ text. or_error (BadPath place key) (path_of text)) (sated_text place key value)
     (λ text. sated_or (BadPath place key) (path_of text) (λ is. absurd cc))
 
 pub sated_word : (place : Place) (key : Key) (value : Data) → Sated (a_word place key value)
 unfolding a_word
-sated_word place key value = sated_bind (a_text place key value) (λ text. refused_unless (BadPath place key) (is_word text) >> fine text) (sated_text place key value)
-    (λ text. sated_bind (refused_unless (BadPath place key) (is_word text)) (λ _. fine text) (sated_unless (BadPath place key) (is_word text) (λ is. absurd cc)) (λ _. sated_ok text))
+sated_word place key value = sated_bind (a_text place key value) (λ text. error_unless (BadPath place key) (is_word text) >> fine text) (sated_text place key value)
+    (λ text. sated_bind (error_unless (BadPath place key) (is_word text)) (λ _. fine text) (sated_unless (BadPath place key) (is_word text) (λ is. absurd cc)) (λ _. sated_ok text))
 
 pub sated_number : (least most : ℕ) (place : Place) (key : Key) (value : Data) → Sated (a_number least most place key value)
 unfolding a_number
 sated_number least most place key value =
-    sated_bind (or_refused (Missing place key) (as_integer value)) (λ number. or_refused (BadNumber place key) (in_range least most number))
+    sated_bind (or_error (Missing place key) (as_integer value)) (λ number. or_error (BadNumber place key) (in_range least most number))
     (sated_or (Missing place key) (as_integer value) (λ is. absurd cc)) (λ number. sated_or (BadNumber place key) (in_range least most number) (λ is. absurd cc))
 
 pub sated_table : (place : Place) (key : Key) (value : Data) → Sated (a_table place key value)
@@ -84,12 +85,12 @@ sated_table place key value = sated_or (Missing place key) (as_table value) (λ 
 pub sated_array : (least most : ℕ) (place : Place) (key : Key) (value : Data) → Sated (an_array least most place key value)
 unfolding an_array
 sated_array least most place key value =
-    sated_bind (or_refused (Missing place key) (option_map values_of (as_array value)))
-    (λ values. refused_unless (TooMany place key) (nat_le (length values) most) >> (refused_unless (Missing place key) (nat_le least (length values)) >> fine values))
+    sated_bind (or_error (Missing place key) (option_map values_of (as_array value)))
+    (λ values. error_unless (TooMany place key) (nat_le (length values) most) >> (error_unless (Missing place key) (nat_le least (length values)) >> fine values))
     (sated_or (Missing place key) (option_map values_of (as_array value)) (λ is. absurd cc)) (λ values.
-    sated_bind (refused_unless (TooMany place key) (nat_le (length values) most)) (λ _. refused_unless (Missing place key) (nat_le least (length values)) >> fine values)
+    sated_bind (error_unless (TooMany place key) (nat_le (length values) most)) (λ _. error_unless (Missing place key) (nat_le least (length values)) >> fine values)
     (sated_unless (TooMany place key) (nat_le (length values) most) (λ is. absurd cc)) (λ _.
-    sated_bind (refused_unless (Missing place key) (nat_le least (length values))) (λ _. fine values)
+    sated_bind (error_unless (Missing place key) (nat_le least (length values))) (λ _. fine values)
     (sated_unless (Missing place key) (nat_le least (length values)) (λ is. absurd cc)) (λ _. sated_ok values)))
 
 pub sated_list : {A : Type 0} (read : Place → Key → Data → Result A RecipeRefusal) (least most : ℕ) (place : Place) (key : Key) (value : Data)
@@ -105,7 +106,7 @@ pub sated_required : {A : Type 0} (read : Place → Key → Data → Result A Re
     → ((value : Data) → Sated (read place key value)) → Sated (required read place key table)
 unfolding required
 sated_required read place key table each =
-    sated_bind (or_refused (Missing place key) (get_member (key_word key) table)) (read place key) (sated_or (Missing place key) (get_member (key_word key) table) (λ is. absurd cc)) each
+    sated_bind (or_error (Missing place key) (get_member (key_word key) table)) (read place key) (sated_or (Missing place key) (get_member (key_word key) table) (λ is. absurd cc)) each
 
 sated_there : {A B : Type 0} (read : A → Result B RecipeRefusal) (found : Option A) → ((x : A) → Sated (read x)) → Sated (where_there read found)
 sated_there read None each = sated_ok None

@@ -1,9 +1,10 @@
 -- The walks, one element on.
 use Rattle.std.proofs.Common.{◌≡◌, ℕ, ◌+◌, ◌<◌, ◌≤◌, List, [], ◌∷◌, ◌++◌, length, map, drop, get_or, Result, Ok, refl, sym, ap, subst, ◌∙◌, arith, length-append}
 use Rattle.std.proofs.lemmas.List.{drop_more, drop_all}
+use Rattle.ddc_base.specs.Results.{◌>>=◌}
 use Rattle.recipe.specs.declared.text.refusal.RecipeRefusal.{RecipeRefusal}
 use Rattle.recipe.specs.declared.text.refusal.RecipeRefusal.TheVariants.{NotToml, Missing, Unknown, BadName, DoubleName, NotMadeYet, BadPath, BadNumber, TooMany, OutOfMemory}
-use Rattle.recipe.specs.Text.Reading.{◌>>=◌, IsRefused, gathered, each_passes}
+use Rattle.recipe.specs.Text.Reading.{IsRefused, gathered, each_passes}
 
 fails_bind : {A B : Type 0} (e : RecipeRefusal) (r : Result A RecipeRefusal) (f : A → Result B RecipeRefusal) → IsRefused e r → IsRefused e (r >>= f)
 fails_bind OutOfMemory r f h = tt

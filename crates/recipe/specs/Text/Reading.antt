@@ -6,6 +6,7 @@ use Rattle.std.specs.Str.{is_utf8}
 use Rattle.toml.specs.Data.{Data, Members, Items, no_items, item, get_member, as_str, as_integer, as_array, as_table}
 use Rattle.toml.specs.Parse.{parse_document}
 use Rattle.ddc_base.specs.Names.{name_of}
+use Rattle.ddc_base.specs.Results.{◌>>=◌, ◌>>◌, or_error, error_unless}
 use Rattle.recipe.specs.declared.text.keys.Key.{Key}
 use Rattle.recipe.specs.declared.text.keys.Place.{Place}
 use Rattle.recipe.specs.declared.text.refusal.RecipeRefusal.{RecipeRefusal}
@@ -13,24 +14,6 @@ use Rattle.recipe.specs.declared.text.refusal.RecipeRefusal.TheVariants.{NotToml
 use Rattle.recipe.specs.Text.Keys.{key_word, are_listed}
 
 -- ---- a reading is a value or the first refusal
-
-infixl 10 ◌>>=◌
-abbrev pub ◌>>=◌ : {A B : Type 0} → Result A RecipeRefusal → (A → Result B RecipeRefusal) → Result B RecipeRefusal
-(Ok x) >>= next = next x
-(Err refusal) >>= next = Err refusal
-
-infixl 10 ◌>>◌
-abbrev pub ◌>>◌ : {A B : Type 0} → Result A RecipeRefusal → Result B RecipeRefusal → Result B RecipeRefusal
-first >> second = first >>= λ _. second
-
--- the value, or this refusal where there is none
-abbrev pub or_refused : {A : Type 0} → RecipeRefusal → Option A → Result A RecipeRefusal
-or_refused refusal (Some x) = Ok x
-or_refused refusal None = Err refusal
-
--- this refusal where the test fails
-abbrev pub refused_unless : RecipeRefusal → Bool → Result (Unit {0}) RecipeRefusal
-refused_unless refusal test = if test then Ok tt else Err refusal
 
 -- each element read in order, given what was read before it
 unfoldable pub gathered : {A B : Type 0} → (List B → A → Result B RecipeRefusal) → List B → List A → Result (List B) RecipeRefusal
@@ -64,12 +47,12 @@ NeverWants answer = Unit {0}
 -- ---- the readers of a value: each takes the place of the table and the key, which its refusals name
 
 unfoldable pub a_text : Place → Key → Data → Result (List ℕ) RecipeRefusal
-a_text place key value = or_refused (Missing place key) (as_str value)
+a_text place key value = or_error (Missing place key) (as_str value)
 
 unfoldable pub a_name : Place → Key → Data → Result (List ℕ) RecipeRefusal
 a_name place key value = do
   text ← a_text place key value
-  or_refused (BadName place key) (name_of text)
+  or_error (BadName place key) (name_of text)
 
 -- a byte of a path: 20 to 7E
 abbrev pub is_path_byte : ℕ → Bool
@@ -86,7 +69,7 @@ path_of text = if is_path text then Some text else None
 unfoldable pub a_path : Place → Key → Data → Result (List ℕ) RecipeRefusal
 a_path place key value = do
   text ← a_text place key value
-  or_refused (BadPath place key) (path_of text)
+  or_error (BadPath place key) (path_of text)
 
 -- a byte of a word for a program: 1 to FF
 abbrev pub is_word_byte : ℕ → Bool
@@ -99,7 +82,7 @@ is_word text = nat_le (length text) 255 && list_all is_word_byte text
 unfoldable pub a_word : Place → Key → Data → Result (List ℕ) RecipeRefusal
 a_word place key value = do
   text ← a_text place key value
-  refused_unless (BadPath place key) (is_word text)
+  error_unless (BadPath place key) (is_word text)
   Ok text
 
 -- the number, where it is in the range
@@ -110,11 +93,11 @@ in_range least most (negsuc number) = None
 -- a number from least to most
 unfoldable pub a_number : ℕ → ℕ → Place → Key → Data → Result ℕ RecipeRefusal
 a_number least most place key value = do
-  number ← or_refused (Missing place key) (as_integer value)
-  or_refused (BadNumber place key) (in_range least most number)
+  number ← or_error (Missing place key) (as_integer value)
+  or_error (BadNumber place key) (in_range least most number)
 
 unfoldable pub a_table : Place → Key → Data → Result Members RecipeRefusal
-a_table place key value = or_refused (Missing place key) (as_table value)
+a_table place key value = or_error (Missing place key) (as_table value)
 
 -- an array's values
 unfoldable pub values_of : Items → List Data
@@ -124,9 +107,9 @@ values_of (item value more) = value ∷ values_of more
 -- from least to most values
 unfoldable pub an_array : ℕ → ℕ → Place → Key → Data → Result (List Data) RecipeRefusal
 an_array least most place key value = do
-  values ← or_refused (Missing place key) (option_map values_of (as_array value))
-  refused_unless (TooMany place key) (nat_le (length values) most)
-  refused_unless (Missing place key) (nat_le least (length values))
+  values ← or_error (Missing place key) (option_map values_of (as_array value))
+  error_unless (TooMany place key) (nat_le (length values) most)
+  error_unless (Missing place key) (nat_le least (length values))
   Ok values
 
 -- from least to most values, each read by the reader
@@ -140,7 +123,7 @@ a_list read least most place key value = do
 -- at a key that has to be there
 unfoldable pub required : {A : Type 0} → (Place → Key → Data → Result A RecipeRefusal) → Place → Key → Members → Result A RecipeRefusal
 required read place key table = do
-  value ← or_refused (Missing place key) (get_member (key_word key) table)
+  value ← or_error (Missing place key) (get_member (key_word key) table)
   read place key value
 
 abbrev pub where_there : {A B : Type 0} → (A → Result B RecipeRefusal) → Option A → Result (Option B) RecipeRefusal
@@ -153,10 +136,10 @@ optional read place key table = where_there (read place key) (get_member (key_wo
 
 -- no other key is there
 unfoldable pub no_other_key : Place → List Key → Members → Result (Unit {0}) RecipeRefusal
-no_other_key place keys table = refused_unless (Unknown place) (are_listed keys table)
+no_other_key place keys table = error_unless (Unknown place) (are_listed keys table)
 
 -- ---- the whole text
 
 -- the top table that the bytes are: a document of TOML 1.0.0 in UTF-8
 unfoldable pub document_of : List ℕ → Result Members RecipeRefusal
-document_of bytes = or_refused NotToml (if is_utf8 bytes then parse_document bytes else None)
+document_of bytes = or_error NotToml (if is_utf8 bytes then parse_document bytes else None)

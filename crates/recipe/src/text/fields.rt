@@ -3,10 +3,11 @@
 ghost use Rattle.std.specs.Prelude.{◌≡◌, option_map, string_bytes};
 ghost use Rattle.std.specs.List.{list_all};
 ghost use Rattle.std.specs.BTreeMap.{keys as map_keys};
+ghost use Rattle.ddc_base.specs.Results.{or_error};
 ghost use Rattle.toml.specs.Data.{get_member};
 ghost use Rattle.toml.specs.View.{view, table_view};
 ghost use Rattle.recipe.specs.Text.Keys.{key_word, is_known_key, are_listed};
-ghost use Rattle.recipe.specs.Text.Reading.{Gives, NeverWants, or_refused, required, optional, a_name, a_number, no_other_key};
+ghost use Rattle.recipe.specs.Text.Reading.{Gives, NeverWants, required, optional, a_name, a_number, no_other_key};
 ghost use Rattle.recipe.specs.declared.text.refusal.RecipeRefusal.TheVariants.{Missing as Absent};
 
 use crate::text::keys::{Key, Place};
@@ -31,7 +32,7 @@ fn find_word<'a>(table: &'a Table, word: &str) -> Option<&'a Value>
 
 /// The value at a key that has to be there.
 pub fn required(place: Place, key: Key, table: &Table) -> Result<&Value, RecipeRefusal>
-    ensures value { Gives (λ v. view v.now) result (or_refused (Absent place key) (get_member (key_word key) (table_view table.now))) }
+    ensures value { Gives (λ v. view v.now) result (or_error (Absent place key) (get_member (key_word key) (table_view table.now))) }
     ensures memory { NeverWants result }
 {
     match find(table, key) {
