@@ -60,3 +60,24 @@ check 'the same with dashes' 0 "$("$ddc" version)\n" "$ddc" --version
 check 'version has no words' 2 'usage\n' "$ddc" version 1
 check 'no other word with dashes' 2 'usage\n' "$ddc" --usage
 check 'the output is closed for help' 12 '' closed "$ddc" help
+
+# Where a refusal of a source stands.
+printf ':a\n0 1 !b\n13000000 # e\n' >s.hex2
+check 'a label that is nowhere' 7 'refused 5 2\n' "$ddc" asm hex2 0 s.hex2 out
+check 'the reference to it' 0 'line 2 column 5 word !b\n' "$ddc" where hex2 s.hex2 5 2
+check 'the label before it' 0 'line 1 column 1 word :a\n' "$ddc" where hex2 s.hex2 4 0
+check 'a byte whose digits stand apart' 0 'line 2 column 1 word 0\n' "$ddc" where hex2 s.hex2 6 1
+check 'an item that is none' 1 'no place\n' "$ddc" where hex2 s.hex2 5 3
+check 'an offset' 0 'line 2 column 5 word !b\n' "$ddc" where hex2 s.hex2 3 7
+check 'the offset of the last byte' 0 'line 3 column 13 word \n' "$ddc" where hex2 s.hex2 2 $(($(wc -c <s.hex2) - 1))
+check 'the offset of the end' 1 'no place\n' "$ddc" where hex2 s.hex2 2 "$(wc -c <s.hex2)"
+check 'in M1 every place is an offset' 0 'line 2 column 1 word 0\n' "$ddc" where m1 s.hex2 5 3
+check 'in hex0 too' 0 'line 1 column 3 word \n' "$ddc" where hex0 s.hex2 6 2
+printf '&a 1' >s.hex1
+check 'hex1 has names of one byte' 0 'line 1 column 4 word 1\n' "$ddc" where hex1 s.hex1 1 3
+check 'a source that is refused before the item' 1 'no place\n' "$ddc" where hex1 s.hex1 5 1
+check 'where of a number that has no place' 2 'usage\n' "$ddc" where hex2 s.hex2 7 0
+check 'where of the number 0' 2 'usage\n' "$ddc" where hex2 s.hex2 0 0
+check 'where in another language' 2 'usage\n' "$ddc" where hex3 s.hex2 1 0
+check 'where without a place' 2 'usage\n' "$ddc" where hex2 s.hex2 1
+check 'where in a source that is not there' 10 'file refused none absent\n' "$ddc" where hex2 none 1 0

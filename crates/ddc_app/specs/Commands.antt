@@ -11,6 +11,7 @@ use Rattle.tool_commands.specs.Kaem.{kaem_plan}
 use Rattle.tool_commands.specs.KaemVerify.{kaem_verify_plan}
 use Rattle.tool_commands.specs.List.{list_plan}
 use Rattle.tool_commands.specs.RunProgram.{run_plan}
+use Rattle.tool_commands.specs.Where.{where_plan}
 use Rattle.audit_commands.specs.Pause.{part_plan, resume_plan}
 use Rattle.audit_commands.specs.Delta.{delta_resume_plan, delta_start_plan}
 use Rattle.stage_commands.specs.Step.{step_plan}
@@ -48,11 +49,12 @@ text_plan (command ∷ words) =
     else (if bytes_eq command (codes "kaem") then kaem_plan words
     else (if bytes_eq command (codes "kaem-verify") then kaem_verify_plan words
     else (if bytes_eq command (codes "rests") then rests_plan words
+    else (if bytes_eq command (codes "where") then where_plan words
     else (if bytes_eq command (codes "help") then help_plan words
     else (if bytes_eq command (codes "--help") then help_plan words
     else (if bytes_eq command (codes "version") then version_plan words
     else (if bytes_eq command (codes "--version") then version_plan words
-    else usage)))))))))))))))))))))))
+    else usage))))))))))))))))))))))))
 
 -- whether a command line is one of `step`, the command that may begin a session
 abbrev pub is_step : List (List ℕ) → Bool

@@ -12,6 +12,7 @@ unfoldable pub all_commands : List CommandWord
 all_commands =
     command.Hex0 ∷
     command.Asm ∷
+    command.Where ∷
     command.List ∷
     command.Run ∷
     command.Audit ∷
@@ -38,6 +39,7 @@ all_commands =
 unfoldable pub command_name : CommandWord → List ℕ
 command_name command.Hex0 = codes "hex0"
 command_name command.Asm = codes "asm"
+command_name command.Where = codes "where"
 command_name command.List = codes "list"
 command_name command.Run = codes "run"
 command_name command.Audit = codes "audit"
@@ -64,6 +66,7 @@ command_name command.Version = codes "version"
 unfoldable pub command_form : CommandWord → List ℕ
 command_form command.Hex0 = codes "hex0 SOURCE BINARY"
 command_form command.Asm = codes "asm LANG BASE SOURCE OUT"
+command_form command.Where = codes "where LANG SOURCE NUMBER PLACE"
 command_form command.List = codes "list BINARY"
 command_form command.Run = codes "run PROGRAM STEPS ARG.."
 command_form command.Audit = codes "audit RECIPE REPORT"
@@ -90,6 +93,7 @@ command_form command.Version = codes "version"
 unfoldable pub command_answers : CommandWord → List ℕ
 command_answers command.Hex0 = codes "compares the hex0 value of SOURCE with BINARY, byte for byte"
 command_answers command.Asm = codes "saves under OUT the value of SOURCE in LANG (hex0, hex1, hex2) at the address BASE, of m1 the text of its items"
+command_answers command.Where = codes "says at which line, column and word of SOURCE a refusal of asm stands, by its number and its place"
 command_answers command.List = codes "lists the words of BINARY, each with its value and its instruction"
 command_answers command.Run = codes "runs PROGRAM within STEPS steps, and says how it ended and what it left"
 command_answers command.Audit = codes "makes the audit of RECIPE, and saves its report under REPORT"
@@ -116,6 +120,7 @@ command_answers command.Version = codes "names this release of ddc, and the kit 
 unfoldable pub command_statuses : CommandWord → List ℕ
 command_statuses command.Hex0 = codes "0 3"
 command_statuses command.Asm = codes "0 7"
+command_statuses command.Where = codes "0 1"
 command_statuses command.List = codes "0"
 command_statuses command.Run = codes "0 6"
 command_statuses command.Audit = codes "0 3 4 6 7"

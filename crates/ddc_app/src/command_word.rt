@@ -8,6 +8,7 @@ ghost use Rattle.ddc_app.specs.Help.{all_commands, command_answers, command_form
 pub enum CommandWord {
     Hex0,
     Asm,
+    Where,
     List,
     Run,
     Audit,
@@ -32,9 +33,10 @@ pub enum CommandWord {
 }
 
 /// All commands, in order.
-static COMMANDS: [CommandWord; 23] = [
+static COMMANDS: [CommandWord; 24] = [
     CommandWord::Hex0,
     CommandWord::Asm,
+    CommandWord::Where,
     CommandWord::List,
     CommandWord::Run,
     CommandWord::Audit,
@@ -61,7 +63,7 @@ static COMMANDS: [CommandWord; 23] = [
 impl CommandWord {
     /// All of them, in order.
     #[tactic(auto, unfolding(crate::specs::Help::all_commands))]
-    pub fn all() -> &'static [CommandWord; 23]
+    pub fn all() -> &'static [CommandWord; 24]
         ensures { result.now ≡ all_commands }
     {
         &COMMANDS
@@ -86,6 +88,7 @@ impl CommandWord {
         match self {
             CommandWord::Hex0 => "hex0",
             CommandWord::Asm => "asm",
+            CommandWord::Where => "where",
             CommandWord::List => "list",
             CommandWord::Run => "run",
             CommandWord::Audit => "audit",
@@ -118,6 +121,7 @@ impl CommandWord {
         match self {
             CommandWord::Hex0 => "hex0 SOURCE BINARY",
             CommandWord::Asm => "asm LANG BASE SOURCE OUT",
+            CommandWord::Where => "where LANG SOURCE NUMBER PLACE",
             CommandWord::List => "list BINARY",
             CommandWord::Run => "run PROGRAM STEPS ARG..",
             CommandWord::Audit => "audit RECIPE REPORT",
@@ -151,6 +155,8 @@ impl CommandWord {
             CommandWord::Hex0 => "compares the hex0 value of SOURCE with BINARY, byte for byte",
             CommandWord::Asm =>
                 "saves under OUT the value of SOURCE in LANG (hex0, hex1, hex2) at the address BASE, of m1 the text of its items",
+            CommandWord::Where =>
+                "says at which line, column and word of SOURCE a refusal of asm stands, by its number and its place",
             CommandWord::List =>
                 "lists the words of BINARY, each with its value and its instruction",
             CommandWord::Run =>
@@ -197,6 +203,7 @@ impl CommandWord {
         match self {
             CommandWord::Hex0 => "0 3",
             CommandWord::Asm => "0 7",
+            CommandWord::Where => "0 1",
             CommandWord::List => "0",
             CommandWord::Run => "0 6",
             CommandWord::Audit => "0 3 4 6 7",

@@ -7,3 +7,4 @@ pub mod ReadScripts
 mod FilePlaces
 mod FileWords
 mod ScriptEnds
+mod PlaceSteps

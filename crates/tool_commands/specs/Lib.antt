@@ -7,3 +7,5 @@ pub mod Scripts
 pub mod ScriptTexts
 pub mod Kaem
 pub mod KaemVerify
+pub mod Places
+pub mod Where

@@ -1,4 +1,4 @@
-//! The commands which name no recipe: `hex0` and `asm` of the languages, `list` and `run` of the machine, `kaem` and `kaem-verify` of scripts.
+//! The commands which name no recipe: `hex0`, `asm` and `where` of the languages, `list` and `run` of the machine, `kaem` and `kaem-verify` of scripts.
 //!
 //! Their rules for people: docs/reference/command-line.md.
 #![tactic(auto)]
@@ -9,6 +9,8 @@ pub mod kaem;
 pub mod kaem_verify;
 pub mod list;
 mod listed_file;
+mod places;
+pub mod refusal_place;
 pub mod run;
 pub mod run_texts;
 mod script_texts;

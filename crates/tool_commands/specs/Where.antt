@@ -1,0 +1,70 @@
+-- `where LANG SOURCE NUMBER PLACE`: the line, the column and the word of a refusal of a source. docs/reference/command-line.md says the same for
+-- people.
+use Rattle.std.specs.Prelude.{ℕ, Bool, ◌&&◌, nat_le, nat_lt, if◌then◌else◌, Option, None, Some, List, [], ◌∷◌, codes, decimal, drop, length, take}
+use Rattle.ddc_base.specs.Decimals.{as_decimal}
+use Rattle.ddc_base.specs.Languages.Words.{language_named}
+use Rattle.ddc_base.specs.Lines.{line}
+use Rattle.ddc_base.specs.declared.languages.Language.{Language}
+use Rattle.ddc_base.specs.declared.languages.Language.TheVariants.{Hex0, Hex1, Hex2, M1}
+use Rattle.hex_langs.specs.declared.items.token.Dialect.{Dialect}
+use Rattle.hex_langs.specs.declared.items.token.Dialect.TheVariants as dialect
+use Rattle.command_plan.specs.declared.status.Status.TheVariants.{Refuted, Yes}
+use Rattle.command_plan.specs.Plan.{Plan, answers, needs}
+use Rattle.command_plan.specs.Words.{as_file_name, or_usage}
+use Rattle.tool_commands.specs.declared.places.Spot.{Spot}
+use Rattle.tool_commands.specs.declared.refusal_place.WhereWords.{WhereWords}
+use Rattle.tool_commands.specs.Places.{front_word, place_of_item, spot_after}
+
+-- ---- the place of a refusal
+
+-- in hex1 and hex2 the refusals of this number hold the number of an item, and all others an offset
+abbrev pub is_of_item : ℕ → Bool
+is_of_item number = nat_le 4 number && nat_le number 6
+
+abbrev pub linked_place : Dialect → List ℕ → ℕ → ℕ → Option ℕ
+linked_place dialect text number place = if is_of_item number then place_of_item dialect text place else Some place
+
+-- the offset that a refusal of this number and place has in a text
+abbrev pub refusal_place : Language → List ℕ → ℕ → ℕ → Option ℕ
+refusal_place Hex0 text number place = Some place
+refusal_place Hex1 text number place = linked_place dialect.Hex1 text number place
+refusal_place Hex2 text number place = linked_place dialect.Hex2 text number place
+refusal_place M1 text number place = Some place
+
+-- ---- what is said
+
+-- the line and the column, from 1, and the word there
+unfoldable pub spot_line : Spot → List ℕ → List ℕ
+spot_line spot word = line (codes "line" ∷ decimal spot.line ∷ codes "column" ∷ decimal spot.column ∷ codes "word" ∷ word ∷ [])
+
+unfoldable pub no_place_line : List ℕ
+no_place_line = line (codes "no" ∷ codes "place" ∷ [])
+
+abbrev pub located : List ℕ → Option ℕ → Plan
+located text None = answers Refuted no_place_line
+located text (Some at) =
+    if nat_lt at (length text) then answers Yes (spot_line (spot_after (take at text)) (front_word (drop at text))) else answers Refuted no_place_line
+
+-- ---- the words
+
+-- the number of a refusal that has a place, from 1 to 6
+abbrev pub within_numbers : Option ℕ → Option ℕ
+within_numbers None = None
+within_numbers (Some number) = if nat_le 1 number && nat_le number 6 then Some number else None
+
+abbrev pub where_of : Option Language → Option (List ℕ) → Option ℕ → Option ℕ → Option WhereWords
+where_of (Some language) (Some source) (Some number) (Some place) = Some (record { language = language; source = source; number = number; place = place })
+where_of _ _ _ _ = None
+
+unfoldable pub where_words : List (List ℕ) → Option WhereWords
+where_words (language ∷ source ∷ number ∷ place ∷ []) =
+    where_of (language_named language) (as_file_name source) (within_numbers (as_decimal number)) (as_decimal place)
+where_words _ = None
+
+-- the source, of at most 268,435,456 bytes, and where the refusal stands in it
+abbrev pub where_file : WhereWords → Plan
+where_file words = needs words.source 268_435_456 (λ text. located text (refusal_place words.language text words.number words.place))
+
+-- the words after `where`
+abbrev pub where_plan : List (List ℕ) → Plan
+where_plan words = or_usage (where_words words) where_file

@@ -1,0 +1,136 @@
+//! Where the places of refusals stand in a source.
+
+ghost use Rattle.std.specs.Prelude.{◌≡◌, ◌<◌, ◌≤◌, ◌^◌, IfOk, IfSome, length};
+ghost use Rattle.std.specs.List.{position};
+ghost use Rattle.hex_langs.specs.Items.Tokens.{is_blank, opens_gap};
+ghost use Rattle.tool_commands.specs.Places.{IsStopped, after_byte, first_offset, front_word, place_of_item, spot_after};
+
+use ddc_base::OutOfMemory;
+use hex_langs::items::{Dialect, Halt, Items, Open, gap_length, is_blank, take, token_at};
+use std::alloc::Global;
+
+/// A line and a column, both from 1.
+#[derive(Clone, Copy)]
+pub(crate) struct Spot {
+    pub line: u64,
+    pub column: u64,
+}
+
+impl Spot {
+    /// The spot after a byte.
+    fn after(self, byte: u8) -> Spot
+        requires line { self.line ≤ 2 ^ 40 }
+        requires column { self.column ≤ 2 ^ 40 }
+        ensures { result ≡ after_byte self byte }
+    {
+        if byte == b'\n' {
+            Spot {
+                line: self.line + 1,
+                column: 1,
+            }
+        } else {
+            Spot {
+                line: self.line,
+                column: self.column + 1,
+            }
+        }
+    }
+}
+
+/// The spot after these bytes.
+pub(crate) fn spot_after(front: &[u8]) -> Spot
+    requires { length front.now ≤ 2 ^ 32 }
+    ensures { result ≡ spot_after front.now }
+{
+    let mut spot = Spot { line: 1, column: 1 };
+    for byte in front {
+        spot = spot.after(*byte);
+    }
+    spot
+}
+
+/// The word at the front: up to the next blank or the end.
+pub(crate) fn front_word(rest: &[u8]) -> &[u8]
+    ensures { result.now ≡ front_word rest.now }
+{
+    match blank_at(rest) {
+        Some(size) => &rest[..size],
+        None => rest,
+    }
+}
+
+/// The index of the first blank.
+fn blank_at(rest: &[u8]) -> Option<usize>
+    ensures place { result ≡ position is_blank rest.now }
+    ensures within { IfSome result (λ at. at < length rest.now) }
+{
+    rest.iter().position(|byte| is_blank(*byte))
+}
+
+/// The offset of what forms the item of an index, from 0: its token, or the first field or reference of its word.
+#[tactic(auto, unfolding(crate::specs::Places::place_of_item))]
+pub(crate) fn place_of_item(
+    alloc: Global,
+    dialect: Dialect,
+    source: &[u8],
+    index: u64,
+) -> Result<Option<usize>, OutOfMemory>
+    ensures { IfOk result (λ place. place ≡ place_of_item dialect source.now index) }
+{
+    let mut items = Items::new(alloc);
+    let mut word = None;
+    let mut at = 0;
+    while at < source.len() {
+        let byte = source[at];
+        if opens_gap(byte) {
+            at += gap_length(&source[at..]);
+        } else {
+            match token_at(dialect, byte, &source[at + 1..]) {
+                Err(_) => return Ok(None),
+                Ok((token, more)) => {
+                    let first = first_offset(&word, at);
+                    match take(&mut items, word, at, token) {
+                        Err(halt) => return stopped(halt),
+                        Ok(next) => {
+                            if index < items.len() as u64 {
+                                return Ok(Some(first));
+                            }
+                            word = next;
+                            at += 1 + more;
+                        }
+                    }
+                }
+            }
+        }
+    }
+    Ok(None)
+}
+
+/// What is found after a token that has no place: nothing, unless memory was wanting.
+fn stopped(halt: Halt) -> Result<Option<usize>, OutOfMemory>
+    ensures { IsStopped halt result }
+{
+    match halt {
+        Halt::OutOfMemory => Err(OutOfMemory),
+        Halt::Dangling(_) => Ok(None),
+        Halt::Second(_) => Ok(None),
+        Halt::TooLong => Ok(None),
+    }
+}
+
+/// Where what a token at an offset belongs to begins.
+fn first_offset(word: &Option<Open<'_>>, at: usize) -> usize
+    ensures { result ≡ first_offset word.now at }
+{
+    match word {
+        Some(word) => word.first,
+        None => at,
+    }
+}
+
+/// Whether a blank or a comment begins with a byte.
+fn opens_gap(byte: u8) -> bool
+    ensures { result ≡ opens_gap byte }
+{
+    matches!(byte, b' ' | b'\t' | b'\n' | b'\r' | b'#' | b';')
+}
