@@ -3,7 +3,6 @@
 
 ghost use Rattle.std.specs.Prelude.{IfOk, map};
 ghost use Rattle.recipe.specs.Kept.{IsRecipe};
-ghost use Rattle.audit_rules.specs.Valid.{IsInputs};
 ghost use Rattle.command_plan.specs.declared.status.Status.TheVariants.{SaveRefused};
 ghost use Rattle.command_plan.specs.Performs.{Performs};
 ghost use Rattle.command_plan.specs.Plan.{answers, needs};
@@ -21,7 +20,8 @@ use crate::words::{Piece, RelativeWords};
 use audit_run::{Audit, DeltaRefusal};
 use command_plan::{Answer, Status, Stop, fetch, usage};
 use ddc_base::{Bytes, Shelf};
-use recipe::{Inputs, Recipe};
+use recipe::Recipe;
+use recipe_plan::Supplied;
 use std::alloc::Global;
 
 /// Performs the command on the words after its name.
@@ -59,50 +59,35 @@ fn load<S: Shelf>(
 {
     let save = fetch(alloc, shelf, &words.base, SAVE_LIMIT)?;
     let (delta, inputs) = fetch_save(alloc, shelf, &recipe, &words.piece.save)?;
-    go_from(
-        alloc,
-        shelf,
-        recipe,
-        inputs,
-        save.as_slice(),
-        delta,
-        &words.piece,
-    )
+    let supplied = Supplied { recipe, inputs };
+    go_from(alloc, shelf, supplied, save.as_slice(), delta, &words.piece)
 }
 
 /// Goes on from where a save and a delta say that the audit stands.
 fn go_from<S: Shelf>(
     alloc: Global,
     shelf: &mut S,
-    recipe: Recipe,
-    inputs: Inputs,
+    supplied: Supplied,
     save: &[u8],
     delta: Bytes,
     piece: &Piece<'_>,
 ) -> Result<Answer, Stop>
-    requires given { IsInputs recipe inputs }
-    ensures { Performs (resumes_relative recipe inputs save.now delta piece.now.save piece.now.report piece.now.steps) (S.state shelf.old) (S.state shelf.new) result }
+    ensures { Performs (resumes_relative supplied.recipe supplied.inputs save.now delta piece.now.save piece.now.report piece.now.steps) (S.state shelf.old) (S.state shelf.new) result }
 {
-    match read(alloc, recipe, inputs, save, delta) {
+    match read(alloc, supplied, save, delta) {
         Ok(audit) => go_on(alloc, shelf, audit, Kept::Relative(save), piece),
         Err(refusal) => refuse(alloc, refusal),
     }
 }
 
 /// Reads a delta beside its base, and lets its text go.
-fn read(
-    alloc: Global,
-    recipe: Recipe,
-    inputs: Inputs,
-    save: &[u8],
-    delta: Bytes,
-) -> Result<Audit, DeltaRefusal>
-    requires { IsInputs recipe inputs }
-    ensures exact { ResumesAuditRelative recipe inputs save.now delta result }
-    ensures found { IfOk result (λ audit. IsResumedRelative recipe inputs save.now delta audit) }
-    ensures kept { IsRecipe recipe }
+fn read(alloc: Global, supplied: Supplied, save: &[u8], delta: Bytes) -> Result<Audit, DeltaRefusal>
+    ensures exact { ResumesAuditRelative supplied.recipe supplied.inputs save.now delta result }
+    ensures found { IfOk result (λ audit. IsResumedRelative supplied.recipe supplied.inputs save.now delta audit) }
+    ensures kept { IsRecipe supplied.recipe }
 {
-    Audit::resume_delta(alloc, recipe, inputs, save, delta.as_slice())
+    let delta = delta.as_slice();
+    Audit::resume_delta(alloc, supplied.recipe, supplied.inputs, save, delta)
 }
 
 /// The answer to files that are no save and no delta against it, or want of memory.

@@ -2,7 +2,6 @@
 //! is kept.
 
 ghost use Rattle.std.specs.Prelude.{map};
-ghost use Rattle.audit_rules.specs.Valid.{IsInputs};
 ghost use Rattle.command_plan.specs.Performs.{Performs};
 ghost use Rattle.audit_commands.specs.Delta.{delta_start_files, delta_start_plan, starts_relative};
 
@@ -13,7 +12,7 @@ use crate::words::{Piece, RelativeWords};
 use audit_run::Audit;
 use command_plan::{Answer, Stop, usage};
 use ddc_base::Shelf;
-use recipe::{Inputs, Recipe};
+use recipe_plan::Supplied;
 use std::alloc::Global;
 
 /// Performs the command on the words after its name.
@@ -37,22 +36,21 @@ fn delta_start<S: Shelf>(
 {
     let recipe = fetch_relative(alloc, shelf, words)?;
     let (save, inputs) = fetch_save(alloc, shelf, &recipe, &words.base)?;
-    go_from(alloc, shelf, recipe, inputs, save.as_slice(), &words.piece)
+    let supplied = Supplied { recipe, inputs };
+    go_from(alloc, shelf, supplied, save.as_slice(), &words.piece)
 }
 
 /// Goes on from where a save says that the audit stands.
 fn go_from<S: Shelf>(
     alloc: Global,
     shelf: &mut S,
-    recipe: Recipe,
-    inputs: Inputs,
+    supplied: Supplied,
     save: &[u8],
     piece: &Piece<'_>,
 ) -> Result<Answer, Stop>
-    requires { IsInputs recipe inputs }
-    ensures { Performs (starts_relative recipe inputs save.now piece.now.save piece.now.report piece.now.steps) (S.state shelf.old) (S.state shelf.new) result }
+    ensures { Performs (starts_relative supplied.recipe supplied.inputs save.now piece.now.save piece.now.report piece.now.steps) (S.state shelf.old) (S.state shelf.new) result }
 {
-    match Audit::resume(alloc, recipe, inputs, save) {
+    match Audit::resume(alloc, supplied.recipe, supplied.inputs, save) {
         Ok(audit) => go_on(alloc, shelf, audit, Kept::Relative(save), piece),
         Err(refusal) => refuse(alloc, refusal),
     }

@@ -2,7 +2,6 @@
 
 ghost use Rattle.std.specs.Prelude.{map};
 ghost use Rattle.ddc_base.specs.Outside.{ShelfState};
-ghost use Rattle.audit_rules.specs.Valid.{IsInputs};
 ghost use Rattle.audit_run.specs.Saved.{ResumesAudit, standing_at};
 ghost use Rattle.command_plan.specs.declared.status.Status.TheVariants.{SaveRefused};
 ghost use Rattle.command_plan.specs.Performs.{Performs};
@@ -20,7 +19,7 @@ use audit_run::Audit;
 use audit_run::save::SaveRefusal;
 use command_plan::{Answer, Status, Stop, usage};
 use ddc_base::{Bytes, Shelf};
-use recipe::{Inputs, Recipe};
+use recipe_plan::Supplied;
 use std::alloc::Global;
 
 /// Performs the command on the words after its name.
@@ -46,28 +45,26 @@ fn resume<S: Shelf>(alloc: Global, shelf: &mut S, words: &PieceWords<'_>) -> Res
         &words.piece.save,
     )?;
     let (text, inputs) = fetch_save(alloc, shelf, &recipe, &words.piece.save)?;
-    let audit = audit_at(alloc, recipe, inputs, text)?;
+    let audit = audit_at(alloc, Supplied { recipe, inputs }, text)?;
     go_on(alloc, shelf, audit, Kept::Whole, &words.piece)
 }
 
 /// The audit that stands where a save says, or what ends the command.
-fn audit_at(alloc: Global, recipe: Recipe, inputs: Inputs, text: Bytes) -> Result<Audit, Stop>
-    requires { IsInputs recipe inputs }
-    ensures { (shelf : ShelfState) → Obtains (λ next. needs_position recipe inputs text (λ p. next (standing_at recipe inputs p)))
+fn audit_at(alloc: Global, supplied: Supplied, text: Bytes) -> Result<Audit, Stop>
+    ensures { (shelf : ShelfState) → Obtains (λ next. needs_position supplied.recipe supplied.inputs text (λ p. next (standing_at supplied.recipe supplied.inputs p)))
         shelf shelf result }
 {
-    match read(alloc, recipe, inputs, text) {
+    match read(alloc, supplied, text) {
         Ok(audit) => Ok(audit),
         Err(refusal) => Err(Stop::Answered(refuse(alloc, refusal)?)),
     }
 }
 
 /// Reads a save, and lets its text go.
-fn read(alloc: Global, recipe: Recipe, inputs: Inputs, text: Bytes) -> Result<Audit, SaveRefusal>
-    requires { IsInputs recipe inputs }
-    ensures { ResumesAudit recipe inputs text result }
+fn read(alloc: Global, supplied: Supplied, text: Bytes) -> Result<Audit, SaveRefusal>
+    ensures { ResumesAudit supplied.recipe supplied.inputs text result }
 {
-    Audit::resume(alloc, recipe, inputs, text.as_slice())
+    Audit::resume(alloc, supplied.recipe, supplied.inputs, text.as_slice())
 }
 
 /// The answer to a file that is no save of the recipe and its inputs, or want of memory.

@@ -3,7 +3,7 @@
 ghost use Rattle.std.specs.Prelude.{◌≡◌, map};
 ghost use Rattle.audit_commands.specs.Inside.Words.{relative_words, report_words, whole_words};
 
-use command_plan::{FileName, Steps, four_files, three_files, two_files};
+use command_plan::{FileName, StepCount, four_files, three_files, two_files};
 
 /// A recipe, and the report of its audit.
 #[derive(Drop)]
@@ -30,7 +30,7 @@ impl<'w> ReportWords<'w> {
 pub(crate) struct Piece<'w> {
     pub save: FileName<'w>,
     pub report: FileName<'w>,
-    pub steps: Steps,
+    pub steps: StepCount,
 }
 
 /// A recipe, and a piece of its audit.
@@ -49,7 +49,7 @@ impl<'w> PieceWords<'w> {
             return None;
         };
         let (recipe, save, report) = three_files(recipe, save, report)?;
-        let steps = Steps::read(steps)?;
+        let steps = StepCount::read(steps)?;
         let piece = Piece {
             save,
             report,
@@ -76,7 +76,7 @@ impl<'w> RelativeWords<'w> {
             return None;
         };
         let (recipe, base, save, report) = four_files(recipe, base, patch, report)?;
-        let steps = Steps::read(steps)?;
+        let steps = StepCount::read(steps)?;
         let piece = Piece {
             save,
             report,

@@ -108,11 +108,11 @@ pub fn four_files<'w>(
 
 /// A number of steps, from 1 to 2^48, which contracts see as this number.
 #[derive(Clone, Copy)]
-pub struct Steps {
+pub struct StepCount {
     count: u64,
 }
 
-impl Model for Steps {
+impl Model for StepCount {
     ghost use Rattle.std.specs.Prelude.{ℕ, ◌≤◌, ◌^◌};
 
     ghost Value = { ℕ };
@@ -124,13 +124,13 @@ impl Model for Steps {
     ghost inverse = { λ count. record { count = count } };
 }
 
-impl Steps {
+impl StepCount {
     /// The number of steps that a word is, and `None` for every other word.
-    pub fn read(word: &str) -> Option<Steps>
+    pub fn read(word: &str) -> Option<StepCount>
         ensures { result ≡ as_steps word.now }
     {
         let count = steps_of(word)?;
-        Some(Steps { count })
+        Some(StepCount { count })
     }
 
     /// The number.

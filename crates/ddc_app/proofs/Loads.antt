@@ -17,7 +17,8 @@ use Rattle.ddc_base.proofs.StoredFiles.{others-insert}
 use Rattle.mem_files.specs.Outputs.{IsContent}
 use Rattle.command_plan.specs.declared.status.Status.TheVariants.{FileRefused}
 use Rattle.command_plan.specs.Plan.{LoadsBytes, Plan, bytes_then, needs, needs_all, follow, outcome}
-use Rattle.command_plan.specs.Words.{are_two_files, bare_name, is_file_word, is_one_file}
+use Rattle.mem_files.specs.Names.{stripped}
+use Rattle.command_plan.specs.Words.{are_two_files, is_file_word, is_one_file}
 use Rattle.ddc_app.specs.Holding.{AreHeld}
 
 -- ---- one load
@@ -53,7 +54,7 @@ within limit (Some c) content is = by (nat_le (length c) limit) refl is where
 -- words that do not clash are not equal
 pub not_equal : (first second : List ℕ) → is_one_file first second ≡ false → first ≢ second
 unfolding is_one_file
-not_equal first second apart = λ same. let equal : is_one_file first second ≡ true = (bytes_eq-Decides (bare_name first) (bare_name second)).1 (ap bare_name same) in cc
+not_equal first second apart = λ same. let equal : is_one_file first second ≡ true = (bytes_eq-Decides (stripped first) (stripped second)).1 (ap stripped same) in cc
 
 -- a name that was set is held, and others are as before
 pub set_held : (files : NamedFiles) (name content : List ℕ) → finite.get (finite.insert files name content) name ≡ Some content

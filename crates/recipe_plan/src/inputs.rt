@@ -17,6 +17,14 @@ use std::alloc::Global;
 /// The most bytes of all inputs together that a command takes.
 pub const INPUTS_LIMIT: u64 = 1_073_741_824;
 
+/// A recipe, and a content for each of its inputs.
+#[derive(Drop)]
+pub struct Supplied {
+    pub recipe: Recipe,
+    pub inputs: Inputs,
+    pub ghost given: { IsInputs recipe inputs },
+}
+
 /// Fetches the inputs of a recipe, in order.
 pub fn fetch_inputs<S: Shelf>(alloc: Global, shelf: &mut S, recipe: &Recipe) -> Result<Inputs, Stop>
     ensures obtained { Obtains (needs_inputs recipe.now) (S.state shelf.old) (S.state shelf.new) result }

@@ -11,7 +11,7 @@ mod recipes;
 mod reports;
 pub mod texts;
 
-pub use inputs::{INPUTS_LIMIT, fetch_inputs, fetch_inputs_within};
+pub use inputs::{INPUTS_LIMIT, Supplied, fetch_inputs, fetch_inputs_within};
 pub use not_done::{about_stage, run_failed, stage_name, unfinished};
 pub use recipes::{apart, fetch_recipe, read_recipe};
 pub use reports::{compared_status, fetch_report};

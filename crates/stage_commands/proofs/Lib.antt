@@ -7,6 +7,7 @@ pub mod Neighbours
 pub mod Stretches
 pub mod RunTexts
 pub mod Written
+pub mod Worded
 pub mod CutWalk
 pub mod EarlierStages
 pub mod BegunStages

@@ -1,16 +1,32 @@
--- The names of states: names that a shelf takes, and those that were judged in turn.
-use Rattle.std.proofs.Common.{◌≡◌, ℕ, zero, suc, ◌+◌, ◌<◌, ◌≤◌, ◌&&◌, IsTrue, Result, Ok, Err, List, ◌∷◌, ◌++◌, length, decimal, nat_le, length-append, refl, sym, subst, arith}
-use Rattle.std.proofs.lemmas.Bool.{and_parts, leb-true}
-use Rattle.std.proofs.lemmas.Fmt.{length-decimal-le}
-use Rattle.ddc_base.specs.Outside.{IsFileName, ShelfState}
+-- The names of states: names of files, and those that were judged in turn.
+use Rattle.std.proofs.Common.{◌≡◌, ℕ, zero, suc, ◌+◌, ◌%◌, ◌^◌, ◌<◌, ◌≤◌, ◌==◌, ◌&&◌, ◌||◌, not, Bool, true, false, IsTrue, Result, Ok, Err, List, [], ◌∷◌, ◌++◌, length, decimal, nat_le, length-append, refl, sym, ap, subst, ◌∙◌, arith}
+use Rattle.std.specs.List.{list_any}
+use Rattle.std.proofs.lemmas.Bool.{and_from, and_parts, le-leb, leb-true}
+use Rattle.std.proofs.lemmas.Bool.Decides.{nat_tests}
+use Rattle.std.proofs.lemmas.Fmt.{decimal_by_steps, length-decimal-le}
+use Rattle.std.proofs.lemmas.List.Folds.{list_any-append}
+use Rattle.ddc_base.specs.Outside.{ShelfState}
 use Rattle.command_plan.specs.declared.stop.Stop.{Stop}
 use Rattle.command_plan.specs.Plan.{Plan}
 use Rattle.command_plan.specs.Steps.{Obtains}
-use Rattle.command_plan.specs.Words.{has_no_zero_byte}
+use Rattle.command_plan.specs.Words.{has_no_zero_byte, is_file_word}
 use Rattle.command_plan.proofs.Obtaining.{and_then, leads, stops_before}
 use Rattle.stage_commands.specs.Names.{each_name, is_prefix, piece_name}
 
-pub names_file : (prefix : List ℕ) (number : ℕ) → IsTrue (is_prefix prefix) → number < 1_000 → IsFileName (piece_name prefix number)
+abbrev any_zero : List ℕ → Bool
+any_zero word = list_any (λ byte. byte == 0) word
+
+none_in_both : (xs ys : List ℕ) → any_zero xs ≡ false → any_zero ys ≡ false → any_zero (xs ++ ys) ≡ false
+none_in_both xs ys first second = list_any-append (λ byte. byte == 0) xs ys ∙ (λ i. first i || second i)
+
+no_zero : (n : ℕ) → n < 10 → any_zero ((48 + n) ∷ []) ≡ false
+no_zero n few = grind (arith, nat_tests)
+
+digits_not_zero : (n : ℕ) → n < 2 ^ 64 → any_zero (decimal n) ≡ false
+digits_not_zero = decimal_by_steps (λ n ds. any_zero ds ≡ false) no_zero
+    (λ n ds ten before. none_in_both ds ((48 + n % 10) ∷ []) before (no_zero (n % 10) (omega arith)))
+
+pub names_file : (prefix : List ℕ) (number : ℕ) → IsTrue (is_prefix prefix) → number < 1_000 → IsTrue (is_file_word (piece_name prefix number))
 names_file prefix number is few =
     let parts = and_parts (nat_le 1 (length prefix) && nat_le (length prefix) 250) (has_no_zero_byte prefix) is in
     let sizes = and_parts (nat_le 1 (length prefix)) (nat_le (length prefix) 250) parts.0 in
@@ -18,7 +34,13 @@ names_file prefix number is few =
     let short : length prefix ≤ 250 = leb-true (length prefix) 250 sizes.1 in
     let digits : length (decimal number) ≤ 3 = length-decimal-le 3 number (omega arith) few (omega (arith, few)) in
     let whole : length (prefix ++ 46 ∷ decimal number) ≡ length prefix + length (46 ∷ decimal number) = length-append prefix (46 ∷ decimal number) in
-    record { not_empty = omega (arith, some, whole); not_long = omega (arith, short, digits, whole) }
+    let none : any_zero (piece_name prefix number) ≡ false = none_in_both prefix (46 ∷ decimal number) (clear (any_zero prefix) parts.1) (digits_not_zero number (omega (arith, few))) in
+    and_from (nat_le 1 (length (piece_name prefix number)) && nat_le (length (piece_name prefix number)) 255) (has_no_zero_byte (piece_name prefix number))
+    (and_from (nat_le 1 (length (piece_name prefix number))) (nat_le (length (piece_name prefix number)) 255)
+    (le-leb 1 (length (piece_name prefix number)) (omega (arith, some, whole))) (le-leb (length (piece_name prefix number)) 255 (omega (arith, short, digits, whole)))) (ap not none) where
+      clear : (b : Bool) → not b ≡ true → b ≡ false
+      clear true is = cc
+      clear false is = refl
 
 module _ (judge : List ℕ → (Unit {0} → Plan) → Plan) (prefix : List ℕ) (shelf : ShelfState) where
   pub none_judged : Obtains (each_name judge prefix 0) shelf shelf (Ok tt)

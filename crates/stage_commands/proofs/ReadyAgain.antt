@@ -31,7 +31,8 @@ use Rattle.stage_commands.specs.Begun.{IsBegun}
 use Rattle.stage_commands.specs.Earlier.{needs_earlier, needs_stage}
 use Rattle.command_plan.specs.declared.status.Status.TheVariants.{FileRefused, RecipeRefused, Yes}
 use Rattle.command_plan.specs.Plan.{Outcome, Plan, answers, follow, needs, needs_all, outcome, unless_refused}
-use Rattle.command_plan.specs.Words.{bare_name, is_one_file, or_usage, usage}
+use Rattle.mem_files.specs.Names.{stripped}
+use Rattle.command_plan.specs.Words.{is_one_file, or_usage, usage}
 use Rattle.recipe_plan.specs.Recipes.{is_input, needs_apart, needs_inputs, needs_recipe, paths, reads_recipe}
 use Rattle.recipe_plan.specs.Texts.{recipe_line}
 use Rattle.stage_commands.specs.Names.{each_name, needs_other, piece_name}
@@ -49,7 +50,7 @@ yes_as plan other files same zeroed = ap (λ (o : Outcome). o.status) (sym same)
 
 pub is_other : (first second : List ℕ) → is_one_file first second ≡ false → first ≢ second
 unfolding is_one_file
-is_other first second apart = λ same. let equal : is_one_file first second ≡ true = (bytes_eq-Decides (bare_name first) (bare_name second)).1 (ap bare_name same) in cc
+is_other first second apart = λ same. let equal : is_one_file first second ≡ true = (bytes_eq-Decides (stripped first) (stripped second)).1 (ap stripped same) in cc
 
 -- ---- one load
 

@@ -1,32 +1,15 @@
 -- The names of two states name two files.
-use Rattle.std.proofs.Common.{◌≡◌, ◌≢◌, ℕ, ◌+◌, ◌%◌, ◌<◌, ◌≤◌, ◌^◌, ◌==◌, ◌&&◌, ◌||◌, not, Bool, true, false, cond, IsTrue, List, [], ◌∷◌, ◌++◌, length, decimal, nat_le, length-append, refl, sym, ap, ◌∙◌, arith}
-use Rattle.std.specs.List.{list_any}
+use Rattle.std.proofs.Common.{◌≡◌, ◌≢◌, ℕ, ◌+◌, ◌%◌, ◌<◌, ◌^◌, ◌==◌, ◌&&◌, not, Bool, true, false, cond, IsTrue, List, [], ◌∷◌, ◌++◌, decimal, refl, sym, ap, ◌∙◌, arith}
 use Rattle.std.specs.Prelude.{bytes_eq}
-use Rattle.std.proofs.lemmas.Bool.{and_from, and_parts}
+use Rattle.std.proofs.lemmas.Bool.{and_from}
 use Rattle.std.proofs.lemmas.Bool.Decides.{nat_tests}
 use Rattle.std.proofs.lemmas.Fmt.{decimal_by_steps}
-use Rattle.std.proofs.lemmas.List.Folds.{list_any-append}
 use Rattle.std.proofs.lemmas.Slice.Eq.{bytes_eq-Decides}
 use Rattle.mem_files.specs.Names.{stripped}
-use Rattle.command_plan.specs.Words.{are_two_files, bare_name, has_no_zero_byte, is_file_word, is_one_file}
+use Rattle.command_plan.specs.Words.{are_two_files, is_file_word, is_one_file}
 use Rattle.stage_commands.specs.Names.{is_prefix, piece_name}
 use Rattle.stage_commands.proofs.CutWalk.{two_names}
 use Rattle.stage_commands.proofs.PieceNames.{names_file}
-
-abbrev any_zero : List ℕ → Bool
-any_zero word = list_any (λ byte. byte == 0) word
-
-none_in_both : (xs ys : List ℕ) → any_zero xs ≡ false → any_zero ys ≡ false → any_zero (xs ++ ys) ≡ false
-none_in_both xs ys first second = list_any-append (λ byte. byte == 0) xs ys ∙ (λ i. first i || second i)
-
--- ---- digits
-
-no_zero : (n : ℕ) → n < 10 → any_zero ((48 + n) ∷ []) ≡ false
-no_zero n few = grind (arith, nat_tests)
-
-digits_not_zero : (n : ℕ) → n < 2 ^ 64 → any_zero (decimal n) ≡ false
-digits_not_zero = decimal_by_steps (λ n ds. any_zero ds ≡ false) no_zero
-    (λ n ds ten before. none_in_both ds ((48 + n % 10) ∷ []) before (no_zero (n % 10) (omega arith)))
 
 -- the first digit is no slash
 pub record IsNumber (ds : List ℕ) : Type 0 where
@@ -75,17 +58,8 @@ strips_of (a ∷ (b ∷ rest)) = by (a == 46 && b == 47) refl (strips_of rest) w
     strips = λ ds number. ap (λ t. cond t (stripped (rest ++ 46 ∷ ds)) (a ∷ (b ∷ (rest ++ 46 ∷ ds)))) is;
   }
 
-some_left : (front ds : List ℕ) → (length (front ++ 46 ∷ ds) == 0) ≡ false
-some_left front ds =
-    let whole : length (front ++ 46 ∷ ds) ≡ length front + length (46 ∷ ds) = length-append front (46 ∷ ds) in
-    let some : 1 ≤ length (front ++ 46 ∷ ds) = omega (arith, whole) in
-    grind (arith, nat_tests, some)
-
-bare_piece : (prefix : List ℕ) (s : Strips prefix) (number : ℕ) → number < 2 ^ 64 → bare_name (piece_name prefix number) ≡ piece_name s.front number
-bare_piece prefix s number small =
-    let off : stripped (piece_name prefix number) ≡ piece_name s.front number = s.strips (decimal number) (is_number number small) in
-    ap (λ (left : List ℕ). cond (length left == 0) (piece_name prefix number) left) off
-    ∙ ap (λ b. cond b (piece_name prefix number) (piece_name s.front number)) (some_left s.front (decimal number))
+strips_piece : (prefix : List ℕ) (s : Strips prefix) (number : ℕ) → number < 2 ^ 64 → stripped (piece_name prefix number) ≡ piece_name s.front number
+strips_piece prefix s number small = s.strips (decimal number) (is_number number small)
 
 not_one : (prefix : List ℕ) (a b : ℕ) → a < 2 ^ 64 → b < 2 ^ 64 → a ≢ b → is_one_file (piece_name prefix a) (piece_name prefix b) ≡ false
 unfolding is_one_file
@@ -93,30 +67,14 @@ not_one prefix a b small few differ = by (is_one_file (piece_name prefix a) (pie
   s : Strips prefix
   s = strips_of prefix
 
-  by : (t : Bool) → bytes_eq (bare_name (piece_name prefix a)) (bare_name (piece_name prefix b)) ≡ t → t ≡ false
+  by : (t : Bool) → bytes_eq (stripped (piece_name prefix a)) (stripped (piece_name prefix b)) ≡ t → t ≡ false
   by false is = refl
   by true is =
       absurd (two_names s.front a b small few differ
-      (sym (bare_piece prefix s a small) ∙ (bytes_eq-Decides (bare_name (piece_name prefix a)) (bare_name (piece_name prefix b))).0 is ∙ bare_piece prefix s b few))
-
--- ---- both are words of files
-
-names_one : (prefix : List ℕ) (number : ℕ) → IsTrue (is_prefix prefix) → number < 1_000 → is_file_word (piece_name prefix number) ≡ true
-names_one prefix number is few =
-    let parts = and_parts (nat_le 1 (length prefix) && nat_le (length prefix) 250) (has_no_zero_byte prefix) is in
-    let file = names_file prefix number is few in
-    let begins : any_zero prefix ≡ false = clear (any_zero prefix) parts.1 in
-    let whole : any_zero (piece_name prefix number) ≡ false = none_in_both prefix (46 ∷ decimal number) begins (digits_not_zero number (omega (arith, few))) in
-    let some : nat_le 1 (length (piece_name prefix number)) ≡ true = grind (arith, nat_tests, file.not_empty) in
-    let short : nat_le (length (piece_name prefix number)) 255 ≡ true = grind (arith, nat_tests, file.not_long) in
-    and_from (nat_le 1 (length (piece_name prefix number)) && nat_le (length (piece_name prefix number)) 255) (has_no_zero_byte (piece_name prefix number))
-    (and_from (nat_le 1 (length (piece_name prefix number))) (nat_le (length (piece_name prefix number)) 255) some short) (ap not whole) where
-      clear : (b : Bool) → not b ≡ true → b ≡ false
-      clear true is = cc
-      clear false is = refl
+      (sym (strips_piece prefix s a small) ∙ (bytes_eq-Decides (stripped (piece_name prefix a)) (stripped (piece_name prefix b))).0 is ∙ strips_piece prefix s b few))
 
 pub two_pieces : (prefix : List ℕ) (number : ℕ) → IsTrue (is_prefix prefix) → number + 1 < 1_000 → are_two_files (piece_name prefix number) (piece_name prefix (number + 1)) ≡ true
 two_pieces prefix number is few =
     and_from (is_file_word (piece_name prefix number) && is_file_word (piece_name prefix (number + 1))) (not (is_one_file (piece_name prefix number) (piece_name prefix (number + 1))))
-    (and_from (is_file_word (piece_name prefix number)) (is_file_word (piece_name prefix (number + 1))) (names_one prefix number is (omega (arith, few))) (names_one prefix (number + 1) is few))
+    (and_from (is_file_word (piece_name prefix number)) (is_file_word (piece_name prefix (number + 1))) (names_file prefix number is (omega (arith, few))) (names_file prefix (number + 1) is few))
     (ap not (not_one prefix number (number + 1) (omega (arith, few)) (omega (arith, few)) (λ same. omega (arith, same))))

@@ -1,4 +1,4 @@
 -- No promise rests on this file being read.
 pub mod Going
 pub mod Kept
-pub mod Leaving
+pub mod Words

@@ -1,7 +1,6 @@
 //! `cut RECIPE STAGE EVERY PREFIX`: states along a stage's run are saved.
 
-ghost use Rattle.std.specs.Prelude.{◌≤◌, ◌<◌, ◌+◌, ◌^◌, IsTrue, if◌then◌else◌, map};
-ghost use Rattle.ddc_base.specs.Outside.{IsFileName};
+ghost use Rattle.std.specs.Prelude.{◌≤◌, ◌<◌, ◌+◌, ◌^◌, map};
 ghost use Rattle.guest_run.specs.Run.{first_end};
 ghost use Rattle.segments.specs.Segments.{second_text};
 ghost use Rattle.audit_run.specs.Stage.Rules.{IsStageOf};
@@ -10,25 +9,24 @@ ghost use Rattle.audit_rules.specs.Stages.{contents, start_stage};
 ghost use Rattle.command_plan.specs.Performs.{Performs};
 ghost use Rattle.command_plan.specs.Plan.{answers, unless_refused};
 ghost use Rattle.command_plan.specs.Steps.{Saves, Says};
-ghost use Rattle.command_plan.specs.Words.{as_steps, or_usage, usage};
 ghost use Rattle.command_plan.specs.declared.status.Status.TheVariants.{Yes};
 ghost use Rattle.stage_commands.specs.Cut.{came_on, cut_files, cut_from, cut_plan, cut_ready, next_steps, saved_from};
 ghost use Rattle.stage_commands.specs.Exits.{output_left, run_failed};
 ghost use Rattle.stage_commands.specs.Inside.Going.{ComesOn, IsBelow};
 ghost use Rattle.stage_commands.specs.Inside.Kept.{IsReady};
-ghost use Rattle.stage_commands.specs.Names.{are_stage_words, is_prefix, piece_name};
+ghost use Rattle.stage_commands.specs.Names.{piece_name};
 ghost use Rattle.stage_commands.specs.States.{state_after};
 ghost use Rattle.stage_commands.specs.Texts.{cut_line};
 
 use crate::exits::{output_left, run_failed};
-use crate::names::{MOST_STATES, are_stage_words, piece_name};
+use crate::names::{MOST_STATES, piece_name};
 use crate::ready::{Ready, make_ready, stage_after};
 use crate::texts;
+use crate::words::{CutWords, Prefix, Spacing};
 use audit_rules::RunCause;
 use audit_run::stage::start_stage;
 use checkpoints::write_state;
-use command_plan::words::steps_of;
-use command_plan::{Answer, FileName, Status, Stop, store, usage};
+use command_plan::{Answer, FileName, Status, StepCount, Stop, store, usage};
 use ddc_base::Shelf;
 use guest_run::{Guest, RunEnd, RunRam};
 use mem_files::Files;
@@ -36,53 +34,22 @@ use recipe::Stage;
 use std::alloc::Global;
 
 /// Performs the command on the words after its name.
-#[tactic(auto, using(command_plan::proofs::Performing::performing))]
 pub fn perform<S: Shelf>(alloc: Global, words: &[&str], shelf: &mut S) -> Result<Answer, Stop>
     ensures { Performs (cut_plan (map (λ w. w.now) words.now)) (S.state shelf.old) (S.state shelf.new) result }
 {
-    match words {
-        [recipe, stage, every, prefix] => on_words(alloc, shelf, recipe, stage, every, prefix),
-        _ => usage(alloc),
-    }
+    let Some(words) = CutWords::read(words) else {
+        return usage(alloc);
+    };
+    cut(alloc, shelf, &words)
 }
 
-/// The command on four words.
-#[tactic(auto, using(command_plan::proofs::Performing::performing))]
-fn on_words<S: Shelf>(
-    alloc: Global,
-    shelf: &mut S,
-    recipe: &str,
-    stage: &str,
-    every: &str,
-    prefix: &str,
-) -> Result<Answer, Stop>
-    ensures { Performs (or_usage (as_steps every.now) (λ steps. if are_stage_words recipe.now stage.now prefix.now then cut_files recipe.now stage.now steps prefix.now else usage))
+/// The command on its words.
+fn cut<S: Shelf>(alloc: Global, shelf: &mut S, words: &CutWords<'_>) -> Result<Answer, Stop>
+    ensures { Performs (cut_files words.now.place.recipe words.now.place.stage words.now.spacing.every words.now.spacing.prefix)
         (S.state shelf.old) (S.state shelf.new) result }
 {
-    match steps_of(every) {
-        Some(every) if are_stage_words(recipe, stage, prefix) => {
-            cut(alloc, shelf, recipe, stage, every, prefix)
-        }
-        _ => usage(alloc),
-    }
-}
-
-/// The command on a recipe, a stage's name, a number of steps and a prefix.
-fn cut<S: Shelf>(
-    alloc: Global,
-    shelf: &mut S,
-    recipe: &str,
-    stage: &str,
-    every: u64,
-    prefix: &str,
-) -> Result<Answer, Stop>
-    requires recipe { IsFileName recipe.now }
-    requires some { 1 ≤ every }
-    requires prefix { IsTrue (is_prefix prefix.now) }
-    ensures { Performs (cut_files recipe.now stage.now every prefix.now) (S.state shelf.old) (S.state shelf.new) result }
-{
-    let ready = make_ready(alloc, shelf, recipe, stage, prefix)?;
-    cut_ready(alloc, shelf, &ready, every, prefix)
+    let ready = make_ready(alloc, shelf, &words.place, &words.spacing.prefix)?;
+    cut_ready(alloc, shelf, &ready, &words.spacing)
 }
 
 /// Cuts the stage after those that are done.
@@ -90,16 +57,13 @@ fn cut_ready<S: Shelf>(
     alloc: Global,
     shelf: &mut S,
     ready: &Ready,
-    every: u64,
-    prefix: &str,
+    spacing: &Spacing<'_>,
 ) -> Result<Answer, Stop>
-    requires ready { IsReady ready.now }
-    requires some { 1 ≤ every }
-    requires prefix { IsTrue (is_prefix prefix.now) }
-    ensures { Performs (cut_ready every prefix.now ready.now) (S.state shelf.old) (S.state shelf.new) result }
+    requires { IsReady ready.now }
+    ensures { Performs (cut_ready spacing.now.every spacing.now.prefix ready.now) (S.state shelf.old) (S.state shelf.new) result }
 {
     match stage_after(ready) {
-        Some(stage) => cut_stage(alloc, shelf, ready, stage, every, prefix),
+        Some(stage) => cut_stage(alloc, shelf, ready, stage, spacing),
         None => usage(alloc),
     }
 }
@@ -110,20 +74,17 @@ fn cut_stage<S: Shelf>(
     shelf: &mut S,
     ready: &Ready,
     stage: &Stage,
-    every: u64,
-    prefix: &str,
+    spacing: &Spacing<'_>,
 ) -> Result<Answer, Stop>
     requires ready { IsReady ready.now }
     requires rules { IsStageOf ready.now.recipe stage.now }
-    requires some { 1 ≤ every }
-    requires prefix { IsTrue (is_prefix prefix.now) }
-    ensures { Performs (cut_from stage.now every prefix.now (start_stage ready.now.recipe (contents ready.now.inputs ready.now.done) stage.now))
+    ensures { Performs (cut_from stage.now spacing.now.every spacing.now.prefix (start_stage ready.now.recipe (contents ready.now.inputs ready.now.done) stage.now))
         (S.state shelf.old) (S.state shelf.new) result }
 {
     let inputs = ready.inputs.as_slice();
     let done = ready.done.as_slice();
     match start_stage(alloc, &ready.recipe, stage, inputs, done)? {
-        Ok(mut guest) => save_along(alloc, shelf, stage, every, prefix, &mut guest),
+        Ok(mut guest) => save_along(alloc, shelf, stage, &mut guest, spacing),
         Err(cause) => run_failed(alloc, stage, RunCause::Start(cause), 0),
     }
 }
@@ -133,20 +94,17 @@ fn save_along<S: Shelf>(
     alloc: Global,
     shelf: &mut S,
     stage: &Stage,
-    every: u64,
-    prefix: &str,
     guest: &mut Guest<RunRam>,
+    spacing: &Spacing<'_>,
 ) -> Result<Answer, Stop>
     requires output { kept.IsOutput stage.now.output }
     requires few { stage.now.steps ≤ 2 ^ 48 }
-    requires some { 1 ≤ every }
-    requires prefix { IsTrue (is_prefix prefix.now) }
     requires below { guest.old.steps < stage.now.steps }
-    ensures { Performs (saved_from stage.now every prefix.now 1_000 0 guest.old) (S.state shelf.old) (S.state shelf.new) result }
+    ensures { Performs (saved_from stage.now spacing.now.every spacing.now.prefix 1_000 0 guest.old) (S.state shelf.old) (S.state shelf.new) result }
 {
     for saved in 0..MOST_STATES {
-        save_state(alloc, shelf, prefix, saved, guest)?;
-        match go_on(alloc, stage, every, saved + 1, guest)? {
+        save_state(alloc, shelf, guest, &spacing.prefix, saved)?;
+        match go_on(alloc, stage, spacing.every, saved + 1, guest)? {
             Some(answer) => return Ok(answer),
             None => {}
         }
@@ -161,12 +119,11 @@ fn save_along<S: Shelf>(
 fn save_state<S: Shelf>(
     alloc: Global,
     shelf: &mut S,
-    prefix: &str,
-    number: u32,
     guest: &Guest<RunRam>,
+    prefix: &Prefix<'_>,
+    number: u32,
 ) -> Result<(), Stop>
-    requires prefix { IsTrue (is_prefix prefix.now) }
-    requires few { number < 1_000 }
+    requires { number < 1_000 }
     ensures { Saves (piece_name prefix.now number) (second_text guest.now) (S.state shelf.old) (S.state shelf.new) result }
 {
     let name = piece_name(alloc, prefix, number)?;
@@ -178,19 +135,19 @@ fn save_state<S: Shelf>(
 fn go_on(
     alloc: Global,
     stage: &Stage,
-    every: u64,
+    every: StepCount,
     saved: u32,
     guest: &mut Guest<RunRam>,
 ) -> Result<Option<Answer>, Stop>
     requires output { kept.IsOutput stage.now.output }
     requires few { stage.now.steps ≤ 2 ^ 48 }
-    requires some { 1 ≤ every }
     requires below { guest.old.steps < stage.now.steps }
     ensures comes_on { ComesOn (came_on stage.now saved (first_end guest.old (next_steps stage.now every guest.old))
         (state_after guest.old (next_steps stage.now every guest.old))) guest.new result }
     ensures below { IsBelow stage.now.steps guest.new result }
 {
-    let end = guest.run(every.min(stage.steps - guest.steps()));
+    let most = every.count().min(stage.steps - guest.steps());
+    let end = guest.run(most);
     let steps = guest.steps();
     match end {
         RunEnd::Exited(status) => {

@@ -7,6 +7,7 @@ ghost use Rattle.audit_rules.specs.Valid.{AreDone, IsInputs};
 ghost use Rattle.command_plan.specs.Steps.{Obtains};
 ghost use Rattle.stage_commands.specs.Earlier.{needs_earlier, needs_stage};
 
+use crate::words::StageWord;
 use audit_run::run_earlier;
 use audit_run::stage::Done;
 use command_plan::{Stop, usage};
@@ -16,26 +17,31 @@ use recipe_plan::unfinished;
 use std::alloc::Global;
 
 /// How many stages come before the one of a name.
-pub(crate) fn stages_before(alloc: Global, recipe: &Recipe, name: &str) -> Result<usize, Stop>
-    ensures obtained { (shelf : ShelfState) → Obtains (needs_stage recipe.now name.now) shelf shelf result }
+pub(crate) fn stages_before(
+    alloc: Global,
+    recipe: &Recipe,
+    stage: &StageWord<'_>,
+) -> Result<usize, Stop>
+    ensures obtained { (shelf : ShelfState) → Obtains (needs_stage recipe.now stage.now) shelf shelf result }
     ensures within { IfOk result (λ count. count < length recipe.now.stages) }
 {
-    match stage_at(recipe, name) {
+    match stage_at(recipe, stage) {
         Some(count) => Ok(count),
         None => Err(Stop::Answered(usage(alloc)?)),
     }
 }
 
 /// The index of the stage of a name.
-fn stage_at(recipe: &Recipe, name: &str) -> Option<usize>
-    ensures value { result ≡ stage_at recipe.now.stages name.now }
+fn stage_at(recipe: &Recipe, stage: &StageWord<'_>) -> Option<usize>
+    ensures value { result ≡ stage_at recipe.now.stages stage.now }
     ensures index { IfSome result (λ index. index < length recipe.now.stages) }
 {
+    let name = stage.text().as_bytes();
     recipe
         .stages()
         .as_slice()
         .iter()
-        .position(|stage| stage.name.bytes() == name.as_bytes())
+        .position(|stage| stage.name.bytes() == name)
 }
 
 /// Runs so many stages; one that is not done ends the command.

@@ -1,7 +1,6 @@
 //! `ends RECIPE STAGE PREFIX COUNT`: whether the first saved state is that of the stage's start, and how the run after the last one ends.
 
-ghost use Rattle.std.specs.Prelude.{◌≡◌, ◌≤◌, ◌<◌, ◌+◌, ◌-◌, ◌^◌, Err, IsTrue, if◌then◌else◌, map};
-ghost use Rattle.ddc_base.specs.Outside.{IsFileName};
+ghost use Rattle.std.specs.Prelude.{◌≡◌, ◌≤◌, ◌<◌, ◌+◌, ◌-◌, ◌^◌, Err, map};
 ghost use Rattle.audit_run.specs.Stage.Rules.{IsStageOf};
 ghost use Rattle.guest_run.specs.Start.{start_of};
 ghost use Rattle.recipe.specs.Kept as kept;
@@ -11,19 +10,19 @@ ghost use Rattle.command_plan.specs.declared.status.Status.TheVariants.{Refuted,
 ghost use Rattle.command_plan.specs.Performs.{Performs};
 ghost use Rattle.command_plan.specs.Plan.{answers, needs, unless_refused};
 ghost use Rattle.command_plan.specs.Steps.{Says};
-ghost use Rattle.command_plan.specs.Words.{or_usage, usage};
 ghost use Rattle.stage_commands.specs.Ends.{ends_files, ends_judged, ends_plan, needs_first, needs_last};
 ghost use Rattle.stage_commands.specs.Exits.{output_left, run_failed};
 ghost use Rattle.stage_commands.specs.Inside.Kept.{IsReady};
-ghost use Rattle.stage_commands.specs.Names.{are_stage_words, as_states, is_prefix, piece_name};
+ghost use Rattle.stage_commands.specs.Names.{piece_name};
 ghost use Rattle.stage_commands.specs.States.{end_after, state_said};
 ghost use Rattle.stage_commands.specs.Texts.{other_first_line, refuted_first_line, refuted_last_line, run_record};
 ghost use Rattle.audit_rules.specs.Stages.{contents, finished, start_cause, start_stage};
 
 use crate::exits::{output_left, run_failed};
-use crate::names::{are_stage_words, fetch_state, states_of};
+use crate::names::fetch_state;
 use crate::ready::{Ready, make_ready, stage_after};
 use crate::texts;
+use crate::words::{EndsWords, Prefix, StateCount};
 use audit_rules::{RunCause, StartCause};
 use audit_run::stage::{box_of, content};
 use command_plan::{Answer, Status, Stop, usage};
@@ -35,54 +34,21 @@ use segments::{EndAnswer, StartAnswer, StartFault, StateFault, check_end, check_
 use std::alloc::Global;
 
 /// Performs the command on the words after its name.
-#[tactic(auto, using(command_plan::proofs::Performing::performing))]
 pub fn perform<S: Shelf>(alloc: Global, words: &[&str], shelf: &mut S) -> Result<Answer, Stop>
     ensures { Performs (ends_plan (map (λ w. w.now) words.now)) (S.state shelf.old) (S.state shelf.new) result }
 {
-    match words {
-        [recipe, stage, prefix, count] => on_words(alloc, shelf, recipe, stage, prefix, count),
-        _ => usage(alloc),
-    }
+    let Some(words) = EndsWords::read(words) else {
+        return usage(alloc);
+    };
+    ends(alloc, shelf, &words)
 }
 
-/// The command on four words.
-#[tactic(auto, using(command_plan::proofs::Performing::performing))]
-fn on_words<S: Shelf>(
-    alloc: Global,
-    shelf: &mut S,
-    recipe: &str,
-    stage: &str,
-    prefix: &str,
-    count: &str,
-) -> Result<Answer, Stop>
-    ensures { Performs (or_usage (as_states count.now) (λ states. if are_stage_words recipe.now stage.now prefix.now then ends_files recipe.now stage.now prefix.now states else usage))
-        (S.state shelf.old) (S.state shelf.new) result }
+/// The command on its words.
+fn ends<S: Shelf>(alloc: Global, shelf: &mut S, words: &EndsWords<'_>) -> Result<Answer, Stop>
+    ensures { Performs (ends_files words.now.place.recipe words.now.place.stage words.now.prefix words.now.states) (S.state shelf.old) (S.state shelf.new) result }
 {
-    match states_of(count) {
-        Some(count) if are_stage_words(recipe, stage, prefix) => {
-            ends(alloc, shelf, recipe, stage, prefix, count)
-        }
-        _ => usage(alloc),
-    }
-}
-
-/// The command on a recipe, a stage's name, a prefix and a number of states.
-fn ends<S: Shelf>(
-    alloc: Global,
-    shelf: &mut S,
-    recipe: &str,
-    stage: &str,
-    prefix: &str,
-    count: u32,
-) -> Result<Answer, Stop>
-    requires recipe { IsFileName recipe.now }
-    requires prefix { IsTrue (is_prefix prefix.now) }
-    requires some { 1 ≤ count }
-    requires few { count ≤ 1_000 }
-    ensures { Performs (ends_files recipe.now stage.now prefix.now count) (S.state shelf.old) (S.state shelf.new) result }
-{
-    let ready = make_ready(alloc, shelf, recipe, stage, prefix)?;
-    judge_states(alloc, shelf, &ready, prefix, count)
+    let ready = make_ready(alloc, shelf, &words.place, &words.prefix)?;
+    judge_states(alloc, shelf, &ready, &words.prefix, words.states)
 }
 
 /// The command on what it begins with.
@@ -90,16 +56,14 @@ fn judge_states<S: Shelf>(
     alloc: Global,
     shelf: &mut S,
     ready: &Ready,
-    prefix: &str,
-    count: u32,
+    prefix: &Prefix<'_>,
+    states: StateCount,
 ) -> Result<Answer, Stop>
-    requires ready { IsReady ready.now }
-    requires prefix { IsTrue (is_prefix prefix.now) }
-    requires some { 1 ≤ count }
-    requires few { count ≤ 1_000 }
-    ensures { Performs (needs (piece_name prefix.now 0) 4_294_967_296 (λ first. needs (piece_name prefix.now (count - 1)) 4_294_967_296 (λ last.
+    requires { IsReady ready.now }
+    ensures { Performs (needs (piece_name prefix.now 0) 4_294_967_296 (λ first. needs (piece_name prefix.now (states - 1)) 4_294_967_296 (λ last.
         ends_judged ready.now first last))) (S.state shelf.old) (S.state shelf.new) result }
 {
+    let count = states.count();
     let first = fetch_state(alloc, shelf, prefix, 0)?;
     let last = fetch_state(alloc, shelf, prefix, count - 1)?;
     judge(alloc, ready, first.as_slice(), last.as_slice())

@@ -1,159 +1,89 @@
 //! `left RECIPE STAGE FILE OUT`: a stage's program is run, whatever it ends with, and what it left at one place is saved.
 
-ghost use Rattle.std.specs.Prelude.{◌≡◌, ◌+◌, ◌<◌, ◌≤◌, ◌^◌, IfOk, IfSome, IsTrue, Some, if◌then◌else◌, length, map, slice_get};
+ghost use Rattle.std.specs.Prelude.{◌≡◌, ◌+◌, ◌≤◌, ◌^◌, ℕ, IfOk, IfSome, List, Some, length, map, slice_get};
 ghost use Rattle.std.specs.Option.{option_copied};
-ghost use Rattle.ddc_base.specs.Outside.{IsFileName};
-ghost use Rattle.mem_files.specs.Names.{is_stripped_name, stripped};
 ghost use Rattle.recipe.specs.Kept.{IsRecipe};
 ghost use Rattle.audit_rules.specs.Stages.{contents, start_stage};
 ghost use Rattle.audit_rules.specs.Valid.{AreDone, IsInputs};
+ghost use Rattle.audit_rules.specs.declared.answer.Finished.{Finished};
 ghost use Rattle.command_plan.specs.Performs.{Performs};
-ghost use Rattle.command_plan.specs.Words.{usage};
+ghost use Rattle.command_plan.specs.Plan.{Plan};
+ghost use Rattle.command_plan.specs.Steps.{Obtains};
 ghost use Rattle.recipe_plan.specs.Recipes.{needs_apart, needs_inputs};
-ghost use Rattle.stage_commands.specs.Earlier.{needs_stage};
-ghost use Rattle.stage_commands.specs.Inside.Leaving.{left_after};
-ghost use Rattle.stage_commands.specs.Left.{absent_status, are_left_words, run_left, ends_left, bytes_left_at, left_by, left_of_stage, left_files, file_left_line, left_plan, left_status, none_left_line};
+ghost use Rattle.stage_commands.specs.Earlier.{needs_earlier, needs_stage};
+ghost use Rattle.stage_commands.specs.Inside.Kept.{IsReady};
+ghost use Rattle.stage_commands.specs.Left.{absent_status, run_left, ends_left, bytes_left_at, left_by, left_of_stage, left_files, file_left_line, left_plan, left_status, none_left_line};
 
-use crate::earlier::{run_before, stages_before};
+use crate::earlier::stages_before;
+use crate::ready::{Ready, run_stages, stage_after};
+use crate::words::{GuestFile, LeftWords, Wanted};
 use audit_rules::{RunCause, StageFault};
 use audit_run::stage::{Done, start_stage};
-use command_plan::words::{are_two_files, has_no_zero_byte};
-use command_plan::{Answer, FileName, Status, Stop, keep, usage};
-use ddc_base::{Bytes, OutOfMemory, Shelf};
+use command_plan::{Answer, Status, Stop, keep, usage};
+use ddc_base::{Bytes, ListOf, Name, OutOfMemory, Shelf};
 use guest_run::{Guest, RunEnd, RunRam};
-use mem_files::{Files, is_stripped_name, strip};
+use mem_files::{Files, strip};
 use recipe::{Inputs, Recipe, Stage};
 use recipe_plan::causes::run_cause;
-use recipe_plan::{about_stage, apart, fetch_inputs, fetch_recipe, unfinished};
+use recipe_plan::{about_stage, apart, fetch_recipe, unfinished};
 use std::alloc::Global;
 
 /// Performs the command on the words after its name.
-#[tactic(auto, using(command_plan::proofs::Performing::performing))]
 pub fn perform<S: Shelf>(alloc: Global, words: &[&str], shelf: &mut S) -> Result<Answer, Stop>
     ensures { Performs (left_plan (map (λ w. w.now) words.now)) (S.state shelf.old) (S.state shelf.new) result }
 {
-    match words {
-        [recipe, stage, file, out] => on_words(alloc, shelf, recipe, stage, file, out),
-        _ => usage(alloc),
-    }
+    let Some(words) = LeftWords::read(words) else {
+        return usage(alloc);
+    };
+    left(alloc, shelf, &words)
 }
 
-/// The command on four words.
-#[tactic(auto, using(command_plan::proofs::Performing::performing))]
-fn on_words<S: Shelf>(
-    alloc: Global,
-    shelf: &mut S,
-    recipe: &str,
-    stage: &str,
-    file: &str,
-    out: &str,
-) -> Result<Answer, Stop>
-    ensures { Performs (if are_left_words recipe.now stage.now file.now out.now then left_files recipe.now stage.now file.now out.now else usage)
+/// The command on its words.
+fn left<S: Shelf>(alloc: Global, shelf: &mut S, words: &LeftWords<'_>) -> Result<Answer, Stop>
+    ensures { Performs (left_files words.now.place.recipe words.now.place.stage words.now.wanted.file words.now.wanted.out)
         (S.state shelf.old) (S.state shelf.new) result }
 {
-    if !are_left_words(recipe, stage, file, out) {
-        return usage(alloc);
-    }
-    left(alloc, shelf, recipe, stage, file, out)
-}
-
-/// Whether RECIPE and OUT can name two files, STAGE has no zero byte, and FILE is a guest's file name.
-#[tactic(auto, unfolding(crate::specs::Left::are_left_words))]
-fn are_left_words(recipe: &str, stage: &str, file: &str, out: &str) -> bool
-    ensures value { result ≡ are_left_words recipe.now stage.now file.now out.now }
-    ensures recipe { IsTrue result → IsFileName recipe.now }
-    ensures out { IsTrue result → IsFileName out.now }
-    ensures file { IsTrue result → IsTrue (is_stripped_name (stripped file.now)) }
-{
-    are_two_files(recipe, out)
-        && has_no_zero_byte(stage)
-        && is_stripped_name(strip(file.as_bytes()))
-}
-
-/// The command on a recipe, a stage's name, a guest's file and a file of the host.
-fn left<S: Shelf>(
-    alloc: Global,
-    shelf: &mut S,
-    recipe: &str,
-    stage: &str,
-    file: &str,
-    out: &str,
-) -> Result<Answer, Stop>
-    requires recipe { IsFileName recipe.now }
-    requires out { IsFileName out.now }
-    requires file { IsTrue (is_stripped_name (stripped file.now)) }
-    ensures { Performs (left_files recipe.now stage.now file.now out.now) (S.state shelf.old) (S.state shelf.new) result }
-{
-    let recipe = fetch_recipe(alloc, shelf, &FileName::of(recipe))?;
-    find(alloc, shelf, &recipe, stage, file, out)
-}
-
-/// The command on a recipe, which it leaves to its caller to let go.
-fn find<S: Shelf>(
-    alloc: Global,
-    shelf: &mut S,
-    recipe: &Recipe,
-    stage: &str,
-    file: &str,
-    out: &str,
-) -> Result<Answer, Stop>
-    requires out { IsFileName out.now }
-    requires file { IsTrue (is_stripped_name (stripped file.now)) }
-    ensures { Performs (needs_stage recipe.now stage.now (λ count. needs_apart recipe.now out.now (λ _. needs_inputs recipe.now (λ inputs.
-        left_after recipe.now inputs count file.now out.now)))) (S.state shelf.old) (S.state shelf.new) result }
-{
-    let count = stages_before(alloc, recipe, stage)?;
-    apart(alloc, recipe, &FileName::of(out))?;
-    let inputs = fetch_inputs(alloc, shelf, recipe)?;
-    run_earlier(alloc, shelf, recipe, &inputs, count, file, out)
-}
-
-/// Runs so many stages, and then the one after them.
-fn run_earlier<S: Shelf>(
-    alloc: Global,
-    shelf: &mut S,
-    recipe: &Recipe,
-    inputs: &Inputs,
-    count: usize,
-    file: &str,
-    out: &str,
-) -> Result<Answer, Stop>
-    requires given { IsInputs recipe.now inputs.now }
-    requires count { count < length recipe.now.stages }
-    requires out { IsFileName out.now }
-    requires file { IsTrue (is_stripped_name (stripped file.now)) }
-    ensures { Performs (left_after recipe.now inputs.now count file.now out.now) (S.state shelf.old) (S.state shelf.new) result }
-{
-    let done = run_before(alloc, recipe, inputs, count)?;
-    run_after(
-        alloc,
-        shelf,
+    let recipe = fetch_recipe(alloc, shelf, &words.place.recipe)?;
+    let (inputs, done) = run_apart(alloc, shelf, &recipe, words)?;
+    let ready = Ready {
         recipe,
-        inputs.as_slice(),
-        done.as_slice(),
-        file,
-        out,
-    )
+        inputs,
+        done,
+    };
+    run_after(alloc, shelf, &ready, &words.wanted)
+}
+
+/// The inputs of a recipe, none of which OUT is, and its stages before STAGE, which are run.
+fn run_apart<S: Shelf>(
+    alloc: Global,
+    shelf: &mut S,
+    recipe: &Recipe,
+    words: &LeftWords<'_>,
+) -> Result<(Inputs, ListOf<Done>), Stop>
+    ensures obtained { Obtains (λ (next : List (List ℕ) × List Finished → Plan). needs_stage recipe.now words.now.place.stage (λ count.
+        needs_apart recipe.now words.now.wanted.out (λ _. needs_inputs recipe.now (λ inputs. needs_earlier recipe.now inputs count (λ done. next (inputs, done))))))
+        (S.state shelf.old) (S.state shelf.new) result }
+    ensures given { IfOk result (λ found. IsInputs recipe.now found.0) }
+    ensures done { IfOk result (λ found. AreDone recipe.now found.1) }
+    ensures kept { IfOk result (λ found. IsRecipe recipe.now) }
+{
+    let count = stages_before(alloc, recipe, &words.place.stage)?;
+    apart(alloc, recipe, &words.wanted.out)?;
+    run_stages(alloc, shelf, recipe, count)
 }
 
 /// Runs the stage after those that are done.
 fn run_after<S: Shelf>(
     alloc: Global,
     shelf: &mut S,
-    recipe: &Recipe,
-    inputs: &[Bytes],
-    done: &[Done],
-    file: &str,
-    out: &str,
+    ready: &Ready,
+    wanted: &Wanted<'_>,
 ) -> Result<Answer, Stop>
-    requires given { IsInputs recipe.now inputs.now }
-    requires done { AreDone recipe.now done.now }
-    requires file { IsTrue (is_stripped_name (stripped file.now)) }
-    requires out { IsFileName out.now }
-    ensures { Performs (left_of_stage recipe.now inputs.now done.now file.now out.now) (S.state shelf.old) (S.state shelf.new) result }
+    requires { IsReady ready.now }
+    ensures { Performs (left_of_stage ready.now.recipe ready.now.inputs ready.now.done wanted.now.file wanted.now.out) (S.state shelf.old) (S.state shelf.new) result }
 {
-    match recipe.stages().get(done.len()) {
-        Some(stage) => start(alloc, shelf, recipe, stage, inputs, done, file, out),
+    match stage_after(ready) {
+        Some(stage) => start(alloc, shelf, ready, stage, wanted),
         None => usage(alloc),
     }
 }
@@ -162,27 +92,23 @@ fn run_after<S: Shelf>(
 fn start<S: Shelf>(
     alloc: Global,
     shelf: &mut S,
-    recipe: &Recipe,
+    ready: &Ready,
     stage: &Stage,
-    inputs: &[Bytes],
-    done: &[Done],
-    file: &str,
-    out: &str,
+    wanted: &Wanted<'_>,
 ) -> Result<Answer, Stop>
-    requires kept { IsRecipe recipe.now }
-    requires stage { slice_get recipe.now.stages (length done.now) ≡ Some stage.now }
-    requires given { IsInputs recipe.now inputs.now }
-    requires done { AreDone recipe.now done.now }
-    requires file { IsTrue (is_stripped_name (stripped file.now)) }
-    requires out { IsFileName out.now }
-    ensures { Performs (left_by recipe.now (length done.now + 1) stage.now file.now out.now (start_stage recipe.now (contents inputs.now done.now) stage.now))
+    requires ready { IsReady ready.now }
+    requires stage { slice_get ready.now.recipe.stages (length ready.now.done) ≡ Some stage.now }
+    ensures { Performs (left_by ready.now.recipe (length ready.now.done + 1) stage.now wanted.now.file wanted.now.out
+        (start_stage ready.now.recipe (contents ready.now.inputs ready.now.done) stage.now))
         (S.state shelf.old) (S.state shelf.new) result }
 {
-    match start_stage(alloc, recipe, stage, inputs, done)? {
-        Ok(guest) => run_out(alloc, shelf, stage, guest, file, out),
+    let inputs = ready.inputs.as_slice();
+    let done = ready.done.as_slice();
+    match start_stage(alloc, &ready.recipe, stage, inputs, done)? {
+        Ok(guest) => run_out(alloc, shelf, stage, guest, wanted),
         Err(cause) => {
             let fault = StageFault::Runs(RunCause::Start(cause), 0);
-            unfinished(alloc, recipe, done.len() as u32 + 1, fault)
+            unfinished(alloc, &ready.recipe, done.len() as u32 + 1, fault)
         }
     }
 }
@@ -193,27 +119,16 @@ fn run_out<S: Shelf>(
     shelf: &mut S,
     stage: &Stage,
     guest: Guest<RunRam>,
-    file: &str,
-    out: &str,
+    wanted: &Wanted<'_>,
 ) -> Result<Answer, Stop>
     requires fresh { guest.steps ≡ 0 }
     requires some { 1 ≤ stage.now.steps }
     requires few { stage.now.steps ≤ 2 ^ 48 }
-    requires file { IsTrue (is_stripped_name (stripped file.now)) }
-    requires out { IsFileName out.now }
-    ensures { Performs (ends_left stage.now.name file.now out.now (run_left guest stage.now.steps)) (S.state shelf.old) (S.state shelf.new) result }
+    ensures { Performs (ends_left stage.now.name wanted.now.file wanted.now.out (run_left guest stage.now.steps)) (S.state shelf.old) (S.state shelf.new) result }
 {
     let mut guest = guest;
     match end_of(&mut guest, stage.steps) {
-        Some(end) => save_left(
-            alloc,
-            shelf,
-            stage.name.bytes(),
-            guest.files(),
-            end,
-            file,
-            out,
-        ),
+        Some(end) => save_left(alloc, shelf, &stage.name, guest.files(), end, wanted),
         None => Err(Stop::OutOfMemory),
     }
 }
@@ -240,39 +155,36 @@ fn end_of(guest: &mut Guest<RunRam>, most: u64) -> Option<(RunCause, u64)>
 fn save_left<S: Shelf>(
     alloc: Global,
     shelf: &mut S,
-    stage: &[u8],
+    stage: &Name,
     files: &Files,
     end: (RunCause, u64),
-    file: &str,
-    out: &str,
+    wanted: &Wanted<'_>,
 ) -> Result<Answer, Stop>
-    requires file { IsTrue (is_stripped_name (stripped file.now)) }
-    requires out { IsFileName out.now }
-    ensures { Performs (ends_left stage.now file.now out.now (record { cause = end.0; step = end.1; files = files.now }))
+    ensures { Performs (ends_left stage.now wanted.now.file wanted.now.out (record { cause = end.0; step = end.1; files = files.now }))
         (S.state shelf.old) (S.state shelf.new) result }
 {
-    let (cause, step) = end;
-    match bytes_left_at(files, file) {
+    let file = wanted.file.text();
+    match bytes_left_at(files, &wanted.file) {
         Some(content) => {
             let answer = Answer {
-                status: left_status(cause),
-                text: file_left_line(alloc, stage, file, content.len() as u64, cause, step)?,
+                status: left_status(end.0),
+                text: file_left_line(alloc, stage, file, content.len() as u64, end)?,
             };
-            keep(alloc, shelf, &FileName::of(out), content, answer)
+            keep(alloc, shelf, &wanted.out, content, answer)
         }
         None => Ok(Answer {
-            status: absent_status(cause),
-            text: none_left_line(alloc, stage, file, cause, step)?,
+            status: absent_status(end.0),
+            text: none_left_line(alloc, stage, file, end)?,
         }),
     }
 }
 
 /// What FILE asks for: `1` and `2` are the streams, any other name a file's.
 #[tactic(auto, unfolding(crate::specs::Left::bytes_left_at))]
-fn bytes_left_at<'a>(files: &'a Files, file: &str) -> Option<&'a [u8]>
-    requires { IsTrue (is_stripped_name (stripped file.now)) }
+fn bytes_left_at<'a>(files: &'a Files, file: &GuestFile<'_>) -> Option<&'a [u8]>
     ensures { option_copied result ≡ bytes_left_at files.now file.now }
 {
+    let file = file.text();
     match file {
         "1" => Some(files.stream(1)),
         "2" => Some(files.stream(2)),
@@ -304,31 +216,31 @@ fn absent_status(cause: RunCause) -> Status
 #[tactic(auto, using(crate::proofs::Written::written), unfolding(crate::specs::Left::file_left_line))]
 fn file_left_line(
     alloc: Global,
-    stage: &[u8],
+    stage: &Name,
     file: &str,
     size: u64,
-    cause: RunCause,
-    step: u64,
+    end: (RunCause, u64),
 ) -> Result<Bytes, OutOfMemory>
-    ensures { IfOk result (λ text. text ≡ file_left_line stage.now file.now size cause step) }
+    ensures { IfOk result (λ text. text ≡ file_left_line stage.now file.now size end.0 end.1) }
 {
+    let (cause, step) = end;
     let cause = run_cause(alloc, cause)?;
     let following = format!(in alloc; " {file} {size} {cause} step {step}\n")?;
-    about_stage(alloc, b"left ", stage, &following)
+    about_stage(alloc, b"left ", stage.bytes(), &following)
 }
 
 /// FILE was not left, and the run ended so.
 #[tactic(auto, using(crate::proofs::Written::written), unfolding(crate::specs::Left::none_left_line))]
 fn none_left_line(
     alloc: Global,
-    stage: &[u8],
+    stage: &Name,
     file: &str,
-    cause: RunCause,
-    step: u64,
+    end: (RunCause, u64),
 ) -> Result<Bytes, OutOfMemory>
-    ensures { IfOk result (λ text. text ≡ none_left_line stage.now file.now cause step) }
+    ensures { IfOk result (λ text. text ≡ none_left_line stage.now file.now end.0 end.1) }
 {
+    let (cause, step) = end;
     let cause = run_cause(alloc, cause)?;
     let following = format!(in alloc; " {file} {cause} step {step}\n")?;
-    about_stage(alloc, b"not left ", stage, &following)
+    about_stage(alloc, b"not left ", stage.bytes(), &following)
 }

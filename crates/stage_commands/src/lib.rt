@@ -15,3 +15,4 @@ mod ready;
 pub mod segment;
 pub mod step;
 mod texts;
+mod words;

@@ -1,13 +1,15 @@
 //! The names of saved states, and words.
 
 ghost use Rattle.std.specs.Prelude.{◌≡◌, ◌≤◌, ◌<◌, IfOk, IfSome, IsTrue, string_bytes};
-ghost use Rattle.ddc_base.specs.Outside.{IsFileName, ShelfState};
+ghost use Rattle.ddc_base.specs.Outside.{ShelfState};
 ghost use Rattle.command_plan.specs.Plan.{needs};
+ghost use Rattle.command_plan.specs.Words.{is_file_word};
 ghost use Rattle.command_plan.specs.Steps.{Obtains};
 ghost use Rattle.recipe_plan.specs.Recipes.{needs_apart};
-ghost use Rattle.stage_commands.specs.Names.{are_stage_words, as_states, each_name, is_prefix, needs_other, piece_name};
+ghost use Rattle.stage_commands.specs.Names.{as_states, each_name, is_prefix, needs_other, piece_name};
 
-use command_plan::words::{has_no_zero_byte, is_file_word, is_one_file};
+use crate::words::Prefix;
+use command_plan::words::{has_no_zero_byte, is_one_file};
 use command_plan::{FileName, Stop, fetch, usage};
 use ddc_base::{Bytes, OutOfMemory, Shelf, read_decimal};
 use recipe::Recipe;
@@ -20,17 +22,8 @@ pub(crate) const MOST_STATES: u32 = 1_000;
 /// The most bytes of a state that is loaded. The text of every state has fewer.
 pub(crate) const STATE_LIMIT: u64 = 4_294_967_296;
 
-/// Whether RECIPE can name a file, STAGE has no zero byte, and PREFIX can begin the names of states.
-pub(crate) fn are_stage_words(recipe: &str, stage: &str, prefix: &str) -> bool
-    ensures value { result ≡ are_stage_words recipe.now stage.now prefix.now }
-    ensures recipe { IsTrue result → IsFileName recipe.now }
-    ensures prefix { IsTrue result → IsTrue (is_prefix prefix.now) }
-{
-    is_file_word(recipe) && has_no_zero_byte(stage) && is_prefix(prefix)
-}
-
 /// Whether PREFIX has 1 to 250 bytes, none of them zero.
-fn is_prefix(prefix: &str) -> bool
+pub(crate) fn is_prefix(prefix: &str) -> bool
     ensures { result ≡ is_prefix prefix.now }
 {
     1 <= prefix.len() && prefix.len() <= 250 && has_no_zero_byte(prefix)
@@ -51,12 +44,16 @@ pub(crate) fn states_of(word: &str) -> Option<u32>
 }
 
 /// The name of the state of a number.
-pub(crate) fn piece_name(alloc: Global, prefix: &str, number: u32) -> Result<String, OutOfMemory>
-    requires prefix { IsTrue (is_prefix prefix.now) }
-    requires few { number < 1_000 }
+pub(crate) fn piece_name(
+    alloc: Global,
+    prefix: &Prefix<'_>,
+    number: u32,
+) -> Result<String, OutOfMemory>
+    requires { number < 1_000 }
     ensures name { IfOk result (λ name. string_bytes name ≡ piece_name prefix.now number) }
-    ensures file { IsFileName (piece_name prefix.now number) }
+    ensures file { IsTrue (is_file_word (piece_name prefix.now number)) }
 {
+    let prefix = prefix.text();
     Ok(format!(in alloc; "{prefix}.{number}")?)
 }
 
@@ -64,11 +61,10 @@ pub(crate) fn piece_name(alloc: Global, prefix: &str, number: u32) -> Result<Str
 pub(crate) fn fetch_state<S: Shelf>(
     alloc: Global,
     shelf: &mut S,
-    prefix: &str,
+    prefix: &Prefix<'_>,
     number: u32,
 ) -> Result<Bytes, Stop>
-    requires prefix { IsTrue (is_prefix prefix.now) }
-    requires few { number < 1_000 }
+    requires { number < 1_000 }
     ensures { Obtains (needs (piece_name prefix.now number) 4_294_967_296) (S.state shelf.old) (S.state shelf.new) result }
 {
     let name = piece_name(alloc, prefix, number)?;
@@ -76,31 +72,33 @@ pub(crate) fn fetch_state<S: Shelf>(
 }
 
 /// Ends the command where the name of a state clashes with RECIPE.
-pub(crate) fn names_relative(alloc: Global, file: &str, prefix: &str) -> Result<(), Stop>
-    requires { IsTrue (is_prefix prefix.now) }
+pub(crate) fn names_relative(
+    alloc: Global,
+    file: &FileName<'_>,
+    prefix: &Prefix<'_>,
+) -> Result<(), Stop>
     ensures { (shelf : ShelfState) → Obtains (each_name (needs_other file.now) prefix.now 1_000) shelf shelf result }
 {
     for number in 0..MOST_STATES {
         let name = piece_name(alloc, prefix, number)?;
-        other(alloc, file, name.as_str())?;
+        other(alloc, file, &FileName::of(name.as_str()))?;
     }
     Ok(())
 }
 
 /// Ends the command where two words stand for one file.
 #[tactic(auto, unfolding(crate::specs::Names::needs_other))]
-fn other(alloc: Global, file: &str, name: &str) -> Result<(), Stop>
+fn other(alloc: Global, file: &FileName<'_>, name: &FileName<'_>) -> Result<(), Stop>
     ensures { (shelf : ShelfState) → Obtains (needs_other file.now name.now) shelf shelf result }
 {
-    if is_one_file(file, name) {
+    if is_one_file(file.text(), name.text()) {
         return Err(Stop::Answered(usage(alloc)?));
     }
     Ok(())
 }
 
 /// Ends the command where the name of a state clashes with an input's path.
-pub(crate) fn names_apart(alloc: Global, recipe: &Recipe, prefix: &str) -> Result<(), Stop>
-    requires { IsTrue (is_prefix prefix.now) }
+pub(crate) fn names_apart(alloc: Global, recipe: &Recipe, prefix: &Prefix<'_>) -> Result<(), Stop>
     ensures { (shelf : ShelfState) → Obtains (each_name (needs_apart recipe.now) prefix.now 1_000) shelf shelf result }
 {
     for number in 0..MOST_STATES {

@@ -1,8 +1,7 @@
-//! What `cut` and `ends` begin with.
+//! What the commands on one stage begin with.
 
-ghost use Rattle.std.specs.Prelude.{◌≡◌, ℕ, IfOk, IfSome, IsTrue, List, MatchOption, None, Some, length, slice_get};
+ghost use Rattle.std.specs.Prelude.{◌≡◌, ◌<◌, ℕ, IfOk, IfSome, List, MatchOption, None, Some, length, slice_get};
 ghost use Rattle.audit_run.specs.Stage.Rules.{IsStageOf};
-ghost use Rattle.ddc_base.specs.Outside.{IsFileName};
 ghost use Rattle.recipe.specs.Kept.{IsRecipe};
 ghost use Rattle.audit_rules.specs.Valid.{AreDone, IsInputs};
 ghost use Rattle.audit_rules.specs.declared.answer.Finished.{Finished};
@@ -11,13 +10,14 @@ ghost use Rattle.command_plan.specs.Steps.{Obtains};
 ghost use Rattle.recipe_plan.specs.Recipes.{needs_apart, needs_inputs};
 ghost use Rattle.stage_commands.specs.Earlier.{needs_earlier, needs_stage};
 ghost use Rattle.stage_commands.specs.Inside.Kept.{IsReady};
-ghost use Rattle.stage_commands.specs.Names.{each_name, is_prefix};
+ghost use Rattle.stage_commands.specs.Names.{each_name};
 ghost use Rattle.stage_commands.specs.Ready.{needs_ready};
 
 use crate::earlier::{run_before, stages_before};
 use crate::names::{names_apart, names_relative};
+use crate::words::{Prefix, StageWord, StageWords};
 use audit_run::stage::Done;
-use command_plan::{FileName, Stop};
+use command_plan::Stop;
 use ddc_base::{ListOf, Shelf};
 use recipe::{Inputs, Recipe, Stage};
 use recipe_plan::{fetch_inputs, fetch_recipe};
@@ -35,18 +35,15 @@ pub(crate) struct Ready {
 pub(crate) fn make_ready<S: Shelf>(
     alloc: Global,
     shelf: &mut S,
-    recipe: &str,
-    stage: &str,
-    prefix: &str,
+    place: &StageWords<'_>,
+    prefix: &Prefix<'_>,
 ) -> Result<Ready, Stop>
-    requires recipe { IsFileName recipe.now }
-    requires prefix { IsTrue (is_prefix prefix.now) }
-    ensures obtained { Obtains (needs_ready recipe.now stage.now prefix.now) (S.state shelf.old) (S.state shelf.new) result }
+    ensures obtained { Obtains (needs_ready place.now.recipe place.now.stage prefix.now) (S.state shelf.old) (S.state shelf.new) result }
     ensures ready { IfOk result IsReady }
 {
-    names_relative(alloc, recipe, prefix)?;
-    let recipe = fetch_recipe(alloc, shelf, &FileName::of(recipe))?;
-    let (inputs, done) = run_stages(alloc, shelf, &recipe, stage, prefix)?;
+    names_relative(alloc, &place.recipe, prefix)?;
+    let recipe = fetch_recipe(alloc, shelf, &place.recipe)?;
+    let (inputs, done) = run_apart(alloc, shelf, &recipe, &place.stage, prefix)?;
     Ok(Ready {
         recipe,
         inputs,
@@ -54,15 +51,14 @@ pub(crate) fn make_ready<S: Shelf>(
     })
 }
 
-/// The inputs of a recipe, and its stages before STAGE, which are run.
-fn run_stages<S: Shelf>(
+/// The inputs of a recipe, none of which a state's name is, and its stages before STAGE, which are run.
+fn run_apart<S: Shelf>(
     alloc: Global,
     shelf: &mut S,
     recipe: &Recipe,
-    stage: &str,
-    prefix: &str,
+    stage: &StageWord<'_>,
+    prefix: &Prefix<'_>,
 ) -> Result<(Inputs, ListOf<Done>), Stop>
-    requires { IsTrue (is_prefix prefix.now) }
     ensures obtained { Obtains (λ (next : List (List ℕ) × List Finished → Plan). needs_stage recipe.now stage.now (λ count. each_name (needs_apart recipe.now) prefix.now 1_000 (λ _.
         needs_inputs recipe.now (λ inputs. needs_earlier recipe.now inputs count (λ done. next (inputs, done)))))) (S.state shelf.old) (S.state shelf.new) result }
     ensures given { IfOk result (λ found. IsInputs recipe.now found.0) }
@@ -71,6 +67,23 @@ fn run_stages<S: Shelf>(
 {
     let count = stages_before(alloc, recipe, stage)?;
     names_apart(alloc, recipe, prefix)?;
+    run_stages(alloc, shelf, recipe, count)
+}
+
+/// The inputs of a recipe, and so many of its stages, which are run.
+pub(crate) fn run_stages<S: Shelf>(
+    alloc: Global,
+    shelf: &mut S,
+    recipe: &Recipe,
+    count: usize,
+) -> Result<(Inputs, ListOf<Done>), Stop>
+    requires { count < length recipe.now.stages }
+    ensures obtained { Obtains (λ (next : List (List ℕ) × List Finished → Plan). needs_inputs recipe.now (λ inputs. needs_earlier recipe.now inputs count (λ done. next (inputs, done))))
+        (S.state shelf.old) (S.state shelf.new) result }
+    ensures given { IfOk result (λ found. IsInputs recipe.now found.0) }
+    ensures done { IfOk result (λ found. AreDone recipe.now found.1) }
+    ensures kept { IfOk result (λ found. IsRecipe recipe.now) }
+{
     let inputs = fetch_inputs(alloc, shelf, recipe)?;
     let done = run_before(alloc, recipe, &inputs, count)?;
     Ok((inputs, done))

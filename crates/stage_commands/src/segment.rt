@@ -1,7 +1,6 @@
 //! `segment FROM TO`: whether two texts are a piece of a run.
 
 ghost use Rattle.std.specs.Prelude.{map};
-ghost use Rattle.ddc_base.specs.Outside.{IsFileName};
 ghost use Rattle.command_plan.specs.Performs.{Performs};
 ghost use Rattle.command_plan.specs.Steps.{Says};
 ghost use Rattle.stage_commands.specs.Segment.{piece_reported, segment_files, segment_plan};
@@ -9,8 +8,7 @@ ghost use Rattle.stage_commands.specs.States.{piece_of};
 
 use crate::names::STATE_LIMIT;
 use crate::texts;
-use command_plan::words::are_two_files;
-use command_plan::{Answer, FileName, Status, Stop, fetch, usage};
+use command_plan::{Answer, FileName, Status, Stop, fetch, two_files, usage};
 use ddc_base::Shelf;
 use segments::{SegmentAnswer, SegmentFault, check};
 use std::alloc::Global;
@@ -20,21 +18,27 @@ use std::alloc::Global;
 pub fn perform<S: Shelf>(alloc: Global, words: &[&str], shelf: &mut S) -> Result<Answer, Stop>
     ensures { Performs (segment_plan (map (λ w. w.now) words.now)) (S.state shelf.old) (S.state shelf.new) result }
 {
-    match words {
-        [from, to] if are_two_files(from, to) => segment(alloc, shelf, from, to),
-        _ => usage(alloc),
-    }
+    let [from, to] = words else {
+        return usage(alloc);
+    };
+    let Some((from, to)) = two_files(from, to) else {
+        return usage(alloc);
+    };
+    segment(alloc, shelf, &from, &to)
 }
 
 /// The command on two files.
 #[tactic(auto, using(command_plan::proofs::Performing::performing), unfolding(crate::specs::Segment::segment_files))]
-fn segment<S: Shelf>(alloc: Global, shelf: &mut S, from: &str, to: &str) -> Result<Answer, Stop>
-    requires from { IsFileName from.now }
-    requires to { IsFileName to.now }
+fn segment<S: Shelf>(
+    alloc: Global,
+    shelf: &mut S,
+    from: &FileName<'_>,
+    to: &FileName<'_>,
+) -> Result<Answer, Stop>
     ensures { Performs (segment_files from.now to.now) (S.state shelf.old) (S.state shelf.new) result }
 {
-    let former = fetch(alloc, shelf, &FileName::of(from), STATE_LIMIT)?;
-    let latter = fetch(alloc, shelf, &FileName::of(to), STATE_LIMIT)?;
+    let former = fetch(alloc, shelf, from, STATE_LIMIT)?;
+    let latter = fetch(alloc, shelf, to, STATE_LIMIT)?;
     tell(alloc, former.as_slice(), latter.as_slice())
 }
 

@@ -1,33 +1,36 @@
 //! `step RECIPE STAGE`: the stages before one are run, and then lines are answered.
 
-ghost use Rattle.std.specs.Prelude.{◌≡◌, ◌<◌, All, IfOk, IfSome, IsTrue, MatchOption, length, map};
-ghost use Rattle.ddc_base.specs.Outside.{IsFileName, ShelfState, SinkState};
+ghost use Rattle.std.specs.Prelude.{◌≡◌, ℕ, All, IfOk, List, map};
+ghost use Rattle.ddc_base.specs.Outside.{ShelfState, SinkState};
 ghost use Rattle.mem_files.specs.Outputs.{IsContent};
 ghost use Rattle.prompt.specs.Prompts.{PromptState};
 ghost use Rattle.prompt.specs.Talks.{talk};
+ghost use Rattle.recipe.specs.Kept.{IsRecipe};
 ghost use Rattle.step_debug.specs.Sessions.{reply_to};
 ghost use Rattle.audit_rules.specs.Stages.{contents};
 ghost use Rattle.audit_rules.specs.Valid.{AreDone, IsInputs};
+ghost use Rattle.audit_rules.specs.declared.answer.Finished.{Finished};
 ghost use Rattle.audit_run.specs.Stage.Rules.{AreMade, IsStageOf};
 ghost use Rattle.command_plan.specs.Performs.{PerformsTalk};
-ghost use Rattle.command_plan.specs.Plan.{talks};
+ghost use Rattle.command_plan.specs.Plan.{Plan, talks};
 ghost use Rattle.command_plan.specs.Steps.{Obtains};
 ghost use Rattle.command_plan.specs.Words.{usage};
 ghost use Rattle.recipe_plan.specs.Recipes.{needs_inputs};
-ghost use Rattle.stage_commands.specs.Inside.Leaving.{talks_after};
-ghost use Rattle.stage_commands.specs.Earlier.{needs_stage};
-ghost use Rattle.stage_commands.specs.Step.{are_step_words, needs_session, session_of, step_plan, step_stage};
+ghost use Rattle.stage_commands.specs.Earlier.{needs_earlier, needs_stage};
+ghost use Rattle.stage_commands.specs.Inside.Kept.{IsReady};
+ghost use Rattle.stage_commands.specs.Step.{needs_session, session_of, step_plan, step_stage};
 
-use crate::earlier::{run_before, stages_before};
+use crate::earlier::stages_before;
+use crate::ready::{Ready, run_stages};
+use crate::words::{StageWord, StageWords};
 use audit_rules::{RunCause, StageFault, StartCause};
 use audit_run::stage::{Done, box_of, content};
-use command_plan::words::{has_no_zero_byte, is_file_word};
-use command_plan::{FileName, Stop, usage};
+use command_plan::{Stop, usage};
 use ddc_base::{Bytes, ListOf, OutOfMemory, PutFail, Shelf, Sink};
 use guest_run::StartRefusal;
 use prompt::{Prompt, converse};
 use recipe::{Inputs, Recipe, Stage};
-use recipe_plan::{fetch_inputs, fetch_recipe, unfinished};
+use recipe_plan::{fetch_recipe, unfinished};
 use std::alloc::Global;
 use step_debug::Session;
 
@@ -45,30 +48,10 @@ pub fn perform<S: Shelf, K: Sink, P: Prompt>(
     ensures { PerformsTalk (step_plan (map (λ w. w.now) words.now)) (S.state shelf.old) (S.state shelf.new)
         (K.state out.old) (K.state out.new) (P.state prompt.old) (P.state prompt.new) result }
 {
-    match step_words(words) {
-        Some(found) => step(alloc, found.0, found.1, shelf, out, prompt),
-        None => refuse(alloc),
-    }
-}
-
-/// RECIPE and STAGE, where the words are these.
-fn step_words<'a, 'w>(words: &'a [&'w str]) -> Option<(&'a str, &'a str)>
-    ensures plan { MatchOption result (step_plan (map (λ w. w.now) words.now) ≡ usage)
-        (λ found. step_plan (map (λ w. w.now) words.now) ≡ step_stage found.0.now found.1.now) }
-    ensures name { IfSome result (λ found. IsFileName found.0.now) }
-{
-    match words {
-        [recipe, stage] if are_step_words(recipe, stage) => Some((recipe, stage)),
-        _ => None,
-    }
-}
-
-/// Whether RECIPE can name a file, and STAGE has no zero byte.
-fn are_step_words(recipe: &str, stage: &str) -> bool
-    ensures value { result ≡ are_step_words recipe.now stage.now }
-    ensures recipe { IsTrue result → IsFileName recipe.now }
-{
-    is_file_word(recipe) && has_no_zero_byte(stage)
+    let Some(words) = StageWords::read(words) else {
+        return refuse(alloc);
+    };
+    step(alloc, shelf, out, prompt, &words)
 }
 
 /// Words that are no command line of ddc.
@@ -78,88 +61,75 @@ fn refuse(alloc: Global) -> Result<Result<(), PutFail>, Stop>
     Err(Stop::Answered(usage(alloc)?))
 }
 
-/// The command on a recipe and a stage's name.
+/// The command on its words.
 fn step<S: Shelf, K: Sink, P: Prompt>(
     alloc: Global,
-    recipe: &str,
-    stage: &str,
     shelf: &mut S,
     out: &mut K,
     prompt: &mut P,
+    words: &StageWords<'_>,
 ) -> Result<Result<(), PutFail>, Stop>
-    requires { IsFileName recipe.now }
-    ensures { PerformsTalk (step_stage recipe.now stage.now) (S.state shelf.old) (S.state shelf.new)
+    ensures { PerformsTalk (step_stage words.now.recipe words.now.stage) (S.state shelf.old) (S.state shelf.new)
         (K.state out.old) (K.state out.new) (P.state prompt.old) (P.state prompt.new) result }
 {
-    let recipe = fetch_recipe(alloc, shelf, &FileName::of(recipe))?;
-    find(alloc, &recipe, stage, shelf, out, prompt)
+    let recipe = fetch_recipe(alloc, shelf, &words.recipe)?;
+    let (inputs, done) = run_named(alloc, shelf, &recipe, &words.stage)?;
+    talk(
+        alloc,
+        out,
+        prompt,
+        &Ready {
+            recipe,
+            inputs,
+            done,
+        },
+    )
 }
 
-/// The command on a recipe, which it leaves to its caller to let go.
-fn find<S: Shelf, K: Sink, P: Prompt>(
+/// The inputs of a recipe, and its stages before STAGE, which are run.
+fn run_named<S: Shelf>(
     alloc: Global,
-    recipe: &Recipe,
-    stage: &str,
     shelf: &mut S,
-    out: &mut K,
-    prompt: &mut P,
-) -> Result<Result<(), PutFail>, Stop>
-    ensures { PerformsTalk (needs_stage recipe.now stage.now (λ count. needs_inputs recipe.now (λ inputs. talks_after recipe.now inputs count)))
-        (S.state shelf.old) (S.state shelf.new) (K.state out.old) (K.state out.new) (P.state prompt.old) (P.state prompt.new) result }
+    recipe: &Recipe,
+    stage: &StageWord<'_>,
+) -> Result<(Inputs, ListOf<Done>), Stop>
+    ensures obtained { Obtains (λ (next : List (List ℕ) × List Finished → Plan). needs_stage recipe.now stage.now (λ count.
+        needs_inputs recipe.now (λ inputs. needs_earlier recipe.now inputs count (λ done. next (inputs, done)))))
+        (S.state shelf.old) (S.state shelf.new) result }
+    ensures given { IfOk result (λ found. IsInputs recipe.now found.0) }
+    ensures done { IfOk result (λ found. AreDone recipe.now found.1) }
+    ensures kept { IfOk result (λ found. IsRecipe recipe.now) }
 {
     let count = stages_before(alloc, recipe, stage)?;
-    let inputs = fetch_inputs(alloc, shelf, recipe)?;
-    talk_after(alloc, recipe, &inputs, count, out, prompt)
-}
-
-/// Runs so many stages, and answers lines about the one after them.
-fn talk_after<K: Sink, P: Prompt>(
-    alloc: Global,
-    recipe: &Recipe,
-    inputs: &Inputs,
-    count: usize,
-    out: &mut K,
-    prompt: &mut P,
-) -> Result<Result<(), PutFail>, Stop>
-    requires given { IsInputs recipe.now inputs.now }
-    requires count { count < length recipe.now.stages }
-    ensures { (shelf : ShelfState) → PerformsTalk (talks_after recipe.now inputs.now count) shelf shelf
-        (K.state out.old) (K.state out.new) (P.state prompt.old) (P.state prompt.new) result }
-{
-    let done = run_before(alloc, recipe, inputs, count)?;
-    talk(alloc, recipe, inputs, &done, out, prompt)
+    run_stages(alloc, shelf, recipe, count)
 }
 
 /// Answers lines about the stage after those that are done.
 fn talk<K: Sink, P: Prompt>(
     alloc: Global,
-    recipe: &Recipe,
-    inputs: &Inputs,
-    done: &ListOf<Done>,
     out: &mut K,
     prompt: &mut P,
+    ready: &Ready,
 ) -> Result<Result<(), PutFail>, Stop>
-    requires given { IsInputs recipe.now inputs.now }
-    requires done { AreDone recipe.now done.now }
-    ensures { (shelf : ShelfState) → PerformsTalk (needs_session recipe.now inputs.now done.now (λ session. talks (talk reply_to session 65_536))) shelf shelf
+    requires { IsReady ready.now }
+    ensures { (shelf : ShelfState) → PerformsTalk (needs_session ready.now.recipe ready.now.inputs ready.now.done (λ session. talks (talk reply_to session 65_536))) shelf shelf
         (K.state out.old) (K.state out.new) (P.state prompt.old) (P.state prompt.new) result }
 {
-    let mut session = start_session(alloc, recipe, inputs, done)?;
+    let mut session = start_session(alloc, ready)?;
     Ok(converse(&mut session, MOST_LINES, prompt, out))
 }
 
 /// Starts the stage after those that are done; a start that is refused ends the command.
-fn start_session<'a>(
-    alloc: Global,
-    recipe: &'a Recipe,
-    inputs: &'a Inputs,
-    done: &'a ListOf<Done>,
-) -> Result<Session<'a>, Stop>
-    requires given { IsInputs recipe.now inputs.now }
-    requires done { AreDone recipe.now done.now }
-    ensures { (shelf : ShelfState) → Obtains (needs_session recipe.now inputs.now done.now) shelf shelf result }
+fn start_session(alloc: Global, ready: &Ready) -> Result<Session<'_>, Stop>
+    requires { IsReady ready.now }
+    ensures { (shelf : ShelfState) → Obtains (needs_session ready.now.recipe ready.now.inputs ready.now.done) shelf shelf result }
 {
-    start_over(alloc, recipe, inputs.as_slice(), done.as_slice())
+    start_over(
+        alloc,
+        &ready.recipe,
+        ready.inputs.as_slice(),
+        ready.done.as_slice(),
+    )
 }
 
 /// The same, over inputs and stages that are borrowed.

@@ -4,8 +4,8 @@ use Rattle.audit_commands.proofs.audit.audit.Goals as goal
 
 pub returns-in_err-recipe : goal.returns-in_err-recipe
 unfolding audit_files
-returns-in_err-recipe g c = ends_with c.from_residual.ensures.1 (ends_before (rw c.text.ensures.value at c.in_err-recipe.ensures))
+returns-in_err-recipe g c = ends_with c.from_residual.ensures.1 (ends_before c.in_err-recipe.ensures)
 
 pub returns : goal.returns
 unfolding audit_files
-returns g c = goes_on_with (rw c.text.ensures.value at c.in_ok-recipe.ensures) c.on_recipe.ensures
+returns g c = goes_on_with c.in_ok-recipe.ensures c.on_recipe.ensures

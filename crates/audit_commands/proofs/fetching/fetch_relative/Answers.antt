@@ -6,7 +6,7 @@ pub returns-in_err-recipe : goal.returns-in_err-recipe
 returns-in_err-recipe g c = stops_with c.from_residual.ensures.1 (stops_before c.in_err-recipe.ensures)
 
 pub returns-in_err-apart : goal.returns-in_err-apart
-returns-in_err-apart g c = stops_with c.from_residual-in_err-apart.ensures.1 (and_then c.in_ok-recipe.ensures (stops_before ((rw c.text.ensures.value at c.in_err-apart.ensures) _)))
+returns-in_err-apart g c = stops_with c.from_residual-in_err-apart.ensures.1 (and_then c.in_ok-recipe.ensures (stops_before (c.in_err-apart.ensures _)))
 
 pub returns : goal.returns
-returns g c = and_then c.in_ok-recipe.ensures (and_then ((rw c.text.ensures.value at c.in_ok-apart.ensures) _) (leads _ _ c.in_ok-recipe.recipe (λ next. refl)))
+returns g c = and_then c.in_ok-recipe.ensures (and_then (c.in_ok-apart.ensures _) (leads _ _ c.in_ok-recipe.recipe (λ next. refl)))

@@ -3,11 +3,11 @@ use Rattle.audit_commands.proofs.Reading.{goes_on, refuses, wants}
 use Rattle.audit_commands.proofs.resume.audit_at.Goals as goal
 
 pub returns-in-Ok : goal.returns-in-Ok
-returns-in-Ok c = λ shelf. goes_on c.args.recipe c.args.inputs c.args.text shelf c.in-Ok.audit c.in-Ok.ensures
+returns-in-Ok c = λ shelf. goes_on c.args.supplied.recipe c.args.supplied.inputs c.args.text shelf c.in-Ok.audit c.in-Ok.ensures
 
 pub returns-in_err-refuse-in-Err : goal.returns-in_err-refuse-in-Err
 returns-in_err-refuse-in-Err c = λ shelf.
-    stops_with c.from_residual.ensures.1 (wants c.args.recipe c.args.inputs c.args.text shelf c.in-Err.refusal _ c.in_err-refuse-in-Err.ensures)
+    stops_with c.from_residual.ensures.1 (wants c.args.supplied.recipe c.args.supplied.inputs c.args.text shelf c.in-Err.refusal _ c.in_err-refuse-in-Err.ensures)
 
 pub returns-in_ok-refuse-in-Err : goal.returns-in_ok-refuse-in-Err
-returns-in_ok-refuse-in-Err c = λ shelf. refuses c.args.recipe c.args.inputs c.args.text shelf c.in-Err.refusal _ c.in-Err.ensures c.in_ok-refuse-in-Err.ensures
+returns-in_ok-refuse-in-Err c = λ shelf. refuses c.args.supplied.recipe c.args.supplied.inputs c.args.text shelf c.in-Err.refusal _ c.in-Err.ensures c.in_ok-refuse-in-Err.ensures

@@ -5,9 +5,9 @@ use Rattle.audit_commands.proofs.show.show.Goals as goal
 
 pub returns-in_err-report : goal.returns-in_err-report
 unfolding show_file
-returns-in_err-report g c = ends_with c.from_residual.ensures.1 (ends_before (rw c.text.ensures.value at c.in_err-report.ensures.obtained))
+returns-in_err-report g c = ends_with c.from_residual.ensures.1 (ends_before c.in_err-report.ensures.obtained)
 
 pub returns : goal.returns
 unfolding show_file
 returns g c =
-    goes_on_with (rw c.text.ensures.value at c.in_ok-report.ensures.obtained) (says _ _ _ c.shown.ensures)
+    goes_on_with c.in_ok-report.ensures.obtained (says _ _ _ c.shown.ensures)

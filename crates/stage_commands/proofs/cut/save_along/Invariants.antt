@@ -6,6 +6,6 @@ use Rattle.stage_commands.proofs.cut.save_along.Given as goal
 -- so many states are saved, and the plan goes on from the present one, which is below the stage's limit
 abbrev pub invariant-loop-saved : goal.invariant-loop-saved
 invariant-loop-saved g l =
-    GoesOnAs (saved_from l.stage l.every l.prefix 1_000 0 l.fn.guest) (saved_from l.stage l.every l.prefix (1_000 - l.saved) l.saved l.guest) (g.S.Shelf.state l.fn.shelf) (g.S.Shelf.state l.shelf)
+    GoesOnAs (saved_from l.stage l.spacing.every l.spacing.prefix 1_000 0 l.fn.guest) (saved_from l.stage l.spacing.every l.spacing.prefix (1_000 - l.saved) l.saved l.guest) (g.S.Shelf.state l.fn.shelf) (g.S.Shelf.state l.shelf)
     × (l.guest.steps < l.stage.steps)
     × (l.saved ≤ 1_000)

@@ -18,7 +18,7 @@ returns-in_err-apart c = λ shelf.
     stops_with c.from_residual-in_err-apart.ensures.1
     (ends_at_name (needs_apart c.args.recipe.now) c.args.prefix.now shelf (suc c.loop-number.number) (1_000 - suc c.loop-number.number) 1_000 c.in_err-apart.field-0.0 more
     (one_judged (needs_apart c.args.recipe.now) c.args.prefix.now shelf c.loop-number.number (Err c.in_err-apart.field-0.0) (c.loop-number.invariant.1 shelf)
-    (subst (λ name. Obtains (needs_apart c.args.recipe.now name) shelf shelf (Err c.in_err-apart.field-0.0)) (c.as_str.ensures.value ∙ c.in_ok-name.ensures.name) (c.in_err-apart.ensures shelf))))
+    (subst (λ name. Obtains (needs_apart c.args.recipe.now name) shelf shelf (Err c.in_err-apart.field-0.0)) (c.of.ensures ∙ c.as_str.ensures.value ∙ c.in_ok-name.ensures.name) (c.in_err-apart.ensures shelf))))
 
 pub loop-number-preserved : goal.loop-number-preserved
 loop-number-preserved c = (
@@ -27,7 +27,7 @@ loop-number-preserved c = (
       let next : suc c.loop-number.number ≡ c.loop-number.number + 1 = omega arith in
       subst (λ count. Obtains (each_name (needs_apart c.args.recipe.now) c.args.prefix.now count) shelf shelf (Ok tt)) next
       (one_judged (needs_apart c.args.recipe.now) c.args.prefix.now shelf c.loop-number.number (Ok tt) (c.loop-number.invariant.1 shelf)
-      (subst (λ name. Obtains (needs_apart c.args.recipe.now name) shelf shelf (Ok tt)) (c.as_str.ensures.value ∙ c.in_ok-name.ensures.name) (c.in_ok-apart.ensures shelf))),
+      (subst (λ name. Obtains (needs_apart c.args.recipe.now name) shelf shelf (Ok tt)) (c.of.ensures ∙ c.as_str.ensures.value ∙ c.in_ok-name.ensures.name) (c.in_ok-apart.ensures shelf))),
 )
 
 pub returns : goal.returns

@@ -1,0 +1,286 @@
+//! The words of the commands on one stage, each set of them as one value.
+
+ghost use Rattle.std.specs.Prelude.{◌≡◌, ◌≤◌, IsTrue, map};
+ghost use Rattle.mem_files.specs.Names.{is_stripped_name, stripped};
+ghost use Rattle.stage_commands.specs.Inside.Words.{as_guest_file, as_prefix, as_stage_word, cut_words, ends_words, left_words, named_left, named_stage, stage_words};
+ghost use Rattle.stage_commands.specs.Names.{as_states, is_prefix};
+
+use crate::names::{is_prefix, states_of};
+use command_plan::words::has_no_zero_byte;
+use command_plan::{FileName, StepCount, two_files};
+use mem_files::{is_stripped_name, strip};
+use std::marker::Model;
+
+/// A word without a zero byte, by which a stage is looked for. Contracts see its bytes.
+#[derive(Drop)]
+pub(crate) struct StageWord<'w> {
+    text: &'w str,
+}
+
+impl<'w> Model for StageWord<'w> {
+    ghost use Rattle.std.specs.Prelude.{List, ℕ, IsTrue};
+    ghost use Rattle.command_plan.specs.Words.{has_no_zero_byte};
+
+    ghost Value = { List ℕ };
+
+    ghost view = { λ word. word.text.now };
+
+    ghost invariant = { λ word. IsTrue (has_no_zero_byte word.text.now) };
+}
+
+impl<'w> StageWord<'w> {
+    /// The word as one that looks for a stage, and `None` for every other word.
+    pub(crate) fn read(word: &'w str) -> Option<StageWord<'w>>
+        ensures { result ≡ as_stage_word word.now }
+    {
+        if has_no_zero_byte(word) {
+            Some(StageWord { text: word })
+        } else {
+            None
+        }
+    }
+
+    /// The word.
+    pub(crate) fn text(&self) -> &'w str
+        ensures { result.now ≡ self.now }
+    {
+        self.text
+    }
+}
+
+/// A word that is a guest's file name once leading `./` are taken off. Contracts see its bytes.
+#[derive(Drop)]
+pub(crate) struct GuestFile<'w> {
+    text: &'w str,
+}
+
+impl<'w> Model for GuestFile<'w> {
+    ghost use Rattle.std.specs.Prelude.{List, ℕ, IsTrue};
+    ghost use Rattle.mem_files.specs.Names.{is_stripped_name, stripped};
+
+    ghost Value = { List ℕ };
+
+    ghost view = { λ word. word.text.now };
+
+    ghost invariant = { λ word. IsTrue (is_stripped_name (stripped word.text.now)) };
+}
+
+impl<'w> GuestFile<'w> {
+    /// The word as a guest's file, and `None` for every other word.
+    pub(crate) fn read(word: &'w str) -> Option<GuestFile<'w>>
+        ensures { result ≡ as_guest_file word.now }
+    {
+        if is_stripped_name(strip(word.as_bytes())) {
+            Some(GuestFile { text: word })
+        } else {
+            None
+        }
+    }
+
+    /// The word.
+    pub(crate) fn text(&self) -> &'w str
+        ensures value { result.now ≡ self.now }
+        ensures name { IsTrue (is_stripped_name (stripped self.now)) }
+    {
+        self.text
+    }
+}
+
+/// The beginning of the names of states: 1 to 250 bytes, none of them zero, which contracts see.
+#[derive(Drop)]
+pub(crate) struct Prefix<'w> {
+    text: &'w str,
+}
+
+impl<'w> Model for Prefix<'w> {
+    ghost use Rattle.std.specs.Prelude.{List, ℕ, IsTrue};
+    ghost use Rattle.stage_commands.specs.Names.{is_prefix};
+
+    ghost Value = { List ℕ };
+
+    ghost view = { λ word. word.text.now };
+
+    ghost invariant = { λ word. IsTrue (is_prefix word.text.now) };
+}
+
+impl<'w> Prefix<'w> {
+    /// The word as a prefix, and `None` for every other word.
+    pub(crate) fn read(word: &'w str) -> Option<Prefix<'w>>
+        ensures { result ≡ as_prefix word.now }
+    {
+        if is_prefix(word) {
+            Some(Prefix { text: word })
+        } else {
+            None
+        }
+    }
+
+    /// The word.
+    pub(crate) fn text(&self) -> &'w str
+        ensures value { result.now ≡ self.now }
+        ensures prefix { IsTrue (is_prefix self.now) }
+    {
+        self.text
+    }
+}
+
+/// A number of states, from 1 to 1,000, which contracts see as this number.
+#[derive(Clone, Copy)]
+pub(crate) struct StateCount {
+    count: u32,
+}
+
+impl Model for StateCount {
+    ghost use Rattle.std.specs.Prelude.{ℕ, ◌≤◌};
+
+    ghost Value = { ℕ };
+
+    ghost view = { λ states. states.count };
+
+    ghost invariant = { λ states. (1 ≤ states.count) × (states.count ≤ 1_000) };
+
+    ghost inverse = { λ count. record { count = count } };
+}
+
+impl StateCount {
+    /// The number of states that a word is, and `None` for every other word.
+    pub(crate) fn read(word: &str) -> Option<StateCount>
+        ensures { result ≡ as_states word.now }
+    {
+        let count = states_of(word)?;
+        Some(StateCount { count })
+    }
+
+    /// The number.
+    pub(crate) fn count(self) -> u32
+        ensures value { result ≡ self }
+        ensures some { 1 ≤ self }
+        ensures most { self ≤ 1_000 }
+    {
+        self.count
+    }
+}
+
+/// A recipe, and the name of one of its stages.
+#[derive(Drop)]
+pub(crate) struct StageWords<'w> {
+    pub recipe: FileName<'w>,
+    pub stage: StageWord<'w>,
+}
+
+impl<'w> StageWords<'w> {
+    /// The words `RECIPE STAGE`, and `None` for every other.
+    pub(crate) fn read(words: &[&'w str]) -> Option<StageWords<'w>>
+        ensures { result ≡ stage_words (map (λ w. w.now) words.now) }
+    {
+        let [recipe, stage] = words else {
+            return None;
+        };
+        StageWords::of(recipe, stage)
+    }
+
+    /// Both words, where they are such.
+    fn of(recipe: &'w str, stage: &'w str) -> Option<StageWords<'w>>
+        ensures { result ≡ named_stage recipe.now stage.now }
+    {
+        let recipe = FileName::read(recipe)?;
+        let stage = StageWord::read(stage)?;
+        Some(StageWords { recipe, stage })
+    }
+}
+
+/// The place in a guest whose bytes are asked for, and the file under which they are saved.
+#[derive(Drop)]
+pub(crate) struct Wanted<'w> {
+    pub file: GuestFile<'w>,
+    pub out: FileName<'w>,
+}
+
+/// A stage of a recipe, and what is asked for of what its program left.
+#[derive(Drop)]
+pub(crate) struct LeftWords<'w> {
+    pub place: StageWords<'w>,
+    pub wanted: Wanted<'w>,
+}
+
+impl<'w> LeftWords<'w> {
+    /// The words `RECIPE STAGE FILE OUT`, and `None` for every other.
+    pub(crate) fn read(words: &[&'w str]) -> Option<LeftWords<'w>>
+        ensures { result ≡ left_words (map (λ w. w.now) words.now) }
+    {
+        let [recipe, stage, file, out] = words else {
+            return None;
+        };
+        LeftWords::of(recipe, stage, file, out)
+    }
+
+    /// All four words, where they are such.
+    #[tactic(auto, unfolding(crate::specs::Inside::Words::named_left))]
+    fn of(recipe: &'w str, stage: &'w str, file: &'w str, out: &'w str) -> Option<LeftWords<'w>>
+        ensures { result ≡ named_left recipe.now stage.now file.now out.now }
+    {
+        let (recipe, out) = two_files(recipe, out)?;
+        let stage = StageWord::read(stage)?;
+        let file = GuestFile::read(file)?;
+        let place = StageWords { recipe, stage };
+        let wanted = Wanted { file, out };
+        Some(LeftWords { place, wanted })
+    }
+}
+
+/// How far states of a run are apart, and how their names begin.
+#[derive(Drop)]
+pub(crate) struct Spacing<'w> {
+    pub every: StepCount,
+    pub prefix: Prefix<'w>,
+}
+
+/// A stage of a recipe, and the states that are saved along its run.
+#[derive(Drop)]
+pub(crate) struct CutWords<'w> {
+    pub place: StageWords<'w>,
+    pub spacing: Spacing<'w>,
+}
+
+impl<'w> CutWords<'w> {
+    /// The words `RECIPE STAGE EVERY PREFIX`, and `None` for every other.
+    pub(crate) fn read(words: &[&'w str]) -> Option<CutWords<'w>>
+        ensures { result ≡ cut_words (map (λ w. w.now) words.now) }
+    {
+        let [recipe, stage, every, prefix] = words else {
+            return None;
+        };
+        let every = StepCount::read(every)?;
+        let place = StageWords::of(recipe, stage)?;
+        let prefix = Prefix::read(prefix)?;
+        let spacing = Spacing { every, prefix };
+        Some(CutWords { place, spacing })
+    }
+}
+
+/// A stage of a recipe, how the names of its states begin, and how many there are.
+#[derive(Drop)]
+pub(crate) struct EndsWords<'w> {
+    pub place: StageWords<'w>,
+    pub prefix: Prefix<'w>,
+    pub states: StateCount,
+}
+
+impl<'w> EndsWords<'w> {
+    /// The words `RECIPE STAGE PREFIX COUNT`, and `None` for every other.
+    pub(crate) fn read(words: &[&'w str]) -> Option<EndsWords<'w>>
+        ensures { result ≡ ends_words (map (λ w. w.now) words.now) }
+    {
+        let [recipe, stage, prefix, count] = words else {
+            return None;
+        };
+        let states = StateCount::read(count)?;
+        let place = StageWords::of(recipe, stage)?;
+        let prefix = Prefix::read(prefix)?;
+        Some(EndsWords {
+            place,
+            prefix,
+            states,
+        })
+    }
+}
