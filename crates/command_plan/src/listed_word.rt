@@ -58,6 +58,13 @@ impl ListedWord {
         self.text.as_str()
     }
 
+    /// Shows that the word is one of a list.
+    pub fn show_listed(&self)
+        ensures { IsTrue (is_listed_word self.now) }
+    {
+        let _ = &self.text;
+    }
+
     /// The word as the name of a file.
     #[tactic(auto, using(crate::proofs::Listing::word_names))]
     pub fn name(&self) -> FileName<'_>

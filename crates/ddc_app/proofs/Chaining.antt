@@ -30,9 +30,10 @@ use Rattle.command_plan.specs.Plan.{LoadsBytes, Outcome, Plan, answers, bytes_th
 use Rattle.command_plan.specs.Texts.{list_line, report_line}
 use Rattle.command_plan.specs.Words.{is_file_word, is_one_file, usage}
 use Rattle.recipe_plan.specs.Recipes.{is_input, needs_apart, needs_inputs_within, paths}
+use Rattle.recipe_plan.specs.Reports.{needs_report_after}
 use Rattle.recipe_plan.specs.Texts.{compared_lines, recipe_line}
 use Rattle.verify_commands.specs.declared.pair.Pair.{Pair}
-use Rattle.verify_commands.specs.Chain.{chain_files, chained, chained_lines, needs_audit, needs_report_of, needs_true, needs_two_files, pair_of, room_after}
+use Rattle.verify_commands.specs.Chain.{chain_files, chained, chained_lines, needs_audit, needs_true, needs_two_files, pair_of, room_after}
 use Rattle.verify_commands.specs.ChainTexts.{audit_line, chain_text}
 use Rattle.ddc_app.specs.Chained.{Chained, HoldsAudit, bytes_of_inputs, chain}
 use Rattle.ddc_app.specs.Commands.{plan_of}
@@ -102,7 +103,7 @@ module _ (files : NamedFiles) (P : Outcome → Type 0) where
   two-go pair next goes = test-goes (is_one_file pair.recipe pair.report) (next tt) (λ _. goes)
 
   true-goes : (number : ℕ) (lines : List CompareLine) (fault : Option (Part × ℕ)) (next : Unit {0} → Plan)
-      → (fault ≡ None → all_equal lines ≡ true → Goes (next tt)) → Goes (needs_true number lines fault next)
+      → (fault ≡ None → all_equal lines ≡ true → Goes (next tt)) → Goes (needs_true (audit_line number) lines fault next)
   unfolding needs_true
   true-goes number lines None next goes = by (all_equal lines) refl where
     by : (b : Bool) → all_equal lines ≡ b → Goes (cond b (next tt) (answers status.Differs (audit_line number ++ compared_lines lines)))
@@ -115,9 +116,9 @@ module _ (files : NamedFiles) (P : Outcome → Type 0) where
   unfolding needs_audit
   audit-goes number room pair next goes =
       let link_of : RecipeContents → List (List ℕ) → Link = λ said inputs. record { recipe = said; inputs = inputs } in
-      let last : RecipeContents → Report → List (List ℕ) → Plan = λ said made inputs. needs_true number made.compare (first_fault said inputs made) (λ _. next (link_of said inputs)) in
+      let last : RecipeContents → Report → List (List ℕ) → Plan = λ said made inputs. needs_true (audit_line number) made.compare (first_fault said inputs made) (λ _. next (link_of said inputs)) in
       let loads : RecipeContents → Report → Plan = λ said made. needs_inputs_within room said (last said made) in
-      let reports : RecipeContents → Plan = λ said. needs_report_of number pair.report (loads said) in
+      let reports : RecipeContents → Plan = λ said. needs_report_after (audit_line number) pair.report (loads said) in
       let recipes : RecipeContents → Plan = λ said. needs_apart said pair.report (λ _. reports said) in
       two-go pair (λ _. needs pair.recipe 1_048_576 (λ bytes. unless_refused (recipe_of bytes) (λ refusal. answers status.RecipeRefused (audit_line number ++ recipe_line refusal)) recipes))
       (need-goes pair.recipe 1_048_576 (λ bytes. unless_refused (recipe_of bytes) (λ refusal. answers status.RecipeRefused (audit_line number ++ recipe_line refusal)) recipes)

@@ -25,10 +25,11 @@ use Rattle.command_plan.specs.Plan.{Outcome, Plan, answers, outcome, unless_refu
 use Rattle.command_plan.specs.Texts.{list_line, report_line}
 use Rattle.command_plan.specs.Words.{are_two_files, has_no_zero_byte, is_file_word, is_one_file, usage}
 use Rattle.command_plan.proofs.Listing.{holds-listed, parts-of}
-use Rattle.recipe_plan.specs.Recipes.{is_input, needs_apart, needs_inputs_within, paths}
+use Rattle.recipe_plan.specs.Recipes.{is_input, needs_apart, needs_inputs_within, needs_recipe_after, paths}
+use Rattle.recipe_plan.specs.Reports.{needs_report_after}
 use Rattle.recipe_plan.specs.Texts.{compared_lines, recipe_line}
 use Rattle.verify_commands.specs.declared.pair.Pair.{Pair}
-use Rattle.verify_commands.specs.Chain.{both_words, chain_files, chained, chained_lines, is_space, needs_audit, needs_recipe_of, needs_report_of, needs_true, needs_two_files, pair_of, room_after}
+use Rattle.verify_commands.specs.Chain.{both_words, chain_files, chained, chained_lines, is_space, needs_audit, needs_true, needs_two_files, pair_of, room_after}
 use Rattle.verify_commands.specs.ChainTexts.{audit_line, chain_text}
 use Rattle.verify_commands.specs.Verify.{verify_files}
 use Rattle.ddc_app.specs.Accepting.{is_compared}
@@ -172,20 +173,20 @@ audit_opens : (number room : ℕ) (files : NamedFiles) (pair : Pair) (link : Lin
 unfolding needs_audit needs_two_files needs_true
 audit_opens number room files pair link next h o =
     let last : RecipeContents → Report → List (List ℕ) → Plan = λ said made inputs.
-    needs_true number made.compare (first_fault said inputs made) (λ _. next (record { recipe = said; inputs = inputs })) in
+    needs_true (audit_line number) made.compare (first_fault said inputs made) (λ _. next (record { recipe = said; inputs = inputs })) in
     let loads : RecipeContents → Report → Plan = λ said made. needs_inputs_within room said (last said made) in
-    let reports : RecipeContents → Plan = λ said. needs_report_of number pair.report (loads said) in
+    let reports : RecipeContents → Plan = λ said. needs_report_after (audit_line number) pair.report (loads said) in
     let recipes : RecipeContents → Plan = λ said. needs_apart said pair.report (λ _. reports said) in
     let refuse : RecipeRefusal → Plan = λ refusal. answers status.RecipeRefused (audit_line number ++ recipe_line refusal) in
     let refuse_report : ℕ → Plan = λ line. answers status.ReportRefused (audit_line number ++ report_line line) in
-    ap (λ clash. outcome (cond clash usage (needs_recipe_of number pair.recipe recipes)) files) o.words
+    ap (λ clash. outcome (cond clash usage (needs_recipe_after (audit_line number) pair.recipe recipes)) files) o.words
     ∙ follows pair.recipe 1_048_576 (λ bytes. unless_refused (recipe_of bytes) refuse recipes) files h.recipe_bytes h.recipe_held
     ∙ ap (λ reading. outcome (unless_refused reading refuse recipes) files) h.recipe_reads
     ∙ apart_opens link.recipe pair.report (λ _. reports link.recipe) files false o.apart
     ∙ follows pair.report 1_073_741_824 (λ text. unless_refused (report_of text) refuse_report (loads link.recipe)) files o.text o.text_held
     ∙ ap (λ reading. outcome (unless_refused reading refuse_report (loads link.recipe)) files) o.text_reads
     ∙ follow_all 268_435_456 room files (paths link.recipe) link.inputs (last link.recipe o.made) h.inputs_held
-    ∙ ap (λ fault. outcome (needs_true number o.made.compare fault (λ _. next link)) files) o.none
+    ∙ ap (λ fault. outcome (needs_true (audit_line number) o.made.compare fault (λ _. next link)) files) o.none
     ∙ ap (λ equal. outcome (cond equal (next link) (answers status.Differs (audit_line number ++ compared_lines o.made.compare))) files) o.equal
 
 chained_opens : (files : NamedFiles) (pairs : List Pair) (more links : List Link) (room : ℕ) → AllHoldInputs room files pairs more → All (SaysYes files) pairs
@@ -234,7 +235,7 @@ module _ (files : NamedFiles) (P : Type 0) where
     by false is ends = comes is ends
 
   true_comes : (number : ℕ) (lines : List CompareLine) (fault : Option (Part × ℕ)) (next : Unit {0} → Plan)
-      → (fault ≡ None → all_equal lines ≡ true → Comes (next tt)) → Comes (needs_true number lines fault next)
+      → (fault ≡ None → all_equal lines ≡ true → Comes (next tt)) → Comes (needs_true (audit_line number) lines fault next)
   unfolding needs_true
   true_comes number lines None next comes = by (all_equal lines) refl where
     by : (b : Bool) → all_equal lines ≡ b → Comes (cond b (next tt) (answers status.Differs (audit_line number ++ compared_lines lines)))
@@ -247,15 +248,15 @@ module _ (files : NamedFiles) (P : Type 0) where
   unfolding needs_audit
   audit_comes number room pair next below words comes =
       let link_of : RecipeContents → List (List ℕ) → Link = λ said inputs. record { recipe = said; inputs = inputs } in
-      let last : RecipeContents → Report → List (List ℕ) → Plan = λ said made inputs. needs_true number made.compare (first_fault said inputs made) (λ _. next (link_of said inputs)) in
+      let last : RecipeContents → Report → List (List ℕ) → Plan = λ said made inputs. needs_true (audit_line number) made.compare (first_fault said inputs made) (λ _. next (link_of said inputs)) in
       let loads : RecipeContents → Report → Plan = λ said made. needs_inputs_within room said (last said made) in
-      let reports : RecipeContents → Plan = λ said. needs_report_of number pair.report (loads said) in
+      let reports : RecipeContents → Plan = λ said. needs_report_after (audit_line number) pair.report (loads said) in
       let recipes : RecipeContents → Plan = λ said. needs_apart said pair.report (λ _. reports said) in
       let refusal_text : RecipeRefusal → List ℕ = λ refusal. audit_line number ++ recipe_line refusal in
       let line_text : ℕ → List ℕ = λ line. audit_line number ++ report_line line in
       let reading : List ℕ → Plan = λ bytes. unless_refused (recipe_of bytes) (λ refusal. answers status.RecipeRefused (refusal_text refusal)) recipes in
       let texts : RecipeContents → List ℕ → Plan = λ said text. unless_refused (report_of text) (λ line. answers status.ReportRefused (line_text line)) (loads said) in
-      two_come pair (λ _. needs_recipe_of number pair.recipe recipes) (λ one.
+      two_come pair (λ _. needs_recipe_after (audit_line number) pair.recipe recipes) (λ one.
       both_need Both files refused pair.recipe 1_048_576 reading reading (λ bytes held.
       both_read Both files refused (recipe_of bytes) status.RecipeRefused refusal_text recipes recipes (refl, refl) (λ said reads.
       both_need_apart Both files refused said pair.report (λ _. reports said) (λ _. reports said) (λ apart.

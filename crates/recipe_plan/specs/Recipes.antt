@@ -1,6 +1,6 @@
 -- What the commands of a recipe begin with: the recipe, the files that are to be none of its inputs, and the inputs.
 -- docs/reference/command-line.md and docs/reference/audit.md say the same for people.
-use Rattle.std.specs.Prelude.{ℕ, Bool, List, map, if◌then◌else◌}
+use Rattle.std.specs.Prelude.{ℕ, Bool, List, ◌++◌, map, if◌then◌else◌}
 use Rattle.std.specs.List.{list_any}
 use Rattle.recipe.specs.Reading.{recipe_of}
 use Rattle.recipe.specs.declared.contents.RecipeContents.{RecipeContents}
@@ -10,11 +10,17 @@ use Rattle.command_plan.specs.Words.{is_one_file, usage}
 use Rattle.command_plan.specs.Plan.{Plan, answers, needs, needs_all, unless_refused}
 use Rattle.recipe_plan.specs.Texts.{recipe_line}
 
--- a text is read as a recipe
+-- a text is read as a recipe; what is said of one that is none stands after `front`
+abbrev pub reads_recipe_after : List ℕ → List ℕ → (RecipeContents → Plan) → Plan
+reads_recipe_after front text next = unless_refused (recipe_of text) (λ refusal. answers RecipeRefused (front ++ recipe_line refusal)) next
+
 abbrev pub reads_recipe : List ℕ → (RecipeContents → Plan) → Plan
 reads_recipe text next = unless_refused (recipe_of text) (λ refusal. answers RecipeRefused (recipe_line refusal)) next
 
 -- the recipe is needed, of at most 1,048,576 bytes, and read
+abbrev pub needs_recipe_after : List ℕ → List ℕ → (RecipeContents → Plan) → Plan
+needs_recipe_after front file next = needs file 1_048_576 (λ bytes. reads_recipe_after front bytes next)
+
 abbrev pub needs_recipe : List ℕ → (RecipeContents → Plan) → Plan
 needs_recipe file next = needs file 1_048_576 (λ bytes. reads_recipe bytes next)
 

@@ -1,11 +1,11 @@
 //! A recipe that is fetched and read, and files that are to be none of its inputs.
 
-ghost use Rattle.std.specs.Prelude.{◌≡◌};
+ghost use Rattle.std.specs.Prelude.{◌≡◌, ◌++◌};
 ghost use Rattle.ddc_base.specs.Outside.{ShelfState};
 ghost use Rattle.command_plan.specs.declared.status.Status.TheVariants.{RecipeRefused};
 ghost use Rattle.command_plan.specs.Plan.{answers};
 ghost use Rattle.command_plan.specs.Steps.{Obtains, Says};
-ghost use Rattle.recipe_plan.specs.Recipes.{is_input, needs_apart, needs_recipe, reads_recipe};
+ghost use Rattle.recipe_plan.specs.Recipes.{is_input, needs_apart, needs_recipe, needs_recipe_after, reads_recipe_after};
 ghost use Rattle.recipe_plan.specs.Texts.{recipe_line};
 
 use crate::texts;
@@ -26,35 +26,48 @@ pub fn fetch_recipe<S: Shelf>(
 ) -> Result<Recipe, Stop>
     ensures { Obtains (needs_recipe file.now) (S.state shelf.old) (S.state shelf.new) result }
 {
+    fetch_recipe_after(alloc, shelf, file, &[])
+}
+
+/// The same, where what is said of a file that is no recipe stands after `front`.
+pub fn fetch_recipe_after<S: Shelf>(
+    alloc: Global,
+    shelf: &mut S,
+    file: &FileName<'_>,
+    front: &[u8],
+) -> Result<Recipe, Stop>
+    ensures { Obtains (needs_recipe_after front.now file.now) (S.state shelf.old) (S.state shelf.new) result }
+{
     let bytes = fetch(alloc, shelf, file, RECIPE_LIMIT)?;
-    read(alloc, bytes)
+    read(alloc, bytes, front)
 }
 
 /// Reads a recipe, and lets its text go.
-fn read(alloc: Global, bytes: Bytes) -> Result<Recipe, Stop>
-    ensures { (shelf : ShelfState) → Obtains (reads_recipe bytes) shelf shelf result }
+fn read(alloc: Global, bytes: Bytes, front: &[u8]) -> Result<Recipe, Stop>
+    ensures { (shelf : ShelfState) → Obtains (reads_recipe_after front.now bytes) shelf shelf result }
 {
-    read_recipe(alloc, bytes.as_slice())
+    read_recipe(alloc, bytes.as_slice(), front)
 }
 
-/// Reads a text as a recipe.
-pub fn read_recipe(alloc: Global, text: &[u8]) -> Result<Recipe, Stop>
-    ensures { (shelf : ShelfState) → Obtains (reads_recipe text.now) shelf shelf result }
+/// Reads a text as a recipe. What is said of one that is none stands after `front`.
+pub fn read_recipe(alloc: Global, text: &[u8], front: &[u8]) -> Result<Recipe, Stop>
+    ensures { (shelf : ShelfState) → Obtains (reads_recipe_after front.now text.now) shelf shelf result }
 {
     match recipe::read(alloc, text) {
         Ok(recipe) => Ok(recipe),
         Err(RecipeRefusal::OutOfMemory) => Err(Stop::OutOfMemory),
-        Err(refusal) => Err(Stop::Answered(refused(alloc, refusal)?)),
+        Err(refusal) => Err(Stop::Answered(refused(alloc, refusal, front)?)),
     }
 }
 
-/// The answer to a file that is no recipe.
-fn refused(alloc: Global, refusal: RecipeRefusal) -> Result<Answer, Stop>
-    ensures { Says (answers RecipeRefused (recipe_line refusal)) result }
+/// The answer to a file that is no recipe, after `front`.
+fn refused(alloc: Global, refusal: RecipeRefusal, front: &[u8]) -> Result<Answer, Stop>
+    ensures { Says (answers RecipeRefused (front.now ++ recipe_line refusal)) result }
 {
+    let line = texts::recipe_line(alloc, refusal)?;
     Ok(Answer {
         status: Status::RecipeRefused,
-        text: texts::recipe_line(alloc, refusal)?,
+        text: texts::after(alloc, front, line.as_slice())?,
     })
 }
 

@@ -1,17 +1,18 @@
 //! A report that is fetched and read, and the status of its comparisons.
 
-ghost use Rattle.std.specs.Prelude.{◌≡◌, IfOk};
+ghost use Rattle.std.specs.Prelude.{◌≡◌, ◌++◌, IfOk};
 ghost use Rattle.ddc_base.specs.Outside.{ShelfState};
 ghost use Rattle.report.specs.Reading.{report_of};
 ghost use Rattle.report.specs.Reports.{IsReport};
 ghost use Rattle.command_plan.specs.declared.status.Status.TheVariants.{ReportRefused};
 ghost use Rattle.command_plan.specs.Plan.{answers, unless_refused};
 ghost use Rattle.command_plan.specs.Steps.{Obtains, Says};
-ghost use Rattle.recipe_plan.specs.Reports.{compared_status, needs_report};
+ghost use Rattle.recipe_plan.specs.Reports.{compared_status, needs_report, needs_report_after};
 ghost use Rattle.command_plan.specs.Texts.{report_line};
 
+use crate::texts;
 use audit_rules::all_equal;
-use command_plan::{Answer, FileName, Status, Stop, fetch, texts};
+use command_plan::{Answer, FileName, Status, Stop, fetch};
 use ddc_base::{Bytes, Shelf};
 use report::{CompareLine, Report, ReportRefusal};
 use std::alloc::Global;
@@ -28,30 +29,44 @@ pub fn fetch_report<S: Shelf>(
     ensures obtained { Obtains (needs_report file.now) (S.state shelf.old) (S.state shelf.new) result }
     ensures report { IfOk result IsReport }
 {
+    fetch_report_after(alloc, shelf, file, &[])
+}
+
+/// The same, where what is said of a file that is no report stands after `front`.
+pub fn fetch_report_after<S: Shelf>(
+    alloc: Global,
+    shelf: &mut S,
+    file: &FileName<'_>,
+    front: &[u8],
+) -> Result<Report, Stop>
+    ensures obtained { Obtains (needs_report_after front.now file.now) (S.state shelf.old) (S.state shelf.new) result }
+    ensures report { IfOk result IsReport }
+{
     let bytes = fetch(alloc, shelf, file, REPORT_LIMIT)?;
-    read(alloc, bytes)
+    read(alloc, bytes, front)
 }
 
 /// Reads a report, and lets its text go.
-fn read(alloc: Global, bytes: Bytes) -> Result<Report, Stop>
-    ensures obtained { (shelf : ShelfState) → Obtains (unless_refused (report_of bytes) (λ number. answers ReportRefused (report_line number)))
+fn read(alloc: Global, bytes: Bytes, front: &[u8]) -> Result<Report, Stop>
+    ensures obtained { (shelf : ShelfState) → Obtains (unless_refused (report_of bytes) (λ number. answers ReportRefused (front.now ++ report_line number)))
         shelf shelf result }
     ensures report { IfOk result IsReport }
 {
     match report::read(alloc, bytes.as_slice()) {
         Ok(report) => Ok(report),
-        Err(ReportRefusal::Form(number)) => Err(Stop::Answered(refused(alloc, number)?)),
+        Err(ReportRefusal::Form(number)) => Err(Stop::Answered(refused(alloc, number, front)?)),
         Err(ReportRefusal::OutOfMemory) => Err(Stop::OutOfMemory),
     }
 }
 
-/// The answer to a file that is no report, from this line on.
-fn refused(alloc: Global, number: u64) -> Result<Answer, Stop>
-    ensures { Says (answers ReportRefused (report_line number)) result }
+/// The answer to a file that is no report, from this line on, after `front`.
+fn refused(alloc: Global, number: u64, front: &[u8]) -> Result<Answer, Stop>
+    ensures { Says (answers ReportRefused (front.now ++ report_line number)) result }
 {
+    let line = command_plan::texts::report(alloc, number)?;
     Ok(Answer {
         status: Status::ReportRefused,
-        text: texts::report(alloc, number)?,
+        text: texts::after(alloc, front, line.as_slice())?,
     })
 }
 

@@ -10,6 +10,15 @@ use recipe::{Key, Place, RecipeRefusal};
 use report::{CompareLine, Compared};
 use std::alloc::Global;
 
+/// A text after what stands in front of it.
+pub fn after(alloc: Global, front: &[u8], text: &[u8]) -> Result<Bytes, OutOfMemory>
+    ensures { IfOk result (λ whole. whole ≡ front.now ++ text.now) }
+{
+    let mut whole = Bytes::from_slice(alloc, front)?;
+    whole.extend(text)?;
+    Ok(whole)
+}
+
 /// A file is no recipe.
 #[tactic(auto, unfolding(crate::specs::Texts::recipe_line))]
 pub fn recipe_line(alloc: Global, refusal: RecipeRefusal) -> Result<Bytes, OutOfMemory>

@@ -8,3 +8,4 @@ mod FilePlaces
 mod FileWords
 mod ScriptEnds
 mod PlaceSteps
+mod Worded

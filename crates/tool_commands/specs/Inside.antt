@@ -2,3 +2,4 @@
 pub mod Refusing
 pub mod Placing
 pub mod Listing
+pub mod Words

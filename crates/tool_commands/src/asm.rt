@@ -1,113 +1,44 @@
 //! `asm LANG BASE SOURCE OUT`: what a source comes to is saved.
 
-ghost use Rattle.std.specs.Prelude.{◌≡◌, ◌≤◌, ◌^◌, IfOk, IfSome, if◌then◌else◌, map};
-ghost use Rattle.ddc_base.specs.Languages.Words.{language_named};
-ghost use Rattle.ddc_base.specs.Outside.{IsFileName, ShelfState};
+ghost use Rattle.std.specs.Prelude.{◌≡◌, ◌≤◌, ◌^◌, IfOk, map};
+ghost use Rattle.ddc_base.specs.Outside.{ShelfState};
 ghost use Rattle.command_plan.specs.declared.status.Status.TheVariants.{CheckFailed};
 ghost use Rattle.command_plan.specs.Performs.{Performs};
 ghost use Rattle.command_plan.specs.Plan.{answers};
 ghost use Rattle.command_plan.specs.Steps.{Obtains, Says};
-ghost use Rattle.command_plan.specs.Words.{are_two_files, or_usage, usage};
-ghost use Rattle.tool_commands.specs.Asm.{made_line, refused_line, as_base, needs_items, needs_made, needs_value, asm_files, asm_plan};
+ghost use Rattle.tool_commands.specs.Asm.{made_line, refused_line, needs_items, needs_made, needs_value, asm_files, asm_plan};
 ghost use Rattle.tool_commands.specs.Inside.Refusing.{Refuses, RefusesM1};
 
-use command_plan::words::are_two_files;
-use command_plan::{Answer, FileName, Status, Stop, fetch_file, keep, usage};
+use crate::words::AsmWords;
+use command_plan::{Answer, Status, Stop, fetch_file, keep, usage};
 use ddc_base::languages::Language;
-use ddc_base::{Bytes, OutOfMemory, Shelf, read_decimal};
+use ddc_base::{Bytes, OutOfMemory, Shelf};
 use hex_langs::items::{HexRefusal, Items};
 use hex_langs::link::{HexLanguage, value};
 use m1_lang::{M1Refusal, expand, write_items};
 use std::alloc::Global;
 
-/// The greatest base: 2^37.
-const GREATEST_BASE: u64 = 137_438_953_472;
-
 /// Performs the command on the words after its name.
-#[tactic(auto, using(command_plan::proofs::Performing::performing))]
 pub fn perform<S: Shelf>(alloc: Global, words: &[&str], shelf: &mut S) -> Result<Answer, Stop>
     ensures { Performs (asm_plan (map (λ w. w.now) words.now)) (S.state shelf.old) (S.state shelf.new) result }
 {
-    match words {
-        [language, base, source, out] => on_words(alloc, shelf, language, base, source, out),
-        _ => usage(alloc),
-    }
-}
-
-/// The command on four words.
-#[tactic(auto, using(command_plan::proofs::Performing::performing))]
-fn on_words<S: Shelf>(
-    alloc: Global,
-    shelf: &mut S,
-    language: &str,
-    base: &str,
-    source: &str,
-    out: &str,
-) -> Result<Answer, Stop>
-    ensures { Performs (or_usage (language_named language.now) (λ named. or_usage (as_base base.now) (λ address.
-        if are_two_files source.now out.now then asm_files named address source.now out.now else usage))) (S.state shelf.old) (S.state shelf.new) result }
-{
-    match Language::named(language.as_bytes()) {
-        Some(language) => in_language(alloc, shelf, language, base, source, out),
-        None => usage(alloc),
-    }
-}
-
-/// The command on a language and three words.
-#[tactic(auto, using(command_plan::proofs::Performing::performing))]
-fn in_language<S: Shelf>(
-    alloc: Global,
-    shelf: &mut S,
-    language: Language,
-    base: &str,
-    source: &str,
-    out: &str,
-) -> Result<Answer, Stop>
-    ensures { Performs (or_usage (as_base base.now) (λ address. if are_two_files source.now out.now then asm_files language address source.now out.now else usage))
-        (S.state shelf.old) (S.state shelf.new) result }
-{
-    match base_of(base) {
-        Some(base) if are_two_files(source, out) => asm(alloc, shelf, language, base, source, out),
-        _ => usage(alloc),
-    }
-}
-
-/// A base, from 0 to 2^37.
-#[tactic(auto, unfolding(crate::specs::Asm::as_base))]
-fn base_of(word: &str) -> Option<u64>
-    ensures value { result ≡ as_base word.now }
-    ensures within { IfSome result (λ base. base ≤ 2 ^ 37) }
-{
-    let base = read_decimal(word.as_bytes())?;
-    if base <= GREATEST_BASE {
-        Some(base)
-    } else {
-        None
-    }
+    let Some(words) = AsmWords::read(words) else {
+        return usage(alloc);
+    };
+    asm(alloc, shelf, &words)
 }
 
 /// The command on a language, a base and two files.
-#[tactic(auto, using(command_plan::proofs::Obtaining::obtaining), unfolding(crate::specs::Asm::asm_files))]
-fn asm<S: Shelf>(
-    alloc: Global,
-    shelf: &mut S,
-    language: Language,
-    base: u64,
-    source: &str,
-    out: &str,
-) -> Result<Answer, Stop>
-    requires base { base ≤ 2 ^ 37 }
-    requires source { IsFileName source.now }
-    requires out { IsFileName out.now }
-    ensures { Performs (asm_files language base source.now out.now) (S.state shelf.old) (S.state shelf.new) result }
+fn asm<S: Shelf>(alloc: Global, shelf: &mut S, words: &AsmWords<'_>) -> Result<Answer, Stop>
+    ensures { Performs (asm_files words.now.language words.now.base words.now.source words.now.out) (S.state shelf.old) (S.state shelf.new) result }
 {
-    let text = fetch_file(alloc, shelf, &FileName::of(source))?;
-    let made = make(alloc, language, base, text.as_slice())?;
+    let text = fetch_file(alloc, shelf, &words.source)?;
+    let made = make(alloc, words.language, words.base.address(), text.as_slice())?;
     let answer = Answer {
         status: Status::Yes,
         text: made_text(alloc, made.len())?,
     };
-    keep(alloc, shelf, &FileName::of(out), made.as_slice(), answer)
+    keep(alloc, shelf, &words.out, made.as_slice(), answer)
 }
 
 /// What a source comes to, or what ends the command.

@@ -3,7 +3,6 @@
 ghost use Rattle.std.specs.Prelude.{◌≡◌, ◌+◌, ◌*◌, ◌<◌, ◌^◌, ◌++◌, ◌∷◌, [], IfOk, OnOk, length, map};
 ghost use Rattle.byteorder.specs.Endian.{little_number};
 ghost use Rattle.rv64_decode.specs.Decode.{decoded};
-ghost use Rattle.ddc_base.specs.Outside.{IsFileName};
 ghost use Rattle.command_plan.specs.declared.status.Status.TheVariants.{Yes};
 ghost use Rattle.command_plan.specs.Performs.{Performs};
 ghost use Rattle.command_plan.specs.Steps.{Says};
@@ -12,7 +11,6 @@ ghost use Rattle.command_plan.specs.Causes.Texts.{hex_word};
 ghost use Rattle.tool_commands.specs.List.{instruction_text, word_line, rest_line, listing, list_file, list_plan};
 
 use byteorder::{BigEndian, ByteOrder, LittleEndian};
-use command_plan::words::is_file_word;
 use command_plan::{Answer, FileName, Status, Stop, fetch, usage};
 use ddc_base::{Bytes, OutOfMemory, Shelf};
 use rv64_decode::{decode, print};
@@ -26,19 +24,21 @@ const LIST_LIMIT: u64 = 16_777_216;
 pub fn perform<S: Shelf>(alloc: Global, words: &[&str], shelf: &mut S) -> Result<Answer, Stop>
     ensures { Performs (list_plan (map (λ w. w.now) words.now)) (S.state shelf.old) (S.state shelf.new) result }
 {
-    match words {
-        [binary] if is_file_word(binary) => list(alloc, shelf, binary),
-        _ => usage(alloc),
-    }
+    let [binary] = words else {
+        return usage(alloc);
+    };
+    let Some(binary) = FileName::read(binary) else {
+        return usage(alloc);
+    };
+    list(alloc, shelf, &binary)
 }
 
 /// The command on a file.
 #[tactic(auto, using(command_plan::proofs::Performing::performing), unfolding(crate::specs::List::list_file))]
-fn list<S: Shelf>(alloc: Global, shelf: &mut S, binary: &str) -> Result<Answer, Stop>
-    requires { IsFileName binary.now }
+fn list<S: Shelf>(alloc: Global, shelf: &mut S, binary: &FileName<'_>) -> Result<Answer, Stop>
     ensures { Performs (list_file binary.now) (S.state shelf.old) (S.state shelf.new) result }
 {
-    let bytes = fetch(alloc, shelf, &FileName::of(binary), LIST_LIMIT)?;
+    let bytes = fetch(alloc, shelf, binary, LIST_LIMIT)?;
     listed(alloc, bytes.as_slice())
 }
 

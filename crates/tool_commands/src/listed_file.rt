@@ -46,8 +46,7 @@ impl Listed for FileLine {
         }
         match ListedWord::read(alloc, line)? {
             Some(word) => {
-                // What a word keeps is told by a call of its own.
-                word.as_str();
+                word.show_listed();
                 Ok(Some(FileLine { word }))
             }
             None => Ok(None),

@@ -1,9 +1,6 @@
 //! `run PROGRAM STEPS ARG..`: how the program's run ends within so many steps, and what it leaves.
 
-ghost use Rattle.std.specs.Prelude.{◌≡◌, ◌≤◌, ◌<◌, ◌+◌, ◌^◌, ◌∷◌, IfOk, IsTrue, map};
-ghost use Rattle.std.specs.List.{list_all};
-ghost use Rattle.ddc_base.specs.Outside.{IsFileName};
-ghost use Rattle.guest_run.specs.Setting.{is_text, IsText};
+ghost use Rattle.std.specs.Prelude.{◌≡◌, ◌≤◌, ◌<◌, ◌+◌, ◌^◌, ◌∷◌, IfOk, map};
 ghost use Rattle.guest_run.specs.Run.{first_end};
 ghost use Rattle.guest_run.specs.Start.{start_of};
 ghost use Rattle.command_plan.specs.Performs.{Performs};
@@ -12,8 +9,7 @@ ghost use Rattle.command_plan.specs.Plan.{answers};
 ghost use Rattle.tool_commands.specs.RunProgram.{setting_of, exited_text, end_plan, start_plan, status_of, run_file, run_plan};
 
 use crate::run_texts;
-use crate::words::are_run_words;
-use command_plan::words::steps_of;
+use crate::words::{Args, RunWords};
 use command_plan::{Answer, FileName, Status, Stop, fetch_file, usage};
 use ddc_base::{OutOfMemory, Shelf};
 use guest_run::{Guest, RunBox, RunEnd, RunRam, StartRefusal};
@@ -24,55 +20,30 @@ use std::alloc::Global;
 const HEAP: u64 = 536_870_912;
 
 /// Performs the command on the words after its name.
-#[tactic(auto, using(command_plan::proofs::Performing::performing))]
 pub fn perform<S: Shelf>(alloc: Global, words: &[&str], shelf: &mut S) -> Result<Answer, Stop>
     ensures { Performs (run_plan (map (λ w. w.now) words.now)) (S.state shelf.old) (S.state shelf.new) result }
 {
-    let [program, steps, args @ ..] = words else {
+    let Some(words) = RunWords::read(words) else {
         return usage(alloc);
     };
-    match steps_of(steps) {
-        Some(most) if are_run_words(program, args) => run(alloc, shelf, program, args, most),
-        _ => usage(alloc),
-    }
+    run(alloc, shelf, &words)
 }
 
 /// The command on a program, its arguments and a number of steps.
 #[tactic(auto, using(command_plan::proofs::Performing::performing), unfolding(crate::specs::RunProgram::run_file))]
-fn run<S: Shelf>(
-    alloc: Global,
-    shelf: &mut S,
-    program: &str,
-    args: &[&str],
-    most: u64,
-) -> Result<Answer, Stop>
-    requires name { IsFileName program.now }
-    requires text { IsText program.now }
-    requires texts { IsTrue (list_all (λ w. is_text w.now) args.now) }
-    requires some { 1 ≤ most }
-    requires few { most ≤ 2 ^ 48 }
-    ensures { Performs (run_file program.now (map (λ w. w.now) args.now) most) (S.state shelf.old) (S.state shelf.new) result }
+fn run<S: Shelf>(alloc: Global, shelf: &mut S, words: &RunWords<'_>) -> Result<Answer, Stop>
+    ensures { Performs (run_file words.now.program words.now.args words.now.steps) (S.state shelf.old) (S.state shelf.new) result }
 {
-    let bytes = fetch_file(alloc, shelf, &FileName::of(program))?;
-    start(alloc, program, bytes.as_slice(), args, most)
+    let bytes = fetch_file(alloc, shelf, &words.program)?;
+    start(alloc, bytes.as_slice(), words)
 }
 
 /// Starts a program with its name and the arguments, and runs it.
-fn start(
-    alloc: Global,
-    name: &str,
-    program: &[u8],
-    args: &[&str],
-    most: u64,
-) -> Result<Answer, Stop>
-    requires text { IsText name.now }
-    requires texts { IsTrue (list_all (λ w. is_text w.now) args.now) }
-    requires some { 1 ≤ most }
-    requires few { most ≤ 2 ^ 48 }
-    ensures { Says (start_plan (start_of program.now (setting_of (name.now ∷ map (λ w. w.now) args.now))) most) result }
+fn start(alloc: Global, program: &[u8], words: &RunWords<'_>) -> Result<Answer, Stop>
+    ensures { Says (start_plan (start_of program.now (setting_of (words.now.program ∷ words.now.args))) words.now.steps) result }
 {
-    let setting = box_of(alloc, name, args)?;
-    start_in(alloc, program, &setting, most)
+    let setting = box_of(alloc, &words.program, &words.args)?;
+    start_in(alloc, program, &setting, words.steps.count())
 }
 
 /// Starts a program with what it is given, and runs it.
@@ -91,15 +62,18 @@ fn start_in(alloc: Global, program: &[u8], setting: &RunBox, most: u64) -> Resul
 }
 
 /// What a program is given: its name and the arguments, and nothing else.
-#[tactic(auto, using(crate::proofs::Arguments::text_at))]
-fn box_of<'a>(alloc: Global, name: &'a str, args: &'a [&'a str]) -> Result<RunBox<'a>, OutOfMemory>
-    requires text { IsText name.now }
-    requires texts { IsTrue (list_all (λ w. is_text w.now) args.now) }
-    ensures { IfOk result (λ given. given ≡ setting_of (name.now ∷ map (λ w. w.now) args.now)) }
+#[tactic(auto, using(crate::proofs::Arguments::text_at, crate::proofs::Arguments::text_of_name))]
+fn box_of<'a>(
+    alloc: Global,
+    name: &'a FileName<'a>,
+    args: &'a Args<'a>,
+) -> Result<RunBox<'a>, OutOfMemory>
+    ensures { IfOk result (λ given. given ≡ setting_of (name.now ∷ args.now)) }
 {
+    let words = args.words();
     let mut given = RunBox::new(alloc, HEAP);
-    given.push_arg(name.as_bytes())?;
-    for arg in args {
+    given.push_arg(name.text().as_bytes())?;
+    for arg in words {
         given.push_arg(arg.as_bytes())?;
     }
     Ok(given)

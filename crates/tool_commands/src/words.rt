@@ -1,22 +1,158 @@
-//! The words that a run is given.
+//! The words of the commands, each set of them as one value.
 
-ghost use Rattle.std.specs.Prelude.{◌≡◌, IsTrue, map};
+ghost use Rattle.std.specs.Prelude.{◌≡◌, ◌≤◌, ◌^◌, IfSome, IsTrue, map};
 ghost use Rattle.std.specs.List.{list_all};
-ghost use Rattle.ddc_base.specs.Outside.{IsFileName};
 ghost use Rattle.guest_run.specs.Setting.{is_text};
-ghost use Rattle.tool_commands.specs.RunProgram.{are_run_words};
+ghost use Rattle.tool_commands.specs.Asm.{as_base};
+ghost use Rattle.tool_commands.specs.Inside.Words.{as_args, asm_words, hex0_words, run_words};
 
-use command_plan::words::{has_no_zero_byte, is_file_word};
+use command_plan::words::has_no_zero_byte;
+use command_plan::{FileName, StepCount, two_files};
+use ddc_base::languages::Language;
+use ddc_base::read_decimal;
+use std::marker::Model;
 
-/// Whether words can name a program and its arguments.
-#[tactic(auto, using(crate::proofs::Arguments::texts_of_words))]
-pub(crate) fn are_run_words(program: &str, args: &[&str]) -> bool
-    ensures value { result ≡ are_run_words program.now (map (λ w. w.now) args.now) }
-    ensures file { IsTrue result → IsFileName program.now }
-    ensures text { IsTrue result → IsTrue (is_text program.now) }
-    ensures texts { IsTrue result → IsTrue (list_all (λ w. is_text w.now) args.now) }
+/// The greatest base: 2^37.
+const GREATEST_BASE: u64 = 137_438_953_472;
+
+/// A source, and a binary that is compared with its value. They may be one file.
+#[derive(Drop)]
+pub(crate) struct Hex0Words<'w> {
+    pub source: FileName<'w>,
+    pub binary: FileName<'w>,
+}
+
+impl<'w> Hex0Words<'w> {
+    /// The words `SOURCE BINARY`, and `None` for every other.
+    pub(crate) fn read(words: &[&'w str]) -> Option<Hex0Words<'w>>
+        ensures { result ≡ hex0_words (map (λ w. w.now) words.now) }
+    {
+        let [source, binary] = words else {
+            return None;
+        };
+        let source = FileName::read(source)?;
+        let binary = FileName::read(binary)?;
+        Some(Hex0Words { source, binary })
+    }
+}
+
+/// The address at which a source's bytes begin, from 0 to 2^37. Contracts see the number.
+#[derive(Clone, Copy)]
+pub(crate) struct Base {
+    address: u64,
+}
+
+impl Model for Base {
+    ghost use Rattle.std.specs.Prelude.{ℕ, ◌≤◌, ◌^◌};
+
+    ghost Value = { ℕ };
+
+    ghost view = { λ base. base.address };
+
+    ghost invariant = { λ base. base.address ≤ 2 ^ 37 };
+
+    ghost inverse = { λ address. record { address = address } };
+}
+
+impl Base {
+    /// The base that a word is, and `None` for every other word.
+    fn read(word: &str) -> Option<Base>
+        ensures { result ≡ as_base word.now }
+    {
+        let address = base_of(word)?;
+        Some(Base { address })
+    }
+
+    /// The address.
+    pub(crate) fn address(self) -> u64
+        ensures value { result ≡ self }
+        ensures most { self ≤ 2 ^ 37 }
+    {
+        self.address
+    }
+}
+
+/// A base, from 0 to 2^37.
+#[tactic(auto, unfolding(crate::specs::Asm::as_base))]
+fn base_of(word: &str) -> Option<u64>
+    ensures value { result ≡ as_base word.now }
+    ensures within { IfSome result (λ base. base ≤ 2 ^ 37) }
 {
-    is_file_word(program) && are_texts(args)
+    let base = read_decimal(word.as_bytes())?;
+    if base <= GREATEST_BASE {
+        Some(base)
+    } else {
+        None
+    }
+}
+
+/// A source in a language, the base of its value, and the file in which that is saved.
+#[derive(Drop)]
+pub(crate) struct AsmWords<'w> {
+    pub language: Language,
+    pub base: Base,
+    pub source: FileName<'w>,
+    pub out: FileName<'w>,
+}
+
+impl<'w> AsmWords<'w> {
+    /// The words `LANG BASE SOURCE OUT`, and `None` for every other.
+    pub(crate) fn read(words: &[&'w str]) -> Option<AsmWords<'w>>
+        ensures { result ≡ asm_words (map (λ w. w.now) words.now) }
+    {
+        let [language, base, source, out] = words else {
+            return None;
+        };
+        let language = Language::named(language.as_bytes())?;
+        let base = Base::read(base)?;
+        let (source, out) = two_files(source, out)?;
+        Some(AsmWords {
+            language,
+            base,
+            source,
+            out,
+        })
+    }
+}
+
+/// Words that a program can be given as its arguments: none has a zero byte. Contracts see their bytes.
+#[derive(Drop)]
+pub(crate) struct Args<'w> {
+    words: &'w [&'w str],
+}
+
+impl<'w> Model for Args<'w> {
+    ghost use Rattle.std.specs.Prelude.{List, ℕ, IsTrue, map};
+    ghost use Rattle.std.specs.List.{list_all};
+    ghost use Rattle.guest_run.specs.Setting.{is_text};
+
+    ghost Value = { List (List ℕ) };
+
+    ghost view = { λ args. map (λ w. w.now) args.words.now };
+
+    ghost invariant = { λ args. IsTrue (list_all (λ w. is_text w.now) args.words.now) };
+}
+
+impl<'w> Args<'w> {
+    /// The arguments that words are, and `None` where one of them has a zero byte.
+    #[tactic(auto, using(crate::proofs::Arguments::texts_of_words))]
+    fn read(words: &'w [&'w str]) -> Option<Args<'w>>
+        ensures { result ≡ as_args (map (λ w. w.now) words.now) }
+    {
+        if are_texts(words) {
+            Some(Args { words })
+        } else {
+            None
+        }
+    }
+
+    /// The words.
+    pub(crate) fn words(&self) -> &'w [&'w str]
+        ensures value { map (λ w. w.now) result.now ≡ self.now }
+        ensures texts { IsTrue (list_all (λ w. is_text w.now) result.now) }
+    {
+        self.words
+    }
 }
 
 /// Whether none of these words has a zero byte.
@@ -24,4 +160,31 @@ fn are_texts(words: &[&str]) -> bool
     ensures { result ≡ list_all (λ w. is_text w.now) words.now }
 {
     words.iter().all(|word| has_no_zero_byte(word))
+}
+
+/// A program, the most steps of its run, and its arguments.
+#[derive(Drop)]
+pub(crate) struct RunWords<'w> {
+    pub program: FileName<'w>,
+    pub steps: StepCount,
+    pub args: Args<'w>,
+}
+
+impl<'w> RunWords<'w> {
+    /// The words `PROGRAM STEPS ARG..`, and `None` for every other.
+    pub(crate) fn read(words: &'w [&'w str]) -> Option<RunWords<'w>>
+        ensures { result ≡ run_words (map (λ w. w.now) words.now) }
+    {
+        let [program, steps, args @ ..] = words else {
+            return None;
+        };
+        let program = FileName::read(program)?;
+        let steps = StepCount::read(steps)?;
+        let args = Args::read(args)?;
+        Some(RunWords {
+            program,
+            steps,
+            args,
+        })
+    }
 }

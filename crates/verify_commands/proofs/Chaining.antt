@@ -22,7 +22,6 @@ use Rattle.command_plan.proofs.Performing.{says, wants_memory}
 use Rattle.recipe_plan.specs.Texts.{compared_lines}
 use Rattle.verify_commands.specs.declared.pair.Pair.{Pair}
 use Rattle.verify_commands.specs.Chain.{chained, needs_audit, needs_true, room_after}
-use Rattle.verify_commands.specs.ChainTexts.{audit_line}
 use Rattle.verify_commands.specs.Inside.Ends.{EndsWith}
 use Rattle.verify_commands.specs.Texts.{refuted_line}
 
@@ -66,28 +65,28 @@ all_done plan old now pairs links room index leads past result said =
 
 -- ---- the judgement of one audit
 
-module _ (number : ℕ) (lines : List CompareLine) where
-  yes_goes : (fault : Option (Part × ℕ)) → Judges fault lines verdict.Yes → (next : Unit {0} → Plan) → needs_true number lines fault next ≡ next tt
+module _ (front : List ℕ) (lines : List CompareLine) where
+  yes_goes : (fault : Option (Part × ℕ)) → Judges fault lines verdict.Yes → (next : Unit {0} → Plan) → needs_true front lines fault next ≡ next tt
   unfolding needs_true
   yes_goes None judged next = by (all_equal lines) judged where
     by : (equal : Bool) → verdict.Yes ≡ (if equal then verdict.Yes else verdict.TrueButDiffers)
-        → (if equal then next tt else answers status.Differs (audit_line number ++ compared_lines lines)) ≡ next tt
+        → (if equal then next tt else answers status.Differs (front ++ compared_lines lines)) ≡ next tt
     by true is = refl
     by false is = absurd cc
   yes_goes (Some (part, place)) judged next = absurd cc
 
   differs_goes : (fault : Option (Part × ℕ)) → Judges fault lines verdict.TrueButDiffers → (next : Unit {0} → Plan)
-      → needs_true number lines fault next ≡ answers status.Differs (audit_line number ++ compared_lines lines)
+      → needs_true front lines fault next ≡ answers status.Differs (front ++ compared_lines lines)
   unfolding needs_true
   differs_goes None judged next = by (all_equal lines) judged where
     by : (equal : Bool) → verdict.TrueButDiffers ≡ (if equal then verdict.Yes else verdict.TrueButDiffers)
-        → (if equal then next tt else answers status.Differs (audit_line number ++ compared_lines lines)) ≡ answers status.Differs (audit_line number ++ compared_lines lines)
+        → (if equal then next tt else answers status.Differs (front ++ compared_lines lines)) ≡ answers status.Differs (front ++ compared_lines lines)
     by true is = absurd cc
     by false is = refl
   differs_goes (Some (part, place)) judged next = absurd cc
 
   refuted_goes : (fault : Option (Part × ℕ)) (part : Part) (place : ℕ) → Judges fault lines (verdict.Refuted part place) → (next : Unit {0} → Plan)
-      → needs_true number lines fault next ≡ answers status.Refuted (audit_line number ++ refuted_line part place)
+      → needs_true front lines fault next ≡ answers status.Refuted (front ++ refuted_line part place)
   unfolding needs_true
   refuted_goes None part place judged next = absurd (never (all_equal lines) judged) where
     never : (equal : Bool) → verdict.Refuted part place ≡ (if equal then verdict.Yes else verdict.TrueButDiffers) → ⊥
@@ -96,10 +95,10 @@ module _ (number : ℕ) (lines : List CompareLine) where
   refuted_goes (Some (first, at)) part place judged next =
       let part_is : first ≡ part = cc in
       let place_is : at ≡ place = cc in
-      λ i. answers status.Refuted (audit_line number ++ refuted_line (part_is i) (place_is i))
+      λ i. answers status.Refuted (front ++ refuted_line (part_is i) (place_is i))
 
-  pub yes_leads : (fault : Option (Part × ℕ)) → Judges fault lines verdict.Yes → (shelf : ShelfState) → Obtains (needs_true number lines fault) shelf shelf (Ok tt)
-  yes_leads fault judged shelf = leads (needs_true number lines fault) shelf tt (yes_goes fault judged)
+  pub yes_leads : (fault : Option (Part × ℕ)) → Judges fault lines verdict.Yes → (shelf : ShelfState) → Obtains (needs_true front lines fault) shelf shelf (Ok tt)
+  yes_leads fault judged shelf = leads (needs_true front lines fault) shelf tt (yes_goes fault judged)
 
 -- an answer that ends the command, or want of memory before it was made
 ends_so : (plan : (Unit {0} → Plan) → Plan) (given : Status) (text : List ℕ) → ((next : Unit {0} → Plan) → plan next ≡ answers given text) → (shelf : ShelfState) (said : Result Answer Stop)
@@ -108,14 +107,14 @@ ends_so plan given text is shelf (Ok answer) result said ends =
     subst (Obtains plan shelf shelf) (sym ends) (answers_at_once plan shelf answer (λ next. is next ∙ said.by_result))
 ends_so plan given text is shelf (Err ending) result said ends = subst (Obtains plan shelf shelf) (sym ends) (wants_as plan shelf ending said.by_result)
 
-pub differs_ends : (number : ℕ) (lines : List CompareLine) (fault : Option (Part × ℕ)) → Judges fault lines verdict.TrueButDiffers → (shelf : ShelfState) (said : Result Answer Stop)
-    (result : Result (Unit {0}) Stop) → Says (answers status.Differs (audit_line number ++ compared_lines lines)) said → EndsWith said result
-    → Obtains (needs_true number lines fault) shelf shelf result
-differs_ends number lines fault judged shelf said result says_so ends =
-    ends_so (needs_true number lines fault) status.Differs (audit_line number ++ compared_lines lines) (differs_goes number lines fault judged) shelf said result says_so ends
+pub differs_ends : (front : List ℕ) (lines : List CompareLine) (fault : Option (Part × ℕ)) → Judges fault lines verdict.TrueButDiffers → (shelf : ShelfState) (said : Result Answer Stop)
+    (result : Result (Unit {0}) Stop) → Says (answers status.Differs (front ++ compared_lines lines)) said → EndsWith said result
+    → Obtains (needs_true front lines fault) shelf shelf result
+differs_ends front lines fault judged shelf said result says_so ends =
+    ends_so (needs_true front lines fault) status.Differs (front ++ compared_lines lines) (differs_goes front lines fault judged) shelf said result says_so ends
 
-pub refuted_ends : (number : ℕ) (lines : List CompareLine) (fault : Option (Part × ℕ)) (part : Part) (place : ℕ) → Judges fault lines (verdict.Refuted part place) → (shelf : ShelfState)
-    (said : Result Answer Stop) (result : Result (Unit {0}) Stop) → Says (answers status.Refuted (audit_line number ++ refuted_line part place)) said → EndsWith said result
-    → Obtains (needs_true number lines fault) shelf shelf result
-refuted_ends number lines fault part place judged shelf said result says_so ends =
-    ends_so (needs_true number lines fault) status.Refuted (audit_line number ++ refuted_line part place) (refuted_goes number lines fault part place judged) shelf said result says_so ends
+pub refuted_ends : (front : List ℕ) (lines : List CompareLine) (fault : Option (Part × ℕ)) (part : Part) (place : ℕ) → Judges fault lines (verdict.Refuted part place) → (shelf : ShelfState)
+    (said : Result Answer Stop) (result : Result (Unit {0}) Stop) → Says (answers status.Refuted (front ++ refuted_line part place)) said → EndsWith said result
+    → Obtains (needs_true front lines fault) shelf shelf result
+refuted_ends front lines fault part place judged shelf said result says_so ends =
+    ends_so (needs_true front lines fault) status.Refuted (front ++ refuted_line part place) (refuted_goes front lines fault part place judged) shelf said result says_so ends

@@ -2,3 +2,4 @@ mod Chaining
 mod Cutting
 pub mod Judging
 mod Written
+mod Worded

@@ -2,22 +2,19 @@
 -- docs/reference/command-line.md and docs/reference/chain.md say the same for people.
 use Rattle.std.specs.Prelude.{ℕ, ◌+◌, ◌-◌, ◌==◌, Bool, Option, None, Some, List, [], ◌∷◌, ◌++◌, length, sum_by, if◌then◌else◌}
 use Rattle.std.specs.List.{before_first, after_first}
-use Rattle.recipe.specs.declared.contents.RecipeContents.{RecipeContents}
-use Rattle.recipe.specs.Reading.{recipe_of}
 use Rattle.report.specs.declared.types.CompareLine.{CompareLine}
-use Rattle.report.specs.declared.types.Report.{Report}
-use Rattle.report.specs.Reading.{report_of}
 use Rattle.audit_rules.specs.Bench.{all_equal}
 use Rattle.verifier.specs.declared.part.Part.{Part}
 use Rattle.verifier.specs.Faults.{first_fault}
 use Rattle.audit_chain.specs.declared.link.Link.{Link}
-use Rattle.command_plan.specs.declared.status.Status.TheVariants.{Yes, Refuted, Differs, RecipeRefused, ReportRefused, ListRefused}
+use Rattle.command_plan.specs.declared.status.Status.TheVariants.{Yes, Refuted, Differs, ListRefused}
 use Rattle.command_plan.specs.Lists.{listed_word, needs_list}
-use Rattle.command_plan.specs.Plan.{Plan, answers, needs, unless_refused}
-use Rattle.command_plan.specs.Texts.{list_line, report_line}
+use Rattle.command_plan.specs.Plan.{Plan, answers}
+use Rattle.command_plan.specs.Texts.{list_line}
 use Rattle.command_plan.specs.Words.{is_file_word, is_one_file, usage}
-use Rattle.recipe_plan.specs.Recipes.{needs_apart, needs_inputs_within}
-use Rattle.recipe_plan.specs.Texts.{compared_lines, recipe_line}
+use Rattle.recipe_plan.specs.Recipes.{needs_apart, needs_inputs_within, needs_recipe_after}
+use Rattle.recipe_plan.specs.Reports.{needs_report_after}
+use Rattle.recipe_plan.specs.Texts.{compared_lines}
 use Rattle.verify_commands.specs.declared.pair.Pair.{Pair}
 use Rattle.verify_commands.specs.Texts.{refuted_line}
 use Rattle.verify_commands.specs.ChainTexts.{audit_line, chain_text}
@@ -40,29 +37,22 @@ pair_of earlier line = both_words (listed_word (before_first is_space line)) (li
 unfoldable pub needs_two_files : Pair → (Unit {0} → Plan) → Plan
 needs_two_files pair next = if is_one_file pair.recipe pair.report then usage else next tt
 
-abbrev pub needs_recipe_of : ℕ → List ℕ → (RecipeContents → Plan) → Plan
-needs_recipe_of number file next =
-    needs file 1_048_576 (λ bytes. unless_refused (recipe_of bytes) (λ refusal. answers RecipeRefused (audit_line number ++ recipe_line refusal)) next)
-
-abbrev pub needs_report_of : ℕ → List ℕ → (Report → Plan) → Plan
-needs_report_of number file next =
-    needs file 1_073_741_824 (λ bytes. unless_refused (report_of bytes) (λ line. answers ReportRefused (audit_line number ++ report_line line)) next)
-
--- a report without a fault goes on, where all its comparisons are equal; else the comparisons are said, or the first part that is not true
-unfoldable pub needs_true : ℕ → List CompareLine → Option (Part × ℕ) → (Unit {0} → Plan) → Plan
-needs_true number lines None next = if all_equal lines then next tt else answers Differs (audit_line number ++ compared_lines lines)
-needs_true number lines (Some (part, place)) next = answers Refuted (audit_line number ++ refuted_line part place)
+-- a report without a fault goes on, where all its comparisons are equal; else the comparisons are said, or the first part that is not true,
+-- after `front`
+unfoldable pub needs_true : List ℕ → List CompareLine → Option (Part × ℕ) → (Unit {0} → Plan) → Plan
+needs_true front lines None next = if all_equal lines then next tt else answers Differs (front ++ compared_lines lines)
+needs_true front lines (Some (part, place)) next = answers Refuted (front ++ refuted_line part place)
 
 -- as `verify`: the recipe, a report that is none of its inputs, what the report says, the inputs, for which so many bytes are left, and then
 -- the judgement
 unfoldable pub needs_audit : ℕ → ℕ → Pair → (Link → Plan) → Plan
 needs_audit number room pair next =
     needs_two_files pair (λ _.
-    needs_recipe_of number pair.recipe (λ said.
+    needs_recipe_after (audit_line number) pair.recipe (λ said.
     needs_apart said pair.report (λ _.
-    needs_report_of number pair.report (λ made.
+    needs_report_after (audit_line number) pair.report (λ made.
     needs_inputs_within room said (λ inputs.
-    needs_true number made.compare (first_fault said inputs made) (λ _. next (record { recipe = said; inputs = inputs })))))))
+    needs_true (audit_line number) made.compare (first_fault said inputs made) (λ _. next (record { recipe = said; inputs = inputs })))))))
 
 -- ---- all of them
 

@@ -11,14 +11,12 @@ use ddc_base::{Bytes, Name, OutOfMemory};
 use std::alloc::Global;
 use wheeler::Assumption;
 
-/// A text after the line that says of which audit it is.
+/// What follows is said of the audit of this number.
 #[tactic(auto, unfolding(crate::specs::ChainTexts::audit_line))]
-pub fn of_audit(alloc: Global, number: u32, text: &[u8]) -> Result<Bytes, OutOfMemory>
-    ensures { IfOk result (λ whole. whole ≡ audit_line number ++ text.now) }
+pub fn audit(alloc: Global, number: u32) -> Result<Bytes, OutOfMemory>
+    ensures { IfOk result (λ text. text ≡ audit_line number) }
 {
-    let mut whole = Bytes::from_vec(format!(in alloc; "audit {number}\n")?.into_bytes());
-    whole.extend(text)?;
-    Ok(whole)
+    Ok(Bytes::from_vec(format!(in alloc; "audit {number}\n")?.into_bytes()))
 }
 
 /// All audits are true and equal: how many they are, and what remains to be believed.

@@ -1,31 +1,27 @@
 //! `verify RECIPE REPORT`: a report is judged by a replay.
 
-ghost use Rattle.std.specs.Prelude.{if◌then◌else◌, map, None};
-ghost use Rattle.ddc_base.specs.Outside.{IsFileName};
+ghost use Rattle.std.specs.Prelude.{map, None};
 ghost use Rattle.audit_rules.specs.Valid.{IsInputs};
 ghost use Rattle.command_plan.specs.declared.status.Status.TheVariants.{Refuted};
 ghost use Rattle.command_plan.specs.Performs.{Performs};
 ghost use Rattle.command_plan.specs.Plan.{answers};
 ghost use Rattle.command_plan.specs.Steps.{Says};
-ghost use Rattle.command_plan.specs.Words.{are_two_files, usage};
 ghost use Rattle.recipe_plan.specs.Recipes.{needs_apart, needs_inputs};
 ghost use Rattle.recipe_plan.specs.Reports.{needs_report};
 ghost use Rattle.verify_commands.specs.Verify.{judged_report, verified, verify_files, verify_plan};
 ghost use Rattle.verify_commands.specs.Texts.{refuted_line};
 
 use crate::texts;
-use command_plan::words::are_two_files;
 use command_plan::{Answer, FileName, Status, Stop, usage};
 use ddc_base::Shelf;
 use recipe::{Inputs, Recipe};
-use recipe_plan::{apart, compared_status, fetch_inputs, fetch_recipe, fetch_report};
+use recipe_plan::{AuditWords, apart, compared_status, fetch_inputs, fetch_recipe, fetch_report};
 use report::{CompareLine, Report};
 use std::alloc::Global;
 use verifier::{Part, Verdict};
 use wheeler::Meaning;
 
 /// Performs the command on the words after its name. It does the same whatever sources mean.
-#[tactic(auto, using(command_plan::proofs::Performing::performing))]
 pub fn perform<M: Meaning, S: Shelf>(
     alloc: Global,
     words: &[&str],
@@ -33,61 +29,40 @@ pub fn perform<M: Meaning, S: Shelf>(
 ) -> Result<Answer, Stop>
     ensures { Performs (verify_plan (map (λ w. w.now) words.now)) (S.state shelf.old) (S.state shelf.new) result }
 {
-    match words {
-        [recipe, report] => on_words::<M, S>(alloc, shelf, recipe, report),
-        _ => usage(alloc),
-    }
-}
-
-/// The command on two words.
-#[tactic(auto, using(command_plan::proofs::Performing::performing))]
-fn on_words<M: Meaning, S: Shelf>(
-    alloc: Global,
-    shelf: &mut S,
-    recipe: &str,
-    report: &str,
-) -> Result<Answer, Stop>
-    ensures { Performs (if are_two_files recipe.now report.now then verify_files recipe.now report.now else usage) (S.state shelf.old) (S.state shelf.new) result }
-{
-    if are_two_files(recipe, report) {
-        verify::<M, S>(alloc, shelf, recipe, report)
-    } else {
-        usage(alloc)
-    }
+    let Some(words) = AuditWords::read(words) else {
+        return usage(alloc);
+    };
+    verify::<M, S>(alloc, shelf, &words)
 }
 
 /// The command on two files.
 fn verify<M: Meaning, S: Shelf>(
     alloc: Global,
     shelf: &mut S,
-    recipe: &str,
-    report: &str,
+    words: &AuditWords<'_>,
 ) -> Result<Answer, Stop>
-    requires recipe { IsFileName recipe.now }
-    requires report { IsFileName report.now }
-    ensures { Performs (verify_files recipe.now report.now) (S.state shelf.old) (S.state shelf.new) result }
+    ensures { Performs (verify_files words.now.recipe words.now.report) (S.state shelf.old) (S.state shelf.new) result }
 {
-    let recipe = fetch_recipe(alloc, shelf, &FileName::of(recipe))?;
-    read_report::<M, S>(alloc, shelf, &recipe, report)
+    let recipe = fetch_recipe(alloc, shelf, &words.recipe)?;
+    on_recipe::<M, S>(alloc, shelf, &recipe, &words.report)
 }
 
-/// The command on a recipe, which it leaves to its caller to let go.
-fn read_report<M: Meaning, S: Shelf>(
+/// The command on a recipe, which its caller lets go.
+fn on_recipe<M: Meaning, S: Shelf>(
     alloc: Global,
     shelf: &mut S,
     recipe: &Recipe,
-    report: &str,
+    report: &FileName<'_>,
 ) -> Result<Answer, Stop>
-    requires { IsFileName report.now }
     ensures { Performs (needs_apart recipe.now report.now (λ _. needs_report report.now (λ made. needs_inputs recipe.now (λ inputs. verified recipe.now inputs made))))
         (S.state shelf.old) (S.state shelf.new) result }
 {
-    apart(alloc, recipe, &FileName::of(report))?;
-    let report = fetch_report(alloc, shelf, &FileName::of(report))?;
+    apart(alloc, recipe, report)?;
+    let report = fetch_report(alloc, shelf, report)?;
     replay::<M, S>(alloc, shelf, recipe, &report)
 }
 
-/// The command on a recipe and a report.
+/// The command on a recipe and a report, which its caller lets go.
 fn replay<M: Meaning, S: Shelf>(
     alloc: Global,
     shelf: &mut S,

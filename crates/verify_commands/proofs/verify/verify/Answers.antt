@@ -8,4 +8,4 @@ returns-in_err-recipe g c = ends_with c.from_residual.ensures.1 (ends_before c.i
 
 pub returns : goal.returns
 unfolding verify_files
-returns g c = goes_on_with c.in_ok-recipe.ensures c.read_report.ensures
+returns g c = goes_on_with c.in_ok-recipe.ensures c.on_recipe.ensures

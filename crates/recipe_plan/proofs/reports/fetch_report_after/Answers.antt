@@ -1,5 +1,5 @@
 use Rattle.command_plan.proofs.Obtaining.{and_then, stops_before, stops_with}
-use Rattle.recipe_plan.proofs.reports.fetch_report.Goals as goal
+use Rattle.recipe_plan.proofs.reports.fetch_report_after.Goals as goal
 
 pub returns-in_err-bytes-clause-obtained : goal.returns-in_err-bytes-clause-obtained
 returns-in_err-bytes-clause-obtained g c = stops_with c.from_residual.ensures.1 (stops_before c.in_err-bytes.ensures.obtained)

@@ -1,5 +1,5 @@
 use Rattle.command_plan.proofs.Obtaining.{ends_before, ends_with, goes_on_with}
-use Rattle.verify_commands.proofs.verify.read_report.Goals as goal
+use Rattle.verify_commands.proofs.verify.on_recipe.Goals as goal
 
 pub returns-in_err-apart : goal.returns-in_err-apart
 returns-in_err-apart g c = ends_with c.from_residual.ensures.1 (ends_before (c.in_err-apart.ensures _))

@@ -1,0 +1,67 @@
+-- The plans of the commands, over words that were read.
+use Rattle.std.proofs.Common.{◌≡◌, ℕ, ◌&&◌, Bool, true, false, Option, None, Some, List, [], ◌∷◌, refl}
+use Rattle.std.specs.Prelude.{if◌then◌else◌}
+use Rattle.std.specs.List.{list_all}
+use Rattle.ddc_base.specs.declared.languages.Language.{Language}
+use Rattle.ddc_base.specs.Languages.Words.{language_named}
+use Rattle.guest_run.specs.Setting.{is_text}
+use Rattle.command_plan.specs.Plan.{Plan}
+use Rattle.command_plan.specs.Words.{are_two_files, as_steps, is_file_word, or_usage, usage}
+use Rattle.tool_commands.specs.Asm.{as_base, asm_files, asm_plan}
+use Rattle.tool_commands.specs.Hex0.{hex0_files, hex0_plan}
+use Rattle.tool_commands.specs.Inside.Words.{asm_of, asm_words, hex0_of_names, hex0_words, run_of, run_words}
+use Rattle.tool_commands.specs.RunProgram.{run_file, run_plan}
+use Rattle.tool_commands.specs.declared.words.AsmWords.{AsmWords}
+use Rattle.tool_commands.specs.declared.words.Hex0Words.{Hex0Words}
+use Rattle.tool_commands.specs.declared.words.RunWords.{RunWords}
+
+-- ---- hex0
+
+abbrev pub over_hex0 : Hex0Words → Plan
+over_hex0 w = hex0_files w.source w.binary
+
+compared : (source binary : List ℕ) (first second : Bool)
+    → (if first && second then hex0_files source binary else usage)
+    ≡ or_usage (hex0_of_names (if first then Some source else None) (if second then Some binary else None)) over_hex0
+compared source binary true true = refl
+compared source binary true false = refl
+compared source binary false second = refl
+
+pub hex0s : (words : List (List ℕ)) → hex0_plan words ≡ or_usage (hex0_words words) over_hex0
+hex0s (source ∷ binary ∷ []) = compared source binary (is_file_word source) (is_file_word binary)
+hex0s _ = refl
+
+-- ---- asm
+
+abbrev pub over_asm : AsmWords → Plan
+over_asm w = asm_files w.language w.base w.source w.out
+
+made : (source out : List ℕ) (language : Option Language) (base : Option ℕ) (apart : Bool)
+    → or_usage language (λ named. or_usage base (λ address. if apart then asm_files named address source out else usage))
+    ≡ or_usage (asm_of language base (if apart then Some (source, out) else None)) over_asm
+made source out (Some language) (Some base) true = refl
+made source out (Some language) (Some base) false = refl
+made source out (Some language) None apart = refl
+made source out None base apart = refl
+
+pub asms : (words : List (List ℕ)) → asm_plan words ≡ or_usage (asm_words words) over_asm
+asms (language ∷ base ∷ source ∷ out ∷ []) = made source out (language_named language) (as_base base) (are_two_files source out)
+asms _ = refl
+
+-- ---- run
+
+abbrev pub over_run : RunWords → Plan
+over_run w = run_file w.program w.args w.steps
+
+ran : (program : List ℕ) (args : List (List ℕ)) (steps : Option ℕ) (named texts : Bool)
+    → or_usage steps (λ most. if named && texts then run_file program args most else usage)
+    ≡ or_usage (run_of (if named then Some program else None) steps (if texts then Some args else None)) over_run
+ran program args (Some steps) true true = refl
+ran program args (Some steps) true false = refl
+ran program args (Some steps) false texts = refl
+ran program args None true texts = refl
+ran program args None false texts = refl
+
+pub runs : (words : List (List ℕ)) → run_plan words ≡ or_usage (run_words words) over_run
+runs (program ∷ steps ∷ args) = ran program args (as_steps steps) (is_file_word program) (list_all is_text args)
+runs _ = refl
