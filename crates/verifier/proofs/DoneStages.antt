@@ -32,6 +32,7 @@ use Rattle.verifier.proofs.StageRules.{rules-of}
 use Rattle.verifier.specs.declared.part.Part.{Part}
 use Rattle.verifier.specs.declared.part.Part.TheVariants as part
 use Rattle.report.specs.Marks.{is_mark_of}
+use Rattle.verifier.specs.Verdicts.{CanCheck}
 use Rattle.verifier.specs.Faults.{checked_artefact, exit_of, has_left, left_at, made_as, recorded, replayed, size_of}
 
 -- the program ends by an exit with 0 at this step, and what it leaves has an artefact that is small enough and right
@@ -109,7 +110,7 @@ chained : {A B : Type 0} (r : Result A Part) (rest : A → Result B Part) (value
 chained (Ok found) rest value is = (found, refl, is)
 chained (Err why) rest value is = absurd cc
 
-there-is : {A : Type 0} (why : Part) (o : Option A) (value : A) → or_error why o ≡ Ok value → o ≡ Some value
+pub there-is : {A : Type 0} (why : Part) (o : Option A) (value : A) → or_error why o ≡ Ok value → o ≡ Some value
 there-is why None value is = absurd cc
 there-is {A = A} why (Some found) value is = ap (λ r. Some (value_of r)) is where
   value_of : Result A Part → A
@@ -214,6 +215,22 @@ judged recipe so_far stage line made is =
       run = ran start stage.steps line.steps world (there-is part.Run (left_at start stage.steps line.steps) world first.1);
       artefact = made-is so_far stage line world made (there-is part.Files (recorded so_far stage line world) second.0 second.1 ∙ ap Some third.1);
       right = ap (check_of recipe so_far stage) (sym third.1) ∙ third.0;
+    }
+
+-- what stands before the check of a line that is right
+pub can-check : (recipe : RecipeContents) (so_far : Contents) (stage : Stage) (line : StageLine) (made : List ℕ) → replayed recipe so_far stage line ≡ Ok made
+    → CanCheck recipe so_far stage line
+unfolding replayed
+can-check recipe so_far stage line made is =
+    let start = start_stage recipe so_far stage in
+    let first = chained (or_error part.Run (left_at start stage.steps line.steps))
+    (λ world. or_error part.Files (recorded so_far stage line world) >>= (λ found. checked_artefact found (check_of recipe so_far stage found))) made is in
+    let second = chained (or_error part.Files (recorded so_far stage line first.0)) (λ found. checked_artefact found (check_of recipe so_far stage found)) made first.2 in
+    record {
+      world = first.0;
+      ran = there-is part.Run (left_at start stage.steps line.steps) first.0 first.1;
+      made = second.0;
+      left = there-is part.Files (recorded so_far stage line first.0) second.0 second.1;
     }
 
 pub replayed-done : (recipe : RecipeContents) (inputs : List (List ℕ)) (done : List Finished) (stage : Stage) (line : StageLine) (made : List ℕ)

@@ -8,3 +8,4 @@ mod Placing
 mod Rightness
 mod StageRules
 pub mod ConclusionLemmas
+mod Wanting

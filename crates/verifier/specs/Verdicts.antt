@@ -1,16 +1,20 @@
 -- What a replay answers by the first fault of a report. docs/reference/verify.md says the same for people.
-use Rattle.std.specs.Prelude.{◌≡◌, ℕ, ◌-◌, ◌≤◌, true, Option, None, Some, Ok, List, [], ◌∷◌, length, take, if◌then◌else◌}
+use Rattle.std.specs.Prelude.{◌≡◌, ℕ, ◌-◌, ◌≤◌, true, Option, None, Some, Ok, IsOk, List, [], ◌∷◌, take, slice_get, if◌then◌else◌}
+use Rattle.elf_load.specs.Image.{image_of}
+use Rattle.mem_files.specs.World.{World}
+use Rattle.guest_run.specs.Start.{start_of}
 use Rattle.recipe.specs.declared.contents.RecipeContents.{RecipeContents}
 use Rattle.recipe.specs.declared.parts.Stage.{Stage}
 use Rattle.report.specs.declared.types.CompareLine.{CompareLine}
 use Rattle.report.specs.declared.types.Report.{Report}
 use Rattle.report.specs.declared.types.StageLine.{StageLine}
 use Rattle.audit_rules.specs.Bench.{all_equal}
-use Rattle.audit_rules.specs.Contents.{Contents}
+use Rattle.audit_rules.specs.Contents.{Contents, box_of, program_of}
 use Rattle.verifier.specs.declared.part.Part.{Part}
+use Rattle.verifier.specs.declared.part.Part.TheVariants.{Run, Assembled}
 use Rattle.verifier.specs.declared.part.Verdict.{Verdict}
 use Rattle.verifier.specs.declared.part.Verdict.TheVariants.{Yes, TrueButDiffers, Refuted, OutOfMemory}
-use Rattle.verifier.specs.Faults.{inputs_fault, is_header, replayed, with_artefact}
+use Rattle.verifier.specs.Faults.{inputs_fault, is_header, left_at, recorded, replayed, with_artefact}
 
 -- a report without a fault is true; it is a yes where each of its comparisons says equal
 abbrev pub true_verdict : List CompareLine → Verdict
@@ -22,12 +26,12 @@ verdict_of (Some (part, place)) lines = Refuted part place
 
 -- an answer to a report with this first fault and these compare lines: the verdict, or want of memory
 abbrev pub Judges : Option (Part × ℕ) → List CompareLine → Verdict → Type 0
-Judges fault lines (OutOfMemory stage) = Unit {0}
+Judges fault lines (OutOfMemory stage part) = Unit {0}
 Judges fault lines answer = answer ≡ verdict_of fault lines
 
--- a fact on the stage at which memory was wanting
-abbrev pub OnWant : Verdict → (ℕ → Type 0) → Type 0
-OnWant (OutOfMemory stage) fact = fact stage
+-- a fact on the stage and the part at which memory was wanting
+abbrev pub OnWant : Verdict → (ℕ → Part → Type 0) → Type 0
+OnWant (OutOfMemory stage part) fact = fact stage part
 OnWant answer fact = Unit {0}
 
 -- the lines of these stages are right, one after the other over these contents, which with their artefacts are the latter ones
@@ -37,15 +41,38 @@ AreReplayed recipe so_far (stage ∷ stages) (line ∷ lines) all =
     (made : List ℕ) × (replayed recipe so_far stage line ≡ Ok made) × AreReplayed recipe (with_artefact so_far made) stages lines all
 AreReplayed recipe so_far _ _ all = ⊥
 
--- a replay stands at the stage of this number, from 1: the lines of all stages before it are right
-pub record StandsAtStage (recipe : RecipeContents) (inputs : List (List ℕ)) (lines : List StageLine) (number : ℕ) : Type 0 where
+-- what is judged of a stage's run before memory is taken: the recorded step is from 1 to the limit, and the program can be loaded
+pub record CanRun (recipe : RecipeContents) (so_far : Contents) (stage : Stage) (line : StageLine) : Type 0 where
+  pub some : 1 ≤ line.steps
+  pub few : line.steps ≤ stage.steps
+  pub loads : IsOk (image_of (program_of recipe so_far stage))
+
+-- what is judged before a stage's check: the run ended as recorded, and what it left is what the line says
+pub record CanCheck (recipe : RecipeContents) (so_far : Contents) (stage : Stage) (line : StageLine) : Type 0 where
+  pub world : World
+  pub ran : left_at (start_of (program_of recipe so_far stage) (box_of recipe so_far stage)) stage.steps line.steps ≡ Some world
+  pub made : List ℕ
+  pub left : recorded so_far stage line world ≡ Some made
+
+-- memory is taken for a stage's run, for its check and after that for its artefact; for no other part
+abbrev pub CanWantAt : RecipeContents → Contents → Stage → StageLine → Part → Type 0
+CanWantAt recipe so_far stage line Run = CanRun recipe so_far stage line
+CanWantAt recipe so_far stage line Assembled = CanCheck recipe so_far stage line
+CanWantAt recipe so_far stage line part = ⊥
+
+-- a replay stands at this part of the stage of this number, from 1: the lines of all stages before it are right
+pub record StandsAtPart (recipe : RecipeContents) (inputs : List (List ℕ)) (lines : List StageLine) (number : ℕ) (part : Part) : Type 0 where
   pub some : 1 ≤ number
-  pub there : number ≤ length recipe.stages
   pub so_far : Contents
   pub before : AreReplayed recipe (record { inputs = inputs; artefacts = [] }) (take (number - 1) recipe.stages) (take (number - 1) lines) so_far
+  pub stage : Stage
+  pub stage_is : slice_get recipe.stages (number - 1) ≡ Some stage
+  pub line : StageLine
+  pub line_is : slice_get lines (number - 1) ≡ Some line
+  pub here : CanWantAt recipe so_far stage line part
 
--- where want of memory can come: the header and the inputs are right, and all stages before the one of this number
-pub record IsReplaying (recipe : RecipeContents) (inputs : List (List ℕ)) (report : Report) (number : ℕ) : Type 0 where
+-- where want of memory can come: the header and the inputs are right, all stages before the one of this number, and of that what is judged before
+pub record IsReplaying (recipe : RecipeContents) (inputs : List (List ℕ)) (report : Report) (number : ℕ) (part : Part) : Type 0 where
   pub header : is_header recipe report ≡ true
   pub inputs_right : inputs_fault 1 inputs report.inputs ≡ None
-  pub stands : StandsAtStage recipe inputs report.stages number
+  pub stands : StandsAtPart recipe inputs report.stages number part

@@ -26,7 +26,8 @@ use std::alloc::Global;
 ///
 /// `Refuted` names the first part that is not true, judged on the bytes that the earlier runs left. Otherwise it is `Yes` where each of the
 /// report's comparisons says that the artefact and the binary are equal, and `TrueButDiffers` where one says that they differ. Want of memory comes only at a
-/// stage, where the header, the inputs and all stages before it are right.
+/// stage, where the header, the inputs and all stages before it are right: for its run, where its recorded step is from 1 to the limit and its
+/// program can be loaded, or for its check, where its run and what that left are as its line says.
 ///
 /// The inputs are as many as the recipe's, each with at most 268,435,456 bytes. docs/reference/verify.md has the rules.
 pub fn verify(alloc: Global, recipe: &Recipe, inputs: &Inputs, report: &Report) -> Verdict
@@ -120,7 +121,12 @@ fn replay_all(
                 total += made.len() as u64;
                 match artefacts.push(made) {
                     Ok(()) => {}
-                    Err(OutOfMemory) => return Err(Verdict::OutOfMemory { stage: number }),
+                    Err(OutOfMemory) => {
+                        return Err(Verdict::OutOfMemory {
+                            stage: number,
+                            part: Part::Assembled,
+                        });
+                    }
                 }
             }
             Err(JudgingStop::Refuted(part)) => {
@@ -129,7 +135,12 @@ fn replay_all(
                     place: number,
                 });
             }
-            Err(JudgingStop::OutOfMemory) => return Err(Verdict::OutOfMemory { stage: number }),
+            Err(JudgingStop::OutOfMemory(part)) => {
+                return Err(Verdict::OutOfMemory {
+                    stage: number,
+                    part,
+                });
+            }
         }
     }
     Ok(artefacts)

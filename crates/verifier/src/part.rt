@@ -44,6 +44,7 @@ pub enum Verdict {
     /// The first part that is not true, with the number of the input, of the stage or, in a report of form 2, of the comparison, from 1;
     /// 0 for the header, and for the comparison of a report of form 1.
     Refuted { part: Part, place: u32 },
-    /// Want of memory of this process at the stage of this number, from 1; nothing before that stage is untrue.
-    OutOfMemory { stage: u32 },
+    /// Want of memory of this process at the stage of this number, from 1: for its run, or for its check and its artefact. Nothing that is judged
+    /// before is untrue.
+    OutOfMemory { stage: u32, part: Part },
 }

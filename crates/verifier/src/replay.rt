@@ -1,15 +1,16 @@
 //! A stage's line, judged by a replay.
 
-ghost use Rattle.ddc_base.specs.Results.{or_error};
 ghost use Rattle.guest_run.specs.Run.{end_at};
 ghost use Rattle.guest_run.specs.Start.{start_of};
 ghost use Rattle.mem_files.specs.Outputs.{out};
 ghost use Rattle.std.specs.Option.{option_copied};
-ghost use Rattle.std.specs.Prelude.{◌≡◌, ◌+◌, ◌≤◌, ◌^◌, Contains};
-ghost use Rattle.verifier.specs.Faults.{exit_of, left_at, recorded, replayed, size_of};
-ghost use Rattle.verifier.specs.Inside.Holdings.{IsHeld, IsOutputName, Judged, judged_left, so_far};
+ghost use Rattle.std.specs.Prelude.{◌≡◌, ◌+◌, ◌≤◌, ◌^◌, Contains, IfOk};
+ghost use Rattle.ddc_base.specs.Results.{or_error};
+ghost use Rattle.verifier.specs.Faults.{checked_artefact, exit_of, left_at, recorded, replayed, size_of};
+ghost use Rattle.verifier.specs.Inside.Holdings.{IsHeld, IsOutputName, IsRecorded, Judged, OnStopWant, judged_left, so_far};
 ghost use Rattle.verifier.specs.declared.part.Part.TheVariants as part;
-ghost use Rattle.audit_rules.specs.Contents.{Contents, box_of, program_of};
+ghost use Rattle.verifier.specs.Verdicts.{CanWantAt};
+ghost use Rattle.audit_rules.specs.Contents.{Contents, box_of, check_of, program_of};
 ghost use Rattle.audit_rules.specs.Stages.{output_of};
 
 use crate::checking::is_right;
@@ -20,6 +21,7 @@ use crate::part::Part;
 use crate::stop::JudgingStop;
 use audit_rules::MAX_ARTEFACTS;
 use ddc_base::{Bytes, OutOfMemory};
+use elf_load::read_image;
 use guest_run::{Guest, RunEnd, RunRam, StartRefusal};
 use mem_files::Files;
 use recipe::{Output, Stage};
@@ -39,9 +41,10 @@ pub(crate) fn replay(
     requires known { Contains held.now.recipe.now.stages stage.now }
     requires total { total ≡ size_of (so_far held.now) }
     requires small { total ≤ MAX_ARTEFACTS }
-    ensures { Judged (λ made. made) (replayed held.now.recipe.now (so_far held.now) stage.now line.now) result }
+    ensures value { Judged (λ made. made) (replayed held.now.recipe.now (so_far held.now) stage.now line.now) result }
+    ensures memory { OnStopWant result (CanWantAt held.now.recipe.now (so_far held.now) stage.now line.now) }
 {
-    let guest = exited(alloc, held, stage, line.steps)?;
+    let guest = exited(alloc, held, stage, line)?;
     left(alloc, held, stage, line, total, guest.files())
 }
 
@@ -58,38 +61,65 @@ fn left(
     requires known { Contains held.now.recipe.now.stages stage.now }
     requires total { total ≡ size_of (so_far held.now) }
     requires small { total ≤ MAX_ARTEFACTS }
-    ensures { Judged (λ made. made) (judged_left held.now.recipe.now (so_far held.now) stage.now line.now files.now) result }
+    ensures value { Judged (λ made. made) (judged_left held.now.recipe.now (so_far held.now) stage.now line.now files.now) result }
+    ensures memory { OnStopWant result (λ p. (p ≡ part.Assembled) × IsRecorded (so_far held.now) stage.now line.now files.now) }
 {
     let Some(made) = recorded(stage, line, total, files) else {
         return Err(JudgingStop::Refuted(Part::Files));
     };
-    if !is_right(alloc, held, stage, made)? {
-        return Err(JudgingStop::Refuted(Part::Assembled));
+    match checked(alloc, held, stage, made) {
+        Ok(Some(made)) => Ok(made),
+        Ok(None) => Err(JudgingStop::Refuted(Part::Assembled)),
+        Err(OutOfMemory) => Err(JudgingStop::OutOfMemory(Part::Assembled)),
     }
-    Ok(Bytes::from_slice(alloc, made)?)
 }
 
-/// The guest of a stage's program, which has exited with 0 at exactly this step.
+/// A copy of an artefact, where it is what its source stands for.
+fn checked(
+    alloc: Global,
+    held: &Held<'_>,
+    stage: &Stage,
+    made: &[u8],
+) -> Result<Option<Bytes>, OutOfMemory>
+    requires { IsHeld held.now }
+    ensures { IfOk result (λ copy. or_error part.Assembled copy ≡ checked_artefact made.now (check_of held.now.recipe.now (so_far held.now) stage.now made.now)) }
+{
+    if is_right(alloc, held, stage, made)? {
+        Ok(Some(Bytes::from_slice(alloc, made)?))
+    } else {
+        Ok(None)
+    }
+}
+
+/// The guest of a stage's program, which has exited with 0 at exactly the step of the line.
 fn exited(
     alloc: Global,
     held: &Held<'_>,
     stage: &Stage,
-    step: u64,
+    line: &StageLine,
 ) -> Result<Guest<RunRam>, JudgingStop>
     requires held { IsHeld held.now }
     requires known { Contains held.now.recipe.now.stages stage.now }
-    ensures { Judged (λ guest. guest.world) (or_error part.Run (left_at (start_of (program_of held.now.recipe.now (so_far held.now) stage.now) (box_of held.now.recipe.now (so_far held.now) stage.now)) stage.now.steps step)) result }
+    ensures value { Judged (λ guest. guest.world) (or_error part.Run (left_at (start_of (program_of held.now.recipe.now (so_far held.now) stage.now) (box_of held.now.recipe.now (so_far held.now) stage.now)) stage.now.steps line.now.steps)) result }
+    ensures memory { OnStopWant result (CanWantAt held.now.recipe.now (so_far held.now) stage.now line.now) }
 {
-    if step == 0 || step > stage.steps {
+    if line.steps == 0 || line.steps > stage.steps {
         return Err(JudgingStop::Refuted(Part::Run));
     }
-    let given = box_of(alloc, held, stage)?;
-    match Guest::<RunRam>::start(alloc, held.bytes(&stage.program), &given) {
-        Ok(guest) => run_out(guest, step),
+    let program = held.bytes(&stage.program);
+    if read_image(program).is_err() {
+        return Err(JudgingStop::Refuted(Part::Run));
+    }
+    let given = match box_of(alloc, held, stage) {
+        Ok(given) => given,
+        Err(OutOfMemory) => return Err(JudgingStop::OutOfMemory(Part::Run)),
+    };
+    match Guest::<RunRam>::start(alloc, program, &given) {
+        Ok(guest) => run_out(guest, line.steps),
         Err(StartRefusal::Elf(_)) => Err(JudgingStop::Refuted(Part::Run)),
         Err(StartRefusal::ArgsTooLong) => Err(JudgingStop::Refuted(Part::Run)),
         Err(StartRefusal::BoxTooLarge) => Err(JudgingStop::Refuted(Part::Run)),
-        Err(StartRefusal::OutOfMemory) => Err(JudgingStop::OutOfMemory),
+        Err(StartRefusal::OutOfMemory) => Err(JudgingStop::OutOfMemory(Part::Run)),
     }
 }
 
@@ -98,7 +128,8 @@ fn run_out(guest: Guest<RunRam>, step: u64) -> Result<Guest<RunRam>, JudgingStop
     requires fresh { guest.steps ≡ 0 }
     requires some { 1 ≤ step }
     requires few { step ≤ 2 ^ 48 }
-    ensures { Judged (λ guest. guest.world) (or_error part.Run (exit_of (end_at guest step))) result }
+    ensures value { Judged (λ guest. guest.world) (or_error part.Run (exit_of (end_at guest step))) result }
+    ensures memory { OnStopWant result (λ p. p ≡ part.Run) }
 {
     let mut guest = guest;
     run_to(&mut guest, step)?;
@@ -110,7 +141,8 @@ fn run_to(guest: &mut Guest<RunRam>, step: u64) -> Result<(), JudgingStop>
     requires fresh { guest.old.steps ≡ 0 }
     requires some { 1 ≤ step }
     requires few { step ≤ 2 ^ 48 }
-    ensures { Judged (λ _. guest.new.world) (or_error part.Run (exit_of (end_at guest.old step))) result }
+    ensures value { Judged (λ _. guest.new.world) (or_error part.Run (exit_of (end_at guest.old step))) result }
+    ensures memory { OnStopWant result (λ p. p ≡ part.Run) }
 {
     match guest.run(step) {
         RunEnd::Exited(status) => {
@@ -125,7 +157,7 @@ fn run_to(guest: &mut Guest<RunRam>, step: u64) -> Result<(), JudgingStop>
         RunEnd::Trapped(_) => Err(JudgingStop::Refuted(Part::Run)),
         RunEnd::UnknownCall(_) => Err(JudgingStop::Refuted(Part::Run)),
         RunEnd::Spent => Err(JudgingStop::Refuted(Part::Run)),
-        RunEnd::OutOfMemory => Err(JudgingStop::OutOfMemory),
+        RunEnd::OutOfMemory => Err(JudgingStop::OutOfMemory(Part::Run)),
     }
 }
 

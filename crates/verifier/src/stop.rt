@@ -1,8 +1,5 @@
 //! Why a stage's replay stops.
 
-ghost use Rattle.std.specs.Prelude.{◌≡◌};
-ghost use Rattle.verifier.specs.declared.stop.JudgingStop.TheVariants.{OutOfMemory};
-
 use crate::part::Part;
 
 /// What stops the replay of a stage.
@@ -10,13 +7,6 @@ use crate::part::Part;
 pub(crate) enum JudgingStop {
     /// This part is not true.
     Refuted(Part),
-    OutOfMemory,
-}
-
-impl From<ddc_base::OutOfMemory> for JudgingStop {
-    ghost from_gives = { λ _ stop. stop ≡ OutOfMemory };
-
-    fn from(_error: ddc_base::OutOfMemory) -> JudgingStop {
-        JudgingStop::OutOfMemory
-    }
+    /// Memory was wanting for this part.
+    OutOfMemory(Part),
 }

@@ -40,7 +40,7 @@ module _ (prescribes : Prescribes) (compiles : Compiles) (recipe : RecipeContent
 
   pub by-verdict : (fault : Option (Part × ℕ)) (lines : List CompareLine) (verdict : Verdict) → Judges fault lines verdict
       → (fault ≡ None → Shows prescribes compiles recipe inputs lines (true_verdict lines)) → Shows prescribes compiles recipe inputs lines verdict
-  by-verdict fault lines (OutOfMemory stage) judges shown = tt
+  by-verdict fault lines (OutOfMemory stage part) judges shown = tt
   by-verdict fault lines (Refuted part place) judges shown = tt
   by-verdict None lines Yes judges shown = subst (Shows prescribes compiles recipe inputs lines) (sym judges) (shown refl)
   by-verdict (Some (part, place)) lines Yes judges shown = absurd cc

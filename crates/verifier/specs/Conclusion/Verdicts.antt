@@ -11,4 +11,4 @@ abbrev pub Shows : Prescribes → Compiles → RecipeContents → List (List ℕ
 Shows prescribes compiles recipe inputs lines Yes = ConcludesYes prescribes compiles recipe inputs
 Shows prescribes compiles recipe inputs lines TrueButDiffers = Concludes prescribes compiles recipe inputs lines
 Shows prescribes compiles recipe inputs lines (Refuted part place) = Unit {0}
-Shows prescribes compiles recipe inputs lines (OutOfMemory stage) = Unit {0}
+Shows prescribes compiles recipe inputs lines (OutOfMemory stage part) = Unit {0}

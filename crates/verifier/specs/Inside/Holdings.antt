@@ -1,5 +1,5 @@
 -- What a replay holds, as the definitions say it. No promise rests on its being read.
-use Rattle.std.specs.Prelude.{ℕ, ◌≡◌, ◌+◌, ◌≤◌, false, bytes_eq, IsTrue, Result, Ok, Err, List, length, map, All}
+use Rattle.std.specs.Prelude.{ℕ, ◌≡◌, ◌+◌, ◌≤◌, false, bytes_eq, IsTrue, Some, Result, Ok, Err, List, length, map, All}
 use Rattle.std.specs.List.{IsDistinct}
 use Rattle.std.specs.FinMap as finite
 use Rattle.ddc_base.specs.Results.{◌>>=◌, or_error}
@@ -54,4 +54,14 @@ IsOutputName (File path) = IsTrue (is_stripped_name path)
 abbrev pub Judged : {A B : Type 0} → (B → A) → Result A Part → Result B JudgingStop → Type 0
 Judged view meant (Ok found) = meant ≡ Ok (view found)
 Judged view meant (Err (Refuted part)) = meant ≡ Err part
-Judged view meant (Err OutOfMemory) = Unit {0}
+Judged view meant (Err (OutOfMemory part)) = Unit {0}
+
+-- a fact on the part at which memory was wanting
+abbrev pub OnStopWant : {A : Type 0} → Result A JudgingStop → (Part → Type 0) → Type 0
+OnStopWant (Err (OutOfMemory part)) fact = fact part
+OnStopWant answer fact = Unit {0}
+
+-- these files are as a stage's line says, with an artefact among them
+pub record IsRecorded (so_far : Contents) (stage : Stage) (line : StageLine) (world : World) : Type 0 where
+  pub made : List ℕ
+  pub is : recorded so_far stage line world ≡ Some made

@@ -8,8 +8,9 @@ use Rattle.mem_files.specs.Outputs.{IsContent}
 use Rattle.recipe.specs.declared.parts.Stage.{Stage}
 use Rattle.audit_rules.specs.Contents.{Contents}
 use Rattle.verifier.specs.Faults.{replayed, stages_fault}
-use Rattle.verifier.specs.Verdicts.{AreReplayed}
-use Rattle.verifier.proofs.DoneStages.{replayed-content}
+use Rattle.verifier.specs.declared.part.Part.TheVariants as part
+use Rattle.verifier.specs.Verdicts.{AreReplayed, CanWantAt}
+use Rattle.verifier.proofs.DoneStages.{can-check, replayed-content}
 use Rattle.verifier.proofs.Looping.{among, at_stage, goes_on, no_line, replayed_on, stands}
 use Rattle.verifier.proofs.judging.replay_all.Goals as goal
 
@@ -19,7 +20,11 @@ returns-in-Err c =
     let look = c.in-Some.ensures.lookup in
     let found : slice_get c.args.stages.now c.loop-index.index ≡ Some c.in-Some.stage.now =
     slice_get-get_or c.args.stages.now c.loop-index.index c.in-Some.stage.now look.3.0 ∙ ap Some (sym look.1) in
-    stands c.args.recipe.now c.args.inputs.now c.args.stages.now c.args.lines.now c.loop-index.index _ all c.in-Some.stage.now c.requires.stages refl found c.loop-index.invariant.5
+    let right : replayed c.args.recipe.now all c.in-Some.stage.now c.index-lines-index.result ≡ Ok c.in-Ok.made =
+    ap (λ a. replayed c.args.recipe.now (record { inputs = c.args.inputs.now; artefacts = a }) c.in-Some.stage.now c.index-lines-index.result) (sym c.as_slice.ensures) ∙ c.in-Ok.ensures.value in
+    stands c.args.recipe.now c.args.inputs.now c.args.stages.now c.args.lines.now c.loop-index.index _ all c.in-Some.stage.now c.index-lines-index.result part.Assembled
+    c.requires.stages refl found (omega arith) c.index-lines-index.is c.loop-index.invariant.5
+    (can-check c.args.recipe.now all c.in-Some.stage.now c.index-lines-index.result c.in-Ok.made right)
 
 pub returns-in-Err-OutOfMemory : goal.returns-in-Err-OutOfMemory
 returns-in-Err-OutOfMemory c =
@@ -27,7 +32,11 @@ returns-in-Err-OutOfMemory c =
     let look = c.in-Some.ensures.lookup in
     let found : slice_get c.args.stages.now c.loop-index.index ≡ Some c.in-Some.stage.now =
     slice_get-get_or c.args.stages.now c.loop-index.index c.in-Some.stage.now look.3.0 ∙ ap Some (sym look.1) in
-    stands c.args.recipe.now c.args.inputs.now c.args.stages.now c.args.lines.now c.loop-index.index _ all c.in-Some.stage.now c.requires.stages refl found c.loop-index.invariant.5
+    rw c.in-Err-OutOfMemory.field-0-is
+    (stands c.args.recipe.now c.args.inputs.now c.args.stages.now c.args.lines.now c.loop-index.index _ all c.in-Some.stage.now c.index-lines-index.result c.in-Err-OutOfMemory.part
+    c.requires.stages refl found (omega arith) c.index-lines-index.is c.loop-index.invariant.5
+    (subst (λ a. CanWantAt c.args.recipe.now (record { inputs = c.args.inputs.now; artefacts = a }) c.in-Some.stage.now c.index-lines-index.result c.in-Err-OutOfMemory.part) c.as_slice.ensures
+    (rw c.in-Err-OutOfMemory.field-0-is at c.in-Err-OutOfMemory.ensures.memory)))
 
 pub loop-index-preserved : goal.loop-index-preserved
 loop-index-preserved c =
@@ -38,7 +47,7 @@ loop-index-preserved c =
     let stage = c.in-Some.stage.now in
     let line = c.index-lines-index.result in
     let right : replayed c.args.recipe.now all stage line ≡ Ok c.in-Ok.made =
-    ap (λ a. replayed c.args.recipe.now (record { inputs = c.args.inputs.now; artefacts = a }) stage line) (sym c.as_slice.ensures) ∙ c.in-Ok.ensures in
+    ap (λ a. replayed c.args.recipe.now (record { inputs = c.args.inputs.now; artefacts = a }) stage line) (sym c.as_slice.ensures) ∙ c.in-Ok.ensures.value in
     let known : Contains c.args.recipe.now.stages stage =
     subst (λ (stages : List Stage). Contains stages stage) c.requires.stages (among c.args.stages.now c.loop-index.index stage found).0 in
     let made = replayed-content c.args.recipe.now all stage line c.in-Ok.made c.requires.recipe known (record { inputs = c.requires.inputs; artefacts = c.loop-index.invariant.3 }) right in
