@@ -86,10 +86,9 @@ fn report_of(
     ensures value { IfOk result (λ report. report ≡ record { script = script.now.digest; files = map marked (listed_files list.now); commands = commands; left = map marked (left world.now) }) }
     ensures text { IfOk result IsScriptReport }
 {
-    // What a list and its files keep is told by calls of theirs.
-    list.len();
-    list.files().stream(1);
-    world.stream(1);
+    list.show_rules();
+    list.files().show_sound();
+    world.show_sound();
     let files = listed_lines(alloc, list)?;
     let left = left_lines(alloc, world)?;
     Ok(ScriptReport {

@@ -61,8 +61,7 @@ pub(crate) fn begun(
     ensures program { UnlessStopped result (HasProgram files.now words.now) }
     ensures fresh { IfOk result (λ begun. IfOk begun (λ guest. guest.steps ≡ 0)) }
 {
-    // What files keep is told by a call of theirs.
-    files.stream(1);
+    files.show_sound();
     let Some(program) = files.content(program_name(words)) else {
         return Ok(Err(CommandCause::NoProgram));
     };

@@ -79,6 +79,13 @@ impl FileList {
         self.names.as_slice().len()
     }
 
+    /// Shows that the list keeps its rules: each listed name is held by a file.
+    pub fn show_rules(&self)
+        ensures { IsList self.now }
+    {
+        let _ = &self.names;
+    }
+
     /// The files.
     pub fn files(&self) -> &Files
         ensures { result.now ≡ self.now.world }

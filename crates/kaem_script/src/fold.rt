@@ -45,8 +45,7 @@ pub(crate) fn fold<'a>(
         let number = index as u32 + 1;
         match run_command(alloc, present, words, most) {
             Ok(Ok((line, left))) => {
-                // What files keep is told by a call of theirs.
-                left.stream(1);
+                left.show_sound();
                 match lines.push(line) {
                     Ok(()) => present = Present::Left(left),
                     Err(OutOfMemory) => return Folding::OutOfMemory(number),

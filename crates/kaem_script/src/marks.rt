@@ -28,8 +28,7 @@ pub(crate) fn listed_lines(alloc: Global, list: &FileList) -> Result<LeftLines, 
 pub(crate) fn left_lines(alloc: Global, files: &Files) -> Result<LeftLines, OutOfMemory>
     ensures { IfOk result (λ lines. lines ≡ map marked (left files.now)) }
 {
-    // What files keep is told by a call of theirs.
-    files.stream(1);
+    files.show_sound();
     let mut lines = LeftLines::new(alloc);
     let mut last: Option<&[u8]> = None;
     while let Some(name) = files.name_after(last) {

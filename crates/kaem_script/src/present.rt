@@ -49,8 +49,7 @@ fn copy_all(alloc: Global, given: &Files, files: &mut Files) -> Result<(), OutOf
     requires { files.old ≡ first_world }
     ensures { OnOk result (files.new ≡ renewed given.now) }
 {
-    // What files keep is told by a call of theirs.
-    given.stream(1);
+    given.show_sound();
     let mut last: Option<&[u8]> = None;
     while let Some(name) = given.name_after(last) {
         let content = Vec::from_slice(alloc, bytes_of(given, name))?;
@@ -73,8 +72,7 @@ fn move_all(alloc: Global, left: &mut Files, files: &mut Files) -> Result<(), Ou
     requires { files.old ≡ first_world }
     ensures { OnOk result (files.new ≡ renewed left.old) }
 {
-    // What files keep is told by a call of theirs.
-    left.stream(1);
+    left.show_sound();
     let mut last: Option<Bytes> = None;
     while let Some(name) = next_name(alloc, left, &last)? {
         let content = left.take_content(alloc, name.as_slice());

@@ -59,9 +59,8 @@ pub fn verify(
 fn wrong_file(list: &FileList, lines: &[LeftLine]) -> Option<u32>
     ensures { result ≡ wrong_file 1 (listed_files list.now) lines.now }
 {
-    // What a list and its files keep is told by calls of theirs.
-    list.len();
-    list.files().stream(1);
+    list.show_rules();
+    list.files().show_sound();
     wrong_name(list, lines)
 }
 
@@ -141,8 +140,7 @@ fn wrong_left(files: &Files, lines: &[LeftLine]) -> Option<UntruePart>
 fn says_left(files: &Files, lines: &[LeftLine]) -> bool
     ensures { result ≡ says_files lines.now (left files.now) }
 {
-    // What files keep is told by a call of theirs.
-    files.stream(1);
+    files.show_sound();
     let mut ahead = lines;
     let mut last: Option<&[u8]> = None;
     while let [line, others @ ..] = ahead {

@@ -6,14 +6,18 @@ use Rattle.ddc_base.specs.declared.languages.Language.{Language}
 use Rattle.ddc_base.specs.Languages.Words.{language_named}
 use Rattle.guest_run.specs.Setting.{is_text}
 use Rattle.command_plan.specs.Plan.{Plan}
-use Rattle.command_plan.specs.Words.{are_two_files, as_steps, is_file_word, or_usage, usage}
+use Rattle.command_plan.specs.Words.{are_three_files, are_two_files, as_steps, is_file_word, or_usage, usage}
 use Rattle.tool_commands.specs.Asm.{as_base, asm_files, asm_plan}
 use Rattle.tool_commands.specs.Hex0.{hex0_files, hex0_plan}
-use Rattle.tool_commands.specs.Inside.Words.{asm_of, asm_words, hex0_of_names, hex0_words, run_of, run_words}
+use Rattle.tool_commands.specs.Inside.Words.{asm_of, asm_words, hex0_of_names, hex0_words, kaem_of, kaem_words, run_of, run_words, script_words, script_words_of}
+use Rattle.tool_commands.specs.Kaem.{kaem_files, kaem_plan}
+use Rattle.tool_commands.specs.KaemVerify.{kaem_verify_files, kaem_verify_plan}
 use Rattle.tool_commands.specs.RunProgram.{run_file, run_plan}
 use Rattle.tool_commands.specs.declared.words.AsmWords.{AsmWords}
 use Rattle.tool_commands.specs.declared.words.Hex0Words.{Hex0Words}
+use Rattle.tool_commands.specs.declared.words.KaemWords.{KaemWords}
 use Rattle.tool_commands.specs.declared.words.RunWords.{RunWords}
+use Rattle.tool_commands.specs.declared.words.ScriptWords.{ScriptWords}
 
 -- ---- hex0
 
@@ -65,3 +69,34 @@ ran program args None false texts = refl
 pub runs : (words : List (List ℕ)) → run_plan words ≡ or_usage (run_words words) over_run
 runs (program ∷ steps ∷ args) = ran program args (as_steps steps) (is_file_word program) (list_all is_text args)
 runs _ = refl
+
+-- ---- kaem
+
+abbrev pub over_kaem : KaemWords → Plan
+over_kaem w = kaem_files w.script w.list w.report w.steps
+
+folded : (script list report : List ℕ) (apart : Bool) (steps : Option ℕ)
+    → or_usage steps (λ most. if apart then kaem_files script list report most else usage)
+    ≡ or_usage (kaem_of (if apart then Some (script, list, report) else None) steps) over_kaem
+folded script list report true (Some most) = refl
+folded script list report false (Some most) = refl
+folded script list report true None = refl
+folded script list report false None = refl
+
+pub kaems : (words : List (List ℕ)) → kaem_plan words ≡ or_usage (kaem_words words) over_kaem
+kaems (script ∷ list ∷ report ∷ steps ∷ []) = folded script list report (are_three_files script list report) (as_steps steps)
+kaems _ = refl
+
+-- ---- kaem-verify
+
+abbrev pub over_script : ScriptWords → Plan
+over_script w = kaem_verify_files w.script w.list w.report
+
+verified : (script list report : List ℕ) (apart : Bool)
+    → (if apart then kaem_verify_files script list report else usage) ≡ or_usage (script_words_of (if apart then Some (script, list, report) else None)) over_script
+verified script list report true = refl
+verified script list report false = refl
+
+pub kaem_verifies : (words : List (List ℕ)) → kaem_verify_plan words ≡ or_usage (script_words words) over_script
+kaem_verifies (script ∷ list ∷ report ∷ []) = verified script list report (are_three_files script list report)
+kaem_verifies _ = refl

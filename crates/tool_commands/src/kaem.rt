@@ -1,7 +1,6 @@
 //! `kaem SCRIPT LIST REPORT STEPS`: the commands of a script are run over listed files, and the script's report is saved.
 
-ghost use Rattle.std.specs.Prelude.{◌≡◌, ◌≤◌, ◌^◌, All, if◌then◌else◌, length, map, sum_by};
-ghost use Rattle.ddc_base.specs.Outside.{IsFileName};
+ghost use Rattle.std.specs.Prelude.{◌≡◌, ◌≤◌, All, length, map, sum_by};
 ghost use Rattle.report.specs.declared.script.types.CommandLine.{CommandLine as ReportLine};
 ghost use Rattle.report.specs.Script.Reports.{IsCommandLine, IsScriptReport, script_report_text};
 ghost use Rattle.kaem_script.specs.Fold.{folded};
@@ -9,7 +8,6 @@ ghost use Rattle.command_plan.specs.declared.status.Status.TheVariants.{RunFaile
 ghost use Rattle.command_plan.specs.Performs.{Performs};
 ghost use Rattle.command_plan.specs.Plan.{answers, sets};
 ghost use Rattle.command_plan.specs.Steps.{Says};
-ghost use Rattle.command_plan.specs.Words.{are_three_files, as_steps, or_usage, usage};
 ghost use Rattle.tool_commands.specs.Inside.Listing.{needs_unlisted_words};
 ghost use Rattle.tool_commands.specs.Kaem.{folded_plan, kaem_files, kaem_plan};
 ghost use Rattle.tool_commands.specs.Scripts.{needs_files};
@@ -17,7 +15,7 @@ ghost use Rattle.tool_commands.specs.ScriptTexts.{command_failed_line, done_line
 
 use crate::script_texts;
 use crate::scripts::{fetch_files, fetch_script, fetch_unlisted};
-use command_plan::words::{are_three_files, steps_of};
+use crate::words::KaemWords;
 use command_plan::{Answer, FileName, Status, Stop, keep, usage};
 use ddc_base::Shelf;
 use kaem_script::{CommandCause, FileList, Script, ScriptEnd};
@@ -25,76 +23,37 @@ use report::script::{CommandLine, ScriptReport};
 use std::alloc::Global;
 
 /// Performs the command on the words after its name.
-#[tactic(auto, using(command_plan::proofs::Performing::performing))]
 pub fn perform<S: Shelf>(alloc: Global, words: &[&str], shelf: &mut S) -> Result<Answer, Stop>
     ensures { Performs (kaem_plan (map (λ w. w.now) words.now)) (S.state shelf.old) (S.state shelf.new) result }
 {
-    match words {
-        [script, list, report, steps] => on_words(alloc, shelf, script, list, report, steps),
-        _ => usage(alloc),
-    }
-}
-
-/// The command on four words.
-#[tactic(auto, using(command_plan::proofs::Performing::performing))]
-fn on_words<S: Shelf>(
-    alloc: Global,
-    shelf: &mut S,
-    script: &str,
-    list: &str,
-    report: &str,
-    steps: &str,
-) -> Result<Answer, Stop>
-    ensures { Performs (or_usage (as_steps steps.now) (λ most. if are_three_files script.now list.now report.now then kaem_files script.now list.now report.now most else usage))
-        (S.state shelf.old) (S.state shelf.new) result }
-{
-    match steps_of(steps) {
-        Some(most) if are_three_files(script, list, report) => {
-            kaem(alloc, shelf, script, list, report, most)
-        }
-        _ => usage(alloc),
-    }
+    let Some(words) = KaemWords::read(words) else {
+        return usage(alloc);
+    };
+    kaem(alloc, shelf, &words)
 }
 
 /// The command on three files and a number of steps.
-fn kaem<S: Shelf>(
-    alloc: Global,
-    shelf: &mut S,
-    script: &str,
-    list: &str,
-    report: &str,
-    most: u64,
-) -> Result<Answer, Stop>
-    requires script { IsFileName script.now }
-    requires list { IsFileName list.now }
-    requires report { IsFileName report.now }
-    requires some { 1 ≤ most }
-    requires few { most ≤ 2 ^ 48 }
-    ensures { Performs (kaem_files script.now list.now report.now most) (S.state shelf.old) (S.state shelf.new) result }
+fn kaem<S: Shelf>(alloc: Global, shelf: &mut S, words: &KaemWords<'_>) -> Result<Answer, Stop>
+    ensures { Performs (kaem_files words.now.script words.now.list words.now.report words.now.steps) (S.state shelf.old) (S.state shelf.new) result }
 {
-    let script = fetch_script(alloc, shelf, script)?;
-    run_listed(alloc, shelf, &script, list, report, most)
+    let script = fetch_script(alloc, shelf, &words.script)?;
+    run_listed(alloc, shelf, &script, words)
 }
 
-/// The command on a script, which it leaves to its caller to let go.
+/// The command on a script, which its caller lets go.
 fn run_listed<S: Shelf>(
     alloc: Global,
     shelf: &mut S,
     script: &Script,
-    list: &str,
-    report: &str,
-    most: u64,
+    words: &KaemWords<'_>,
 ) -> Result<Answer, Stop>
-    requires list { IsFileName list.now }
-    requires report { IsFileName report.now }
-    requires some { 1 ≤ most }
-    requires few { most ≤ 2 ^ 48 }
-    ensures { Performs (needs_unlisted_words list.now report.now (λ words. needs_files words (λ listed. folded_plan report.now script.now listed (folded most listed.world script.now.commands))))
+    ensures { Performs (needs_unlisted_words words.now.list words.now.report (λ names. needs_files names (λ listed.
+        folded_plan words.now.report script.now listed (folded words.now.steps listed.world script.now.commands))))
         (S.state shelf.old) (S.state shelf.new) result }
 {
-    let words = fetch_unlisted(alloc, shelf, list, report)?;
-    let files = fetch_files(alloc, shelf, &words)?;
-    run(alloc, shelf, script, &files, report, most)
+    let names = fetch_unlisted(alloc, shelf, &words.list, &words.report)?;
+    let files = fetch_files(alloc, shelf, &names)?;
+    run(alloc, shelf, script, &files, words)
 }
 
 /// Runs the commands of a script over its files.
@@ -103,17 +62,13 @@ fn run<S: Shelf>(
     shelf: &mut S,
     script: &Script,
     files: &FileList,
-    report: &str,
-    most: u64,
+    words: &KaemWords<'_>,
 ) -> Result<Answer, Stop>
-    requires report { IsFileName report.now }
-    requires some { 1 ≤ most }
-    requires few { most ≤ 2 ^ 48 }
-    ensures { Performs (folded_plan report.now script.now files.now (folded most files.now.world script.now.commands))
+    ensures { Performs (folded_plan words.now.report script.now files.now (folded words.now.steps files.now.world script.now.commands))
         (S.state shelf.old) (S.state shelf.new) result }
 {
-    match kaem_script::audit(alloc, script, files, most) {
-        ScriptEnd::Done(made) => save(alloc, shelf, report, &made),
+    match kaem_script::audit(alloc, script, files, words.steps.count()) {
+        ScriptEnd::Done(made) => save(alloc, shelf, &words.report, &made),
         ScriptEnd::Failed {
             command,
             cause,
@@ -127,17 +82,16 @@ fn run<S: Shelf>(
 fn save<S: Shelf>(
     alloc: Global,
     shelf: &mut S,
-    file: &str,
+    file: &FileName<'_>,
     made: &ScriptReport,
 ) -> Result<Answer, Stop>
-    requires file { IsFileName file.now }
-    requires report { IsScriptReport made.now }
+    requires { IsScriptReport made.now }
     ensures { Performs (sets file.now (script_report_text made.now) (answers Yes (done_line (length made.now.commands) (sum_by (λ (c : ReportLine). c.steps) made.now.commands))))
         (S.state shelf.old) (S.state shelf.new) result }
 {
     let answer = done(alloc, made.commands.as_slice())?;
     let text = report::script::write(alloc, made)?;
-    keep(alloc, shelf, &FileName::of(file), text.as_slice(), answer)
+    keep(alloc, shelf, file, text.as_slice(), answer)
 }
 
 /// The answer where all commands ran.

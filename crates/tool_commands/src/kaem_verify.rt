@@ -1,7 +1,7 @@
 //! `kaem-verify SCRIPT LIST REPORT`: the report of a script is judged by a replay of its commands.
 
-ghost use Rattle.std.specs.Prelude.{◌≤◌, if◌then◌else◌, length, map};
-ghost use Rattle.ddc_base.specs.Outside.{IsFileName, ShelfState};
+ghost use Rattle.std.specs.Prelude.{◌≤◌, length, map};
+ghost use Rattle.ddc_base.specs.Outside.{ShelfState};
 ghost use Rattle.report.specs.Script.Reading.{script_report_of};
 ghost use Rattle.kaem_script.specs.Faults.{first_script_fault};
 ghost use Rattle.command_plan.specs.declared.status.Status.TheVariants.{Refuted, ReportRefused, Yes};
@@ -9,7 +9,6 @@ ghost use Rattle.command_plan.specs.Performs.{Performs};
 ghost use Rattle.command_plan.specs.Plan.{answers, unless_refused};
 ghost use Rattle.command_plan.specs.Steps.{Obtains, Says};
 ghost use Rattle.command_plan.specs.Texts.{report_line};
-ghost use Rattle.command_plan.specs.Words.{are_three_files, usage};
 ghost use Rattle.tool_commands.specs.Inside.Listing.{needs_unlisted_words};
 ghost use Rattle.tool_commands.specs.Inside.Placing.{AreApart};
 ghost use Rattle.tool_commands.specs.KaemVerify.{kaem_verify_files, kaem_verify_plan, needs_script_report, script_verdict_plan};
@@ -19,7 +18,7 @@ ghost use Rattle.tool_commands.specs.ScriptTexts.{commands_true_line, script_ref
 use crate::listed_file::FileLine;
 use crate::script_texts;
 use crate::scripts::{fetch_files, fetch_script, fetch_unlisted};
-use command_plan::words::are_three_files;
+use crate::words::ScriptWords;
 use command_plan::{Answer, FileName, Status, Stop, fetch, texts, usage};
 use ddc_base::{Bytes, ListOf, Shelf};
 use kaem_script::{FileList, Script, ScriptPart, ScriptVerdict};
@@ -31,79 +30,47 @@ use std::alloc::Global;
 const REPORT_LIMIT: u64 = 1_073_741_824;
 
 /// Performs the command on the words after its name.
-#[tactic(auto, using(command_plan::proofs::Performing::performing))]
 pub fn perform<S: Shelf>(alloc: Global, words: &[&str], shelf: &mut S) -> Result<Answer, Stop>
     ensures { Performs (kaem_verify_plan (map (λ w. w.now) words.now)) (S.state shelf.old) (S.state shelf.new) result }
 {
-    match words {
-        [script, list, report] => on_words(alloc, shelf, script, list, report),
-        _ => usage(alloc),
-    }
-}
-
-/// The command on three words.
-#[tactic(auto, using(command_plan::proofs::Performing::performing))]
-fn on_words<S: Shelf>(
-    alloc: Global,
-    shelf: &mut S,
-    script: &str,
-    list: &str,
-    report: &str,
-) -> Result<Answer, Stop>
-    ensures { Performs (if are_three_files script.now list.now report.now then kaem_verify_files script.now list.now report.now else usage)
-        (S.state shelf.old) (S.state shelf.new) result }
-{
-    if !are_three_files(script, list, report) {
+    let Some(words) = ScriptWords::read(words) else {
         return usage(alloc);
-    }
-    verify(alloc, shelf, script, list, report)
+    };
+    verify(alloc, shelf, &words)
 }
 
 /// The command on three files.
-fn verify<S: Shelf>(
-    alloc: Global,
-    shelf: &mut S,
-    script: &str,
-    list: &str,
-    report: &str,
-) -> Result<Answer, Stop>
-    requires script { IsFileName script.now }
-    requires list { IsFileName list.now }
-    requires report { IsFileName report.now }
-    ensures { Performs (kaem_verify_files script.now list.now report.now) (S.state shelf.old) (S.state shelf.new) result }
+fn verify<S: Shelf>(alloc: Global, shelf: &mut S, words: &ScriptWords<'_>) -> Result<Answer, Stop>
+    ensures { Performs (kaem_verify_files words.now.script words.now.list words.now.report) (S.state shelf.old) (S.state shelf.new) result }
 {
-    let script = fetch_script(alloc, shelf, script)?;
-    verify_listed(alloc, shelf, &script, list, report)
+    let script = fetch_script(alloc, shelf, &words.script)?;
+    verify_listed(alloc, shelf, &script, words)
 }
 
-/// The command on a script, which it leaves to its caller to let go.
+/// The command on a script, which its caller lets go.
 fn verify_listed<S: Shelf>(
     alloc: Global,
     shelf: &mut S,
     script: &Script,
-    list: &str,
-    report: &str,
+    words: &ScriptWords<'_>,
 ) -> Result<Answer, Stop>
-    requires list { IsFileName list.now }
-    requires report { IsFileName report.now }
-    ensures { Performs (needs_unlisted_words list.now report.now (λ words. needs_script_report report.now (λ made. needs_files words (λ listed.
+    ensures { Performs (needs_unlisted_words words.now.list words.now.report (λ names. needs_script_report words.now.report (λ made. needs_files names (λ listed.
         script_verdict_plan (length script.now.commands) (first_script_fault script.now listed made))))) (S.state shelf.old) (S.state shelf.new) result }
 {
-    let words = fetch_unlisted(alloc, shelf, list, report)?;
-    verify_words(alloc, shelf, script, &words, report)
+    let names = fetch_unlisted(alloc, shelf, &words.list, &words.report)?;
+    verify_words(alloc, shelf, script, &names, &words.report)
 }
 
-/// The command on a script and listed words.
+/// The command on a script and listed words, which its caller lets go.
 fn verify_words<S: Shelf>(
     alloc: Global,
     shelf: &mut S,
     script: &Script,
     words: &ListOf<FileLine>,
-    report: &str,
+    report: &FileName<'_>,
 ) -> Result<Answer, Stop>
     requires apart { AreApart words.now }
     requires few { length words.now ≤ 4096 }
-    requires report { IsFileName report.now }
     ensures { Performs (needs_script_report report.now (λ made. needs_files words.now (λ listed.
         script_verdict_plan (length script.now.commands) (first_script_fault script.now listed made)))) (S.state shelf.old) (S.state shelf.new) result }
 {
@@ -111,7 +78,7 @@ fn verify_words<S: Shelf>(
     replay(alloc, shelf, script, words, &report)
 }
 
-/// The command on a script, listed words and a report.
+/// The command on a script, listed words and a report, which its caller lets go.
 fn replay<S: Shelf>(
     alloc: Global,
     shelf: &mut S,
@@ -129,11 +96,14 @@ fn replay<S: Shelf>(
 }
 
 /// Fetches the report of a script and reads it.
-fn fetch_report<S: Shelf>(alloc: Global, shelf: &mut S, file: &str) -> Result<ScriptReport, Stop>
-    requires { IsFileName file.now }
+fn fetch_report<S: Shelf>(
+    alloc: Global,
+    shelf: &mut S,
+    file: &FileName<'_>,
+) -> Result<ScriptReport, Stop>
     ensures { Obtains (needs_script_report file.now) (S.state shelf.old) (S.state shelf.new) result }
 {
-    let text = fetch(alloc, shelf, &FileName::of(file), REPORT_LIMIT)?;
+    let text = fetch(alloc, shelf, file, REPORT_LIMIT)?;
     read_report(alloc, text)
 }
 

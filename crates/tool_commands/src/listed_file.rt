@@ -2,12 +2,11 @@
 
 ghost use Rattle.std.specs.Prelude.{◌≡◌, IsTrue, bytes_eq};
 ghost use Rattle.std.specs.List.{list_any};
-ghost use Rattle.ddc_base.specs.Outside.{IsFileName};
 ghost use Rattle.mem_files.specs.Names.{is_file_name, stripped};
 ghost use Rattle.tool_commands.specs.Scripts.{stands_for_another};
 
-use command_plan::ListedWord;
 use command_plan::lists::Listed;
+use command_plan::{FileName, ListedWord};
 use ddc_base::OutOfMemory;
 use mem_files::strip;
 use std::alloc::Global;
@@ -55,13 +54,19 @@ impl Listed for FileLine {
 }
 
 impl FileLine {
-    /// The word as text, by which a shelf loads.
+    /// The word as text.
     pub fn as_str(&self) -> &str
-        ensures value { result.now ≡ self.now }
-        ensures name { IsFileName self.now }
-        ensures file { IsTrue (is_file_name (stripped self.now)) }
+        ensures { result.now ≡ self.now }
     {
         self.word.as_str()
+    }
+
+    /// The word as the name of a file, by which a shelf loads.
+    pub fn name(&self) -> FileName<'_>
+        ensures value { result ≡ self.now }
+        ensures file { IsTrue (is_file_name (stripped self.now)) }
+    {
+        self.word.name()
     }
 }
 

@@ -2,7 +2,7 @@
 
 ghost use Rattle.std.specs.Prelude.{◌≡◌, ◌≤◌, IfOk, OnOk, length, ℕ};
 ghost use Rattle.std.specs.List.{list_any};
-ghost use Rattle.ddc_base.specs.Outside.{IsFileName, ShelfState};
+ghost use Rattle.ddc_base.specs.Outside.{ShelfState};
 ghost use Rattle.kaem_script.specs.declared.refusal.ScriptFault.{ScriptFault as Fault};
 ghost use Rattle.command_plan.specs.declared.status.Status.TheVariants.{ScriptRefused};
 ghost use Rattle.command_plan.specs.Lists.{needs_list};
@@ -40,12 +40,11 @@ const FILES_LIMIT: u64 = 536_870_912;
 pub(crate) fn fetch_script<S: Shelf>(
     alloc: Global,
     shelf: &mut S,
-    file: &str,
+    file: &FileName<'_>,
 ) -> Result<Script, Stop>
-    requires { IsFileName file.now }
     ensures { Obtains (needs_script file.now) (S.state shelf.old) (S.state shelf.new) result }
 {
-    let text = fetch(alloc, shelf, &FileName::of(file), SCRIPT_LIMIT)?;
+    let text = fetch(alloc, shelf, file, SCRIPT_LIMIT)?;
     read_script(alloc, text)
 }
 
@@ -77,10 +76,9 @@ fn script_refused(alloc: Global, fault: ScriptFault, offset: u64) -> Result<Answ
 pub(crate) fn fetch_unlisted<S: Shelf>(
     alloc: Global,
     shelf: &mut S,
-    list: &str,
-    report: &str,
+    list: &FileName<'_>,
+    report: &FileName<'_>,
 ) -> Result<ListOf<FileLine>, Stop>
-    requires { IsFileName list.now }
     ensures obtained { Obtains (needs_unlisted_words list.now report.now) (S.state shelf.old) (S.state shelf.new) result }
     ensures few { IfOk result (λ words. length words ≤ 4096) }
     ensures apart { IfOk result AreApart }
@@ -91,21 +89,24 @@ pub(crate) fn fetch_unlisted<S: Shelf>(
 }
 
 /// Fetches a list of files and reads it.
-fn fetch_words<S: Shelf>(alloc: Global, shelf: &mut S, list: &str) -> Result<ListOf<FileLine>, Stop>
-    requires { IsFileName list.now }
+fn fetch_words<S: Shelf>(
+    alloc: Global,
+    shelf: &mut S,
+    list: &FileName<'_>,
+) -> Result<ListOf<FileLine>, Stop>
     ensures obtained { Obtains (needs_list file_line 4096 list.now) (S.state shelf.old) (S.state shelf.new) result }
     ensures few { IfOk result (λ words. length words ≤ 4096) }
     ensures apart { IfOk result AreApart }
 {
-    fetch_list::<FileLine, S>(alloc, shelf, &FileName::of(list), MOST_FILES)
+    fetch_list::<FileLine, S>(alloc, shelf, list, MOST_FILES)
 }
 
 /// Ends the command where a listed word stands for a file that is to be written.
 #[tactic(auto, unfolding(crate::specs::Scripts::needs_unlisted))]
-fn unlisted(alloc: Global, words: &ListOf<FileLine>, report: &str) -> Result<(), Stop>
+fn unlisted(alloc: Global, words: &ListOf<FileLine>, report: &FileName<'_>) -> Result<(), Stop>
     ensures { (shelf : ShelfState) → Obtains (needs_unlisted words.now report.now) shelf shelf result }
 {
-    if is_listed(words, report) {
+    if is_listed(words, report.text()) {
         return Err(Stop::Answered(usage(alloc)?));
     }
     Ok(())
@@ -143,12 +144,7 @@ fn fetch_each<S: Shelf>(alloc: Global, shelf: &mut S, words: &[FileLine]) -> Res
     let mut files = FileList::new(alloc)?;
     let mut room = FILES_LIMIT;
     for word in words {
-        let content = fetch(
-            alloc,
-            shelf,
-            &FileName::of(word.as_str()),
-            FILE_LIMIT.min(room),
-        )?;
+        let content = fetch(alloc, shelf, &word.name(), FILE_LIMIT.min(room))?;
         room -= content.len() as u64;
         add(&mut files, word, content.as_slice())?;
     }

@@ -4,10 +4,10 @@ ghost use Rattle.std.specs.Prelude.{◌≡◌, ◌≤◌, ◌^◌, IfSome, IsTru
 ghost use Rattle.std.specs.List.{list_all};
 ghost use Rattle.guest_run.specs.Setting.{is_text};
 ghost use Rattle.tool_commands.specs.Asm.{as_base};
-ghost use Rattle.tool_commands.specs.Inside.Words.{as_args, asm_words, hex0_words, run_words};
+ghost use Rattle.tool_commands.specs.Inside.Words.{as_args, asm_words, hex0_words, kaem_words, run_words, script_words};
 
 use command_plan::words::has_no_zero_byte;
-use command_plan::{FileName, StepCount, two_files};
+use command_plan::{FileName, StepCount, three_files, two_files};
 use ddc_base::languages::Language;
 use ddc_base::read_decimal;
 use std::marker::Model;
@@ -185,6 +185,59 @@ impl<'w> RunWords<'w> {
             program,
             steps,
             args,
+        })
+    }
+}
+
+/// A script, the list of the files that it is given, and its report.
+#[derive(Drop)]
+pub(crate) struct ScriptWords<'w> {
+    pub script: FileName<'w>,
+    pub list: FileName<'w>,
+    pub report: FileName<'w>,
+}
+
+impl<'w> ScriptWords<'w> {
+    /// The words `SCRIPT LIST REPORT`, and `None` for every other.
+    pub(crate) fn read(words: &[&'w str]) -> Option<ScriptWords<'w>>
+        ensures { result ≡ script_words (map (λ w. w.now) words.now) }
+    {
+        let [script, list, report] = words else {
+            return None;
+        };
+        let (script, list, report) = three_files(script, list, report)?;
+        Some(ScriptWords {
+            script,
+            list,
+            report,
+        })
+    }
+}
+
+/// A script, the list of the files that it is given, its report, and the most steps of each of its commands.
+#[derive(Drop)]
+pub(crate) struct KaemWords<'w> {
+    pub script: FileName<'w>,
+    pub list: FileName<'w>,
+    pub report: FileName<'w>,
+    pub steps: StepCount,
+}
+
+impl<'w> KaemWords<'w> {
+    /// The words `SCRIPT LIST REPORT STEPS`, and `None` for every other.
+    pub(crate) fn read(words: &[&'w str]) -> Option<KaemWords<'w>>
+        ensures { result ≡ kaem_words (map (λ w. w.now) words.now) }
+    {
+        let [script, list, report, steps] = words else {
+            return None;
+        };
+        let (script, list, report) = three_files(script, list, report)?;
+        let steps = StepCount::read(steps)?;
+        Some(KaemWords {
+            script,
+            list,
+            report,
+            steps,
         })
     }
 }

@@ -4,11 +4,13 @@ use Rattle.std.specs.List.{list_all}
 use Rattle.ddc_base.specs.declared.languages.Language.{Language}
 use Rattle.ddc_base.specs.Languages.Words.{language_named}
 use Rattle.guest_run.specs.Setting.{is_text}
-use Rattle.command_plan.specs.Words.{as_file_name, as_steps, as_two_files}
+use Rattle.command_plan.specs.Words.{as_file_name, as_steps, as_three_files, as_two_files}
 use Rattle.tool_commands.specs.Asm.{as_base}
 use Rattle.tool_commands.specs.declared.words.AsmWords.{AsmWords}
 use Rattle.tool_commands.specs.declared.words.Hex0Words.{Hex0Words}
+use Rattle.tool_commands.specs.declared.words.KaemWords.{KaemWords}
 use Rattle.tool_commands.specs.declared.words.RunWords.{RunWords}
+use Rattle.tool_commands.specs.declared.words.ScriptWords.{ScriptWords}
 
 -- the words `SOURCE BINARY`
 abbrev pub hex0_of_names : Option (List ℕ) → Option (List ℕ) → Option Hex0Words
@@ -40,3 +42,21 @@ run_of _ _ _ = None
 abbrev pub run_words : List (List ℕ) → Option RunWords
 run_words (program ∷ steps ∷ args) = run_of (as_file_name program) (as_steps steps) (as_args args)
 run_words _ = None
+
+-- the words `SCRIPT LIST REPORT`
+abbrev pub script_words_of : Option (List ℕ × List ℕ × List ℕ) → Option ScriptWords
+script_words_of None = None
+script_words_of (Some files) = Some (record { script = files.0; list = files.1; report = files.2 })
+
+abbrev pub script_words : List (List ℕ) → Option ScriptWords
+script_words (script ∷ list ∷ report ∷ []) = script_words_of (as_three_files script list report)
+script_words _ = None
+
+-- the words `SCRIPT LIST REPORT STEPS`
+abbrev pub kaem_of : Option (List ℕ × List ℕ × List ℕ) → Option ℕ → Option KaemWords
+kaem_of (Some files) (Some steps) = Some (record { script = files.0; list = files.1; report = files.2; steps = steps })
+kaem_of _ _ = None
+
+abbrev pub kaem_words : List (List ℕ) → Option KaemWords
+kaem_words (script ∷ list ∷ report ∷ steps ∷ []) = kaem_of (as_three_files script list report) (as_steps steps)
+kaem_words _ = None

@@ -11,7 +11,7 @@ content-requires c = rw c.program_name.ensures (program-named c.args.words.now c
 pub returns-in_ok-guest-in-Ok-clause-begins : goal.returns-in_ok-guest-in-Ok-clause-begins
 returns-in_ok-guest-in-Ok-clause-begins c most =
     let there : content_at c.args.files.now (program_name c.args.words.now) ≡ Some c.in-Some.program.now = rw c.program_name.ensures at (sym c.in-Some.ensures) in
-    command-starts most c.args.files.now c.args.words.now c.in-Some.program.now c.in_ok-guest-in-Ok.guest c.stream.ensures.sound c.requires there c.in_ok-guest-in-Ok.ensures.meant
+    command-starts most c.args.files.now c.args.words.now c.in-Some.program.now c.in_ok-guest-in-Ok.guest c.show_sound.ensures c.requires there c.in_ok-guest-in-Ok.ensures.meant
 
 pub returns-in_ok-guest-in-Ok-clause-program : goal.returns-in_ok-guest-in-Ok-clause-program
 returns-in_ok-guest-in-Ok-clause-program c =
@@ -26,4 +26,4 @@ returns-in_err-guest-in-Ok-clause-program c =
 pub returns-in-Err-clause-begins : goal.returns-in-Err-clause-begins
 returns-in-Err-clause-begins c most =
     let there : content_at c.args.files.now (program_name c.args.words.now) ≡ Some c.in-Some.program.now = rw c.program_name.ensures at (sym c.in-Some.ensures) in
-    command-refused most c.args.files.now c.args.words.now c.in-Some.program.now c.in-Err.refusal c.stream.ensures.sound c.requires there (sym c.in-Err.ensures.value)
+    command-refused most c.args.files.now c.args.words.now c.in-Some.program.now c.in-Err.refusal c.show_sound.ensures c.requires there (sym c.in-Err.ensures.value)

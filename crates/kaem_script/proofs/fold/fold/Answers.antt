@@ -17,7 +17,7 @@ pub loop-index-preserved : goal.loop-index-preserved
 loop-index-preserved c =
     let run = rw c.in-Ok-Ok.field-0-is at c.in-Ok-Ok.ensures.comes in
     let pushed = c.in-Ok.ensures.ok in
-    let line = good-line c.args.most (world_in c.loop-index.present) c.in-Ok-Ok.left c.index-commands-index.result c.in-Ok-Ok.line c.requires.few c.stream.ensures.sound run in
+    let line = good-line c.args.most (world_in c.loop-index.present) c.in-Ok-Ok.left c.index-commands-index.result c.in-Ok-Ok.line c.requires.few c.show_sound.ensures run in
     record {
       going = goes_on c.args.most c.args.files.now c.args.commands.now c.loop-index.index c.loop-index.lines (world_in c.loop-index.present) c.loop-index.invariant.going
           c.push.new.self c.in-Ok-Ok.line c.in-Ok-Ok.left c.index-commands-index.result c.loop-index-test.true c.index-commands-index.is run pushed;

@@ -8,7 +8,7 @@ pub loop-name-init : goal.loop-name-init
 loop-name-init c = rw c.new-lines.ensures (ap (map (line_at c.args.files.now)) (walk-start (finite.keys c.args.files.now.names)))
 
 pub line_of-requires : goal.line_of-requires
-line_of-requires c = walk-name c.args.files.now _ _ c.stream.ensures.sound (sym c.in-Some.ensures)
+line_of-requires c = walk-name c.args.files.now _ _ c.show_sound.ensures (sym c.in-Some.ensures)
 
 pub loop-name-smaller : goal.loop-name-smaller
 loop-name-smaller c = walk-shorter c.args.files.now _ _ (sym c.in-Some.ensures)

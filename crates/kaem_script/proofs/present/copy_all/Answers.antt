@@ -4,10 +4,10 @@ use Rattle.kaem_script.proofs.Renewing.{placing-begins, placing-ends, placing-fi
 use Rattle.kaem_script.proofs.present.copy_all.Goals as goal
 
 pub loop-name-init : goal.loop-name-init
-loop-name-init c = placing-begins c.args.given.now _ c.stream.ensures.sound c.requires
+loop-name-init c = placing-begins c.args.given.now _ c.show_sound.ensures c.requires
 
 pub bytes_of-requires : goal.bytes_of-requires
-bytes_of-requires c = walk-name c.args.given.now _ _ c.stream.ensures.sound (sym c.in-Some.ensures)
+bytes_of-requires c = walk-name c.args.given.now _ _ c.show_sound.ensures (sym c.in-Some.ensures)
 
 pub place-requires : goal.place-requires
 place-requires c =

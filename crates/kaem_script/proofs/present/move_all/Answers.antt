@@ -7,14 +7,14 @@ use Rattle.kaem_script.proofs.present.move_all.Goals as goal
 
 pub loop-last-init : goal.loop-last-init
 loop-last-init c = record {
-  placing = placing-begins c.args.left.now c.args.files.now c.stream.ensures.sound c.requires;
+  placing = placing-begins c.args.left.now c.args.files.now c.show_sound.ensures c.requires;
   moving = moving-begins c.args.left.now;
 }
 
 pub take_content-content-requires : goal.take_content-content-requires
 take_content-content-requires c =
     let found = moving-name c.args.left.now c.loop-last.left c.loop-last.last _ c.loop-last.invariant.moving c.in_ok-name.ensures ∙ c.in-Some.is in
-    rw c.as_slice.ensures (walk-name c.args.left.now _ _ c.stream.ensures.sound found)
+    rw c.as_slice.ensures (walk-name c.args.left.now _ _ c.show_sound.ensures found)
 
 pub place-requires : goal.place-requires
 place-requires c =
@@ -42,7 +42,7 @@ loop-last-preserved c =
     record {
       placing = placing-goes-on c.args.left.now c.loop-last.last c.loop-last.files c.place.new.files c.in-Some.name c.take_content-content.result.items
           c.loop-last.invariant.placing found content put;
-      moving = moving-goes-on c.args.left.now c.loop-last.left c.take_content-content.new.self c.loop-last.last c.in-Some.name c.stream.ensures.sound
+      moving = moving-goes-on c.args.left.now c.loop-last.left c.take_content-content.new.self c.loop-last.last c.in-Some.name c.show_sound.ensures
           c.loop-last.invariant.moving found left;
     }
 

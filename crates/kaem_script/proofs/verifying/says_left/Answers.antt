@@ -16,7 +16,7 @@ returns-in_default-name_after c =
     (sym c.in_default-name_after.ensures))
 
 pub bytes_of-requires : goal.bytes_of-requires
-bytes_of-requires c = walk-name c.args.files.now _ _ c.stream.ensures.sound (sym c.in-Some.ensures)
+bytes_of-requires c = walk-name c.args.files.now _ _ c.show_sound.ensures (sym c.in-Some.ensures)
 
 pub returns-then-not-says_file : goal.returns-then-not-says_file
 returns-then-not-says_file c =

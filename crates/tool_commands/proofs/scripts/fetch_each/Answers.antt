@@ -19,32 +19,32 @@ loop-word-init g c =
 pub returns-in_err-content : goal.returns-in_err-content
 returns-in_err-content g c =
     stops_with c.from_residual-in_err-content.ensures.1
-    (file-ends (needs_files c.args.words.now) c.loop-word.files c.loop-word.room c.args.words.now c.loop-word.word-index _ _ c.loop-word.invariant.0 c.word-item.result c.as_str.result.now c.min.result
-    (at-front c.args.words.now c.loop-word.word-index c.word-item.result c.loop-word-test.true c.word-item.is) c.as_str.ensures.value c.min.ensures _ _ c.in_err-content.ensures.obtained)
+    (file-ends (needs_files c.args.words.now) c.loop-word.files c.loop-word.room c.args.words.now c.loop-word.word-index _ _ c.loop-word.invariant.0 c.word-item.result c.name.result c.min.result
+    (at-front c.args.words.now c.loop-word.word-index c.word-item.result c.loop-word-test.true c.word-item.is) c.name.ensures.value c.min.ensures _ _ c.in_err-content.ensures.obtained)
 
 pub add-requires : goal.add-requires
 add-requires g c =
     let front = at-front c.args.words.now c.loop-word.word-index c.word-item.result c.loop-word-test.true c.word-item.is in
-    let within = fetched_within c.as_str.result.now 268_435_456 c.loop-word.room c.min.result _ _ c.in_ok-content.content c.min.ensures c.in_ok-content.ensures.fetched in
+    let within = fetched_within c.name.result 268_435_456 c.loop-word.room c.min.result _ _ c.in_ok-content.content c.min.ensures c.in_ok-content.ensures.fetched in
     rw c.as_slice.ensures
     (placed-so c.loop-word.files c.loop-word.room c.word-item.result (drop (c.loop-word.word-index + 1) c.args.words.now) c.in_ok-content.content
-    (subst (HasRoom c.loop-word.files c.loop-word.room) front c.loop-word.invariant.1) c.as_str.ensures.file within.0 within.1)
+    (subst (HasRoom c.loop-word.files c.loop-word.room) front c.loop-word.invariant.1) c.name.ensures.file within.0 within.1)
 
 pub returns-in_err-add : goal.returns-in_err-add
 returns-in_err-add g c =
     stops_with c.from_residual-in_err-add.ensures.1
     (wants_on _ _ _ _
-    (file-more (needs_files c.args.words.now) c.loop-word.files c.loop-word.room c.args.words.now c.loop-word.word-index _ _ c.loop-word.invariant.0 c.word-item.result c.as_str.result.now c.min.result
-    (at-front c.args.words.now c.loop-word.word-index c.word-item.result c.loop-word-test.true c.word-item.is) c.as_str.ensures.value c.min.ensures _ _ c.in_ok-content.ensures.obtained))
+    (file-more (needs_files c.args.words.now) c.loop-word.files c.loop-word.room c.args.words.now c.loop-word.word-index _ _ c.loop-word.invariant.0 c.word-item.result c.name.result c.min.result
+    (at-front c.args.words.now c.loop-word.word-index c.word-item.result c.loop-word-test.true c.word-item.is) c.name.ensures.value c.min.ensures _ _ c.in_ok-content.ensures.obtained))
 
 pub loop-word-preserved : goal.loop-word-preserved
 loop-word-preserved g c =
     let front = at-front c.args.words.now c.loop-word.word-index c.word-item.result c.loop-word-test.true c.word-item.is in
-    let within = fetched_within c.as_str.result.now 268_435_456 c.loop-word.room c.min.result _ _ c.in_ok-content.content c.min.ensures c.in_ok-content.ensures.fetched in
-    file-added (needs_files c.args.words.now) c.loop-word.files c.loop-word.room c.args.words.now c.loop-word.word-index _ _ c.loop-word.invariant.0 c.word-item.result c.as_str.result.now c.min.result
-    front c.as_str.ensures.value c.min.ensures _ c.in_ok-content.content _ _ c.in_ok-content.ensures.obtained
+    let within = fetched_within c.name.result 268_435_456 c.loop-word.room c.min.result _ _ c.in_ok-content.content c.min.ensures c.in_ok-content.ensures.fetched in
+    file-added (needs_files c.args.words.now) c.loop-word.files c.loop-word.room c.args.words.now c.loop-word.word-index _ _ c.loop-word.invariant.0 c.word-item.result c.name.result c.min.result
+    front c.name.ensures.value c.min.ensures _ c.in_ok-content.content _ _ c.in_ok-content.ensures.obtained
     (room-following c.loop-word.files c.loop-word.room c.word-item.result (drop (c.loop-word.word-index + 1) c.args.words.now) c.in_ok-content.content
-    (subst (HasRoom c.loop-word.files c.loop-word.room) front c.loop-word.invariant.1) c.as_str.ensures.file within.0 within.1)
+    (subst (HasRoom c.loop-word.files c.loop-word.room) front c.loop-word.invariant.1) c.name.ensures.file within.0 within.1)
     (ap (λ n. c.loop-word.room - n) c.len.ensures)
     (c.in_ok-add.ensures ∙ ap (and_file c.loop-word.files c.word-item.result) c.as_slice.ensures)
 
