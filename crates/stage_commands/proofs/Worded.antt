@@ -1,13 +1,12 @@
 -- The plans of the commands on one stage, over words that were read.
 use Rattle.std.proofs.Common.{◌≡◌, ℕ, ◌&&◌, Bool, true, false, Option, None, Some, List, [], ◌∷◌, refl}
 use Rattle.std.specs.Prelude.{if◌then◌else◌}
-use Rattle.mem_files.specs.Names.{is_stripped_name, stripped}
 use Rattle.command_plan.specs.Plan.{Plan}
 use Rattle.command_plan.specs.Words.{are_two_files, as_steps, has_no_zero_byte, is_file_word, or_usage, usage}
 use Rattle.stage_commands.specs.Cut.{cut_files, cut_plan}
 use Rattle.stage_commands.specs.Ends.{ends_files, ends_plan}
 use Rattle.stage_commands.specs.Inside.Words.{cut_of, cut_words, ends_of, ends_words, left_of, left_words, named_left, place_of, stage_words}
-use Rattle.stage_commands.specs.Left.{are_left_words, left_files, left_plan}
+use Rattle.stage_commands.specs.Left.{are_left_words, is_left_word, left_files, left_plan}
 use Rattle.stage_commands.specs.Names.{as_states, is_prefix}
 use Rattle.stage_commands.specs.Step.{step_plan, step_stage}
 use Rattle.stage_commands.specs.declared.words.CutWords.{CutWords}
@@ -46,7 +45,7 @@ left recipe stage file out false clear names = refl
 
 pub lefts : (words : List (List ℕ)) → left_plan words ≡ or_usage (left_words words) over_left
 unfolding are_left_words named_left
-lefts (recipe ∷ stage ∷ file ∷ out ∷ []) = left recipe stage file out (are_two_files recipe out) (has_no_zero_byte stage) (is_stripped_name (stripped file))
+lefts (recipe ∷ stage ∷ file ∷ out ∷ []) = left recipe stage file out (are_two_files recipe out) (has_no_zero_byte stage) (is_left_word file)
 lefts _ = refl
 
 -- ---- `cut`

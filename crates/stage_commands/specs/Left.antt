@@ -1,6 +1,7 @@
 -- `left RECIPE STAGE FILE OUT`: a stage's program is run, whatever it ends with, and what it left at one place is saved.
 -- docs/reference/command-line.md says the same for people.
-use Rattle.std.specs.Prelude.{ℕ, ◌+◌, Bool, ◌&&◌, Option, None, Some, Result, Ok, Err, List, [], ◌∷◌, bytes_eq, codes, decimal, length, slice_get, unwrap_or, if◌then◌else◌}
+use Rattle.std.specs.Prelude.{ℕ, ◌+◌, ◌==◌, nat_lt, Bool, ◌&&◌, ◌||◌, not, Option, None, Some, Result, Ok, Err, List, [], ◌∷◌, bytes_eq, codes, decimal, length, slice_get, unwrap_or, if◌then◌else◌}
+use Rattle.std.specs.List.{list_any}
 use Rattle.ddc_base.specs.Lines.{line}
 use Rattle.guest_run.specs.Run.{End, Exited, Trapped, UnknownCall, after, first_end}
 use Rattle.guest_run.specs.Start.{Refusal}
@@ -102,9 +103,20 @@ left_files recipe stage file out =
     needs_earlier said inputs count (λ done.
     left_of_stage said inputs done file out)))))
 
--- the words after `left`: RECIPE and OUT can name two files, STAGE has no zero byte, and FILE is a guest's file name, with or without leading `./`
+-- a word that stands in one line as it is written: no byte of it is a control character of ASCII
+unfoldable pub is_control : ℕ → Bool
+is_control byte = nat_lt byte 32 || byte == 127
+
+abbrev pub fits_one_line : List ℕ → Bool
+fits_one_line word = not (list_any is_control word)
+
+-- FILE: a guest's file name, with or without leading `./`, that fits one line
+unfoldable pub is_left_word : List ℕ → Bool
+is_left_word file = is_stripped_name (stripped file) && fits_one_line file
+
+-- the words after `left`: RECIPE and OUT can name two files, STAGE has no zero byte, and FILE can be asked for
 unfoldable pub are_left_words : List ℕ → List ℕ → List ℕ → List ℕ → Bool
-are_left_words recipe stage file out = are_two_files recipe out && has_no_zero_byte stage && is_stripped_name (stripped file)
+are_left_words recipe stage file out = are_two_files recipe out && has_no_zero_byte stage && is_left_word file
 
 abbrev pub left_plan : List (List ℕ) → Plan
 left_plan (recipe ∷ stage ∷ file ∷ out ∷ []) = if are_left_words recipe stage file out then left_files recipe stage file out else usage

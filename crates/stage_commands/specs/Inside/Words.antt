@@ -1,7 +1,7 @@
 -- The words of the commands on one stage, each set of them as one value.
 use Rattle.std.specs.Prelude.{ℕ, Option, None, Some, List, [], ◌∷◌, if◌then◌else◌}
-use Rattle.mem_files.specs.Names.{is_stripped_name, stripped}
 use Rattle.command_plan.specs.Words.{as_file_name, as_steps, as_two_files, has_no_zero_byte}
+use Rattle.stage_commands.specs.Left.{is_left_word}
 use Rattle.stage_commands.specs.Names.{as_states, is_prefix}
 use Rattle.stage_commands.specs.declared.words.StageWords.{StageWords}
 use Rattle.stage_commands.specs.declared.words.LeftWords.{LeftWords}
@@ -13,7 +13,7 @@ abbrev pub as_stage_word : List ℕ → Option (List ℕ)
 as_stage_word word = if has_no_zero_byte word then Some word else None
 
 abbrev pub as_guest_file : List ℕ → Option (List ℕ)
-as_guest_file word = if is_stripped_name (stripped word) then Some word else None
+as_guest_file word = if is_left_word word then Some word else None
 
 abbrev pub as_prefix : List ℕ → Option (List ℕ)
 as_prefix word = if is_prefix word then Some word else None
