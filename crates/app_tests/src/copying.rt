@@ -1,11 +1,10 @@
 //! A command that saves what it loaded under two names.
 
-ghost use Rattle.ddc_base.specs.Outside.{IsFileName};
 ghost use Rattle.command_plan.specs.Performs.{Performs};
 ghost use Rattle.command_plan.specs.Plan.{answers, sets};
 ghost use Rattle.app_tests.specs.Copying.{copied_twice, kept_twice};
 
-use command_plan::{Answer, Status, Stop, fetch, keep, store, texts};
+use command_plan::{Answer, FileName, Status, Stop, fetch, keep, store, texts};
 use ddc_base::{Bytes, Shelf};
 use std::alloc::Global;
 
@@ -14,13 +13,10 @@ use std::alloc::Global;
 pub fn copy_twice<S: Shelf>(
     alloc: Global,
     shelf: &mut S,
-    source: &str,
-    first: &str,
-    second: &str,
+    source: &FileName<'_>,
+    first: &FileName<'_>,
+    second: &FileName<'_>,
 ) -> Result<Answer, Stop>
-    requires source { IsFileName source.now }
-    requires first { IsFileName first.now }
-    requires second { IsFileName second.now }
     ensures { Performs (copied_twice source.now first.now second.now) (S.state shelf.old) (S.state shelf.new) result }
 {
     let content = fetch(alloc, shelf, source, 4)?;
@@ -32,12 +28,10 @@ pub fn copy_twice<S: Shelf>(
 fn keep_twice<S: Shelf>(
     alloc: Global,
     shelf: &mut S,
-    first: &str,
-    second: &str,
+    first: &FileName<'_>,
+    second: &FileName<'_>,
     content: &Bytes,
 ) -> Result<Answer, Stop>
-    requires first { IsFileName first.now }
-    requires second { IsFileName second.now }
     ensures { Performs (kept_twice first.now second.now content.now) (S.state shelf.old) (S.state shelf.new) result }
 {
     let answer = Answer {
@@ -52,13 +46,11 @@ fn keep_twice<S: Shelf>(
 fn save_both<S: Shelf>(
     alloc: Global,
     shelf: &mut S,
-    first: &str,
-    second: &str,
+    first: &FileName<'_>,
+    second: &FileName<'_>,
     content: &Bytes,
     answer: Answer,
 ) -> Result<Answer, Stop>
-    requires first { IsFileName first.now }
-    requires second { IsFileName second.now }
     ensures { Performs (sets first.now content.now (sets second.now content.now (answers answer.status answer.text)))
         (S.state shelf.old) (S.state shelf.new) result }
 {

@@ -1,7 +1,7 @@
 use crate::copying::copy_twice;
 use crate::scenes::{are_calls, holds, says};
 use crate::worked::{EXIT, run};
-use command_plan::{Answer, Stop};
+use command_plan::{Answer, FileName, Stop};
 use ddc_app::Status;
 use ddc_base::{MemShelf, MemSink, OutOfMemory};
 use std::alloc::Global;
@@ -347,18 +347,21 @@ fn is_fault(done: &Result<Answer, Stop>, text: &[u8]) -> bool {
     matches!(done, Err(Stop::ShelfFault(fault)) if fault.as_slice() == text)
 }
 
+fn copy_pair(alloc: Global, shelf: &mut MemShelf) -> Result<Answer, Stop> {
+    let (pair, one, two) = (
+        FileName::of("pair"),
+        FileName::of("one"),
+        FileName::of("two"),
+    );
+    copy_twice(alloc, shelf, &pair, &one, &two)
+}
+
 fn copy_is_done(alloc: Global, shelf: &mut MemShelf) -> bool {
-    is_done(
-        &copy_twice(alloc, shelf, "pair", "one", "two"),
-        b"equal 2\n",
-    )
+    is_done(&copy_pair(alloc, shelf), b"equal 2\n")
 }
 
 fn copy_is_fault(alloc: Global, shelf: &mut MemShelf) -> bool {
-    is_fault(
-        &copy_twice(alloc, shelf, "pair", "one", "two"),
-        b"shelf fault two\n",
-    )
+    is_fault(&copy_pair(alloc, shelf), b"shelf fault two\n")
 }
 
 /// The second save fails once.
