@@ -25,7 +25,7 @@ use Rattle.kaem_script.specs.Faults.{first_script_fault}
 use Rattle.kaem_script.specs.FilesListed.{FilesListed, IsList, no_files}
 use Rattle.kaem_script.specs.Fold.{Folded, Ran, RanAll, Stopped, folded}
 use Rattle.kaem_script.specs.Reported.{script_ended, script_report}
-use Rattle.kaem_script.specs.Script.{RecipeContents}
+use Rattle.kaem_script.specs.Script.{ScriptContents}
 use Rattle.kaem_script.proofs.DoneReports.{done-report}
 use Rattle.kaem_script.proofs.OneReport.{no_fault_reports, reported_without_fault}
 use Rattle.command_plan.specs.declared.status.Status.{Status}
@@ -53,7 +53,7 @@ use Rattle.ddc_app.proofs.Walks.{IsRefusal, both_need, both_need_all, both_read,
 -- ---- what holds of every refusal and of what the loads lead to holds of both commands
 
 -- a script and a list that read, none of whose words stands for the report's file
-record Opens (script list report : List ℕ) (files : NamedFiles) (said : RecipeContents) (words : List (List ℕ)) : Type 0 where
+record Opens (script list report : List ℕ) (files : NamedFiles) (said : ScriptContents) (words : List (List ℕ)) : Type 0 where
   script_bytes : List ℕ
   script_held : loaded files script 1_048_576 ≡ Bytes script_bytes
   script_reads : script_of script_bytes ≡ Ok said
@@ -86,7 +86,7 @@ module _ (script list report : List ℕ) (files : NamedFiles) (P : Outcome → T
       by true is = refused status.Usage usage_line (refl, refl)
       by false is = keeps is
 
-  script_keeps : (next : RecipeContents → Plan) → ((bytes : List ℕ) (said : RecipeContents) → loaded files script 1_048_576 ≡ Bytes bytes → script_of bytes ≡ Ok said → Keeps (next said))
+  script_keeps : (next : ScriptContents → Plan) → ((bytes : List ℕ) (said : ScriptContents) → loaded files script 1_048_576 ≡ Bytes bytes → script_of bytes ≡ Ok said → Keeps (next said))
       → Keeps (needs_script script next)
   script_keeps next keeps =
       let text : ScriptFault × ℕ → List ℕ = λ fault. script_line fault.0 fault.1 in
@@ -99,10 +99,10 @@ module _ (script list report : List ℕ) (files : NamedFiles) (P : Outcome → T
       need_keeps list 1_048_576 (λ bytes. unless_refused (list_of file_line 4_096 bytes) (λ number. answers status.ListRefused (list_line number)) next)
       (λ bytes held. read_keeps (list_of file_line 4_096 bytes) status.ListRefused list_line next (refl, refl) (λ words reads. keeps bytes words held reads))
 
-  front_keeps : (next : RecipeContents → List (List ℕ) → Plan) → ((said : RecipeContents) (words : List (List ℕ)) → Opens script list report files said words → Keeps (next said words))
+  front_keeps : (next : ScriptContents → List (List ℕ) → Plan) → ((said : ScriptContents) (words : List (List ℕ)) → Opens script list report files said words → Keeps (next said words))
       → Keeps (needs_script_and_list script list report next)
   front_keeps next keeps =
-      let following : RecipeContents → List (List ℕ) → Plan = λ said words. needs_unlisted words report (λ _. next said words) in
+      let following : ScriptContents → List (List ℕ) → Plan = λ said words. needs_unlisted words report (λ _. next said words) in
       script_keeps (λ said. needs_list file_line 4_096 list (following said)) (λ bytes said held reads.
       list_keeps (following said) (λ text words text_held words_read.
       unlisted_keeps words (λ _. next said words) (λ apart.
@@ -122,7 +122,7 @@ module _ (script list report : List ℕ) (files : NamedFiles) (P : Outcome → T
       need_keeps report 1_073_741_824 (λ text. unless_refused (script_report_of text) (λ number. answers status.ReportRefused (report_line number)) next)
       (λ text held. read_keeps (script_report_of text) status.ReportRefused report_line next (refl, refl) (λ made reads. keeps text made held reads))
 
-  files_keep : (three : IsTrue (are_three_files script list report)) (said : RecipeContents) (words : List (List ℕ)) → Opens script list report files said words → (next : FilesListed → Plan)
+  files_keep : (three : IsTrue (are_three_files script list report)) (said : ScriptContents) (words : List (List ℕ)) → Opens script list report files said words → (next : FilesListed → Plan)
       → ((listed : FilesListed) → HoldsScript script list report files said listed → Keeps (next listed)) → Keeps (needs_files words next)
   unfolding needs_files
   files_keep three said words o next keeps =
@@ -146,7 +146,7 @@ module _ (script list report : List ℕ) (files : NamedFiles) (P : Outcome → T
   -- `kaem`
   abbrev Folds : List ℕ → Type 0
   Folds steps =
-      (most : ℕ) (said : RecipeContents) (listed : FilesListed) → as_steps steps ≡ Some most → HoldsScript script list report files said listed
+      (most : ℕ) (said : ScriptContents) (listed : FilesListed) → as_steps steps ≡ Some most → HoldsScript script list report files said listed
       → Keeps (folded_plan report said listed (folded most listed.world said.commands))
 
   pub kaem_keeps : (steps : List ℕ) → Folds steps → Keeps (plan_of (codes "kaem" ∷ script ∷ list ∷ report ∷ steps ∷ []))
@@ -158,14 +158,14 @@ module _ (script list report : List ℕ) (files : NamedFiles) (P : Outcome → T
       by None is three are = refused status.Usage usage_line (refl, refl)
       by (Some most) is false are = refused status.Usage usage_line (refl, refl)
       by (Some most) is true are =
-          let last : RecipeContents → FilesListed → Plan = λ said listed. folded_plan report said listed (folded most listed.world said.commands) in
+          let last : ScriptContents → FilesListed → Plan = λ said listed. folded_plan report said listed (folded most listed.world said.commands) in
           front_keeps (λ said words. needs_files words (last said)) (λ said words o.
           files_keep are said words o (last said) (λ listed holds. keeps most said listed is holds))
 
   -- `kaem-verify`
   abbrev Judges : Type 0
   Judges =
-      (said : RecipeContents) (listed : FilesListed) (text : List ℕ) (made : ScriptReport) → HoldsScript script list report files said listed
+      (said : ScriptContents) (listed : FilesListed) (text : List ℕ) (made : ScriptReport) → HoldsScript script list report files said listed
       → loaded files report 1_073_741_824 ≡ Bytes text → script_report_of text ≡ Ok made
       → Keeps (script_verdict_plan (length said.commands) (first_script_fault said listed made))
 
@@ -176,8 +176,8 @@ module _ (script list report : List ℕ) (files : NamedFiles) (P : Outcome → T
       by : (three : Bool) → are_three_files script list report ≡ three → Keeps (cond three (kaem_verify_files script list report) usage)
       by false are = refused status.Usage usage_line (refl, refl)
       by true are =
-          let last : RecipeContents → ScriptReport → FilesListed → Plan = λ said made listed. script_verdict_plan (length said.commands) (first_script_fault said listed made) in
-          let loads : RecipeContents → List (List ℕ) → ScriptReport → Plan = λ said words made. needs_files words (last said made) in
+          let last : ScriptContents → ScriptReport → FilesListed → Plan = λ said made listed. script_verdict_plan (length said.commands) (first_script_fault said listed made) in
+          let loads : ScriptContents → List (List ℕ) → ScriptReport → Plan = λ said words made. needs_files words (last said made) in
           front_keeps (λ said words. needs_script_report report (loads said words)) (λ said words o.
           report_keeps (loads said words) (λ text made held reads.
           files_keep are said words o (last said made) (λ listed holds. keeps said listed text made holds held reads)))
@@ -191,7 +191,7 @@ module _ (script list report : List ℕ) (files : NamedFiles) where
   as_before : (given : Status) (text : List ℕ) → Alone (told files given text)
   as_before given text = record { others = λ name other. refl; unless_yes = λ other. refl }
 
-  by_fold : (said : RecipeContents) (listed : FilesListed) (f : Folded) → Alone (outcome (folded_plan report said listed f) files)
+  by_fold : (said : ScriptContents) (listed : FilesListed) (f : Folded) → Alone (outcome (folded_plan report said listed f) files)
   by_fold said listed (RanAll ran world) = record {
     others = λ name other. (others-insert files report (script_report_text (script_report said listed ran world))).others name other;
     unless_yes = λ other. absurd (other refl);
@@ -219,7 +219,7 @@ no_yes given refusal ends = let both : false ≡ true = sym refusal ∙ ap is_co
 
 module _ (script list report : List ℕ) (files : NamedFiles) where
   -- the report that is held says what its commands come to
-  pub shows_true : (said : RecipeContents) (listed : FilesListed) (text : List ℕ) (made : ScriptReport) → loaded files report 1_073_741_824 ≡ Bytes text → script_report_of text ≡ Ok made
+  pub shows_true : (said : ScriptContents) (listed : FilesListed) (text : List ℕ) (made : ScriptReport) → loaded files report 1_073_741_824 ≡ Bytes text → script_report_of text ≡ Ok made
       → first_script_fault said listed made ≡ None → IsScriptTrue report files said listed
   shows_true said listed text made held reads none =
       by (folded (2 ^ 48) listed.world said.commands) refl (no_fault_reports said listed made none)
@@ -241,7 +241,7 @@ module _ (script list report : List ℕ) (files : NamedFiles) where
       (λ given text refusal ends. absurd (no_yes given refusal.1 ends)) (λ said listed text made holds held reads.
       by said listed text made holds held reads (first_script_fault said listed made) refl)
     where
-      by : (said : RecipeContents) (listed : FilesListed) (text : List ℕ) (made : ScriptReport) → HoldsScript script list report files said listed
+      by : (said : ScriptContents) (listed : FilesListed) (text : List ℕ) (made : ScriptReport) → HoldsScript script list report files said listed
           → loaded files report 1_073_741_824 ≡ Bytes text → script_report_of text ≡ Ok made → (fault : Option (ScriptPart × ℕ)) → first_script_fault said listed made ≡ fault
           → (outcome (script_verdict_plan (length said.commands) fault) files).status ≡ status.Yes
           → ScriptVerified script list report files (outcome (script_verdict_plan (length said.commands) fault) files)
@@ -256,7 +256,7 @@ module _ (script list report : List ℕ) (files : NamedFiles) where
       (λ given text refusal ends. absurd (no_yes given refusal.1 ends)) steps (λ most said listed count holds.
       by most said listed count holds (folded most listed.world said.commands) refl)
     where
-      by : (most : ℕ) (said : RecipeContents) (listed : FilesListed) → as_steps steps ≡ Some most → HoldsScript script list report files said listed
+      by : (most : ℕ) (said : ScriptContents) (listed : FilesListed) → as_steps steps ≡ Some most → HoldsScript script list report files said listed
           → (f : Folded) → folded most listed.world said.commands ≡ f → (outcome (folded_plan report said listed f) files).status ≡ status.Yes
           → ScriptReported script list report steps files (outcome (folded_plan report said listed f) files)
       by most said listed count holds (RanAll ran world) was ends =
@@ -265,12 +265,12 @@ module _ (script list report : List ℕ) (files : NamedFiles) where
 
 -- ---- over files that hold a script
 
-module _ (script list report : List ℕ) (files : NamedFiles) (said : RecipeContents) (listed : FilesListed) (h : HoldsScript script list report files said listed) where
-  front_opens : (next : RecipeContents → List (List ℕ) → Plan) → outcome (needs_script_and_list script list report next) files ≡ outcome (next said h.words) files
+module _ (script list report : List ℕ) (files : NamedFiles) (said : ScriptContents) (listed : FilesListed) (h : HoldsScript script list report files said listed) where
+  front_opens : (next : ScriptContents → List (List ℕ) → Plan) → outcome (needs_script_and_list script list report next) files ≡ outcome (next said h.words) files
   unfolding needs_unlisted
   front_opens next =
-      let following : RecipeContents → List (List ℕ) → Plan = λ s words. needs_unlisted words report (λ _. next s words) in
-      let lists : RecipeContents → Plan = λ s. needs_list file_line 4_096 list (following s) in
+      let following : ScriptContents → List (List ℕ) → Plan = λ s words. needs_unlisted words report (λ _. next s words) in
+      let lists : ScriptContents → Plan = λ s. needs_list file_line 4_096 list (following s) in
       let refuse : ScriptFault × ℕ → Plan = λ fault. answers status.ScriptRefused (script_line fault.0 fault.1) in
       let refuse_list : ℕ → Plan = λ number. answers status.ListRefused (list_line number) in
       follows script 1_048_576 (λ bytes. unless_refused (script_of bytes) refuse lists) files h.script_bytes h.script_held
@@ -290,12 +290,12 @@ module _ (script list report : List ℕ) (files : NamedFiles) (said : RecipeCont
     pub text : All (λ byte. byte < 256) h.script_bytes
     pub contents : All IsContent h.contents
 
-  front_loads : (next : RecipeContents → List (List ℕ) → Plan) → LoadsBytes (needs_script_and_list script list report next) files
+  front_loads : (next : ScriptContents → List (List ℕ) → Plan) → LoadsBytes (needs_script_and_list script list report next) files
       → All (λ byte. byte < 256) h.script_bytes × LoadsBytes (next said h.words) files
   unfolding needs_unlisted
   front_loads next bytes =
-      let following : RecipeContents → List (List ℕ) → Plan = λ s words. needs_unlisted words report (λ _. next s words) in
-      let lists : RecipeContents → Plan = λ s. needs_list file_line 4_096 list (following s) in
+      let following : ScriptContents → List (List ℕ) → Plan = λ s words. needs_unlisted words report (λ _. next s words) in
+      let lists : ScriptContents → Plan = λ s. needs_list file_line 4_096 list (following s) in
       let refuse : ScriptFault × ℕ → Plan = λ fault. answers status.ScriptRefused (script_line fault.0 fault.1) in
       let refuse_list : ℕ → Plan = λ number. answers status.ListRefused (list_line number) in
       let first = loads_bytes script 1_048_576 (λ b. unless_refused (script_of b) refuse lists) files h.script_bytes h.script_held bytes in
@@ -308,7 +308,7 @@ module _ (script list report : List ℕ) (files : NamedFiles) (said : RecipeCont
   pub kaem_loaded : (steps : List ℕ) (most : ℕ) → as_steps steps ≡ Some most → LoadsBytes (plan_of (codes "kaem" ∷ script ∷ list ∷ report ∷ steps ∷ [])) files → AreBytes
   unfolding kaem_files needs_files
   kaem_loaded steps most count bytes =
-      let last : RecipeContents → FilesListed → Plan = λ s l. folded_plan report s l (folded most l.world s.commands) in
+      let last : ScriptContents → FilesListed → Plan = λ s l. folded_plan report s l (folded most l.world s.commands) in
       let front = front_loads (λ s words. needs_files words (last s))
       (subst (λ three. LoadsBytes (cond three (kaem_files script list report most) usage) files) h.three
       (subst (λ n. LoadsBytes (or_usage n (λ m. cond (are_three_files script list report) (kaem_files script list report m) usage)) files) count bytes)) in
@@ -324,7 +324,7 @@ module _ (script list report : List ℕ) (files : NamedFiles) (said : RecipeCont
   pub kaem_folds : (most : ℕ) → IsStepCount most → kaem script list report most files ≡ kaem_ended report files said listed (folded most listed.world said.commands)
   unfolding kaem_files
   kaem_folds most count =
-      let last : RecipeContents → FilesListed → Plan = λ s l. folded_plan report s l (folded most l.world s.commands) in
+      let last : ScriptContents → FilesListed → Plan = λ s l. folded_plan report s l (folded most l.world s.commands) in
       ap (λ steps. outcome (or_usage steps (λ n. cond (are_three_files script list report) (kaem_files script list report n) usage)) files) (count-again most count)
       ∙ ap (λ three. outcome (cond three (kaem_files script list report most) usage) files) h.three
       ∙ front_opens (λ s words. needs_files words (last s))
@@ -335,7 +335,7 @@ module _ (script list report : List ℕ) (files : NamedFiles) (said : RecipeCont
   abbrev judged : ScriptReport → Plan
   judged made = script_verdict_plan (length said.commands) (first_script_fault said listed made)
 
-  abbrev loads : RecipeContents → List (List ℕ) → ScriptReport → Plan
+  abbrev loads : ScriptContents → List (List ℕ) → ScriptReport → Plan
   loads s words made = needs_files words (λ l. script_verdict_plan (length s.commands) (first_script_fault s l made))
 
   report_opens : kaem_verify script list report files ≡ outcome (needs_script_report report (loads said h.words)) files
@@ -461,7 +461,7 @@ script_accepted script list report steps files bytes ends =
     (ap (λ (o : Outcome). o.status)
     (accepts_report script list report (finite.insert files report text) r.said r.listed again r.most r.ran r.world few r.all_ran good (set_held files report text)))
 
-pub accepted_text : (script list report : List ℕ) (steps : ℕ) (files : NamedFiles) (said : RecipeContents) (listed : FilesListed) → HoldsScript script list report files said listed
+pub accepted_text : (script list report : List ℕ) (steps : ℕ) (files : NamedFiles) (said : ScriptContents) (listed : FilesListed) → HoldsScript script list report files said listed
     → LoadsBytes (plan_of (codes "kaem" ∷ script ∷ list ∷ report ∷ decimal steps ∷ [])) files → (kaem script list report steps files).status ≡ status.Yes
     → (kaem_verify script list report (kaem script list report steps files).files).text ≡ commands_true_line (length said.commands)
 accepted_text script list report steps files said listed h bytes ends =

@@ -9,7 +9,7 @@ use Rattle.report.specs.Script.Reports.{script_report_text}
 use Rattle.kaem_script.specs.FilesListed.{FilesListed, no_files}
 use Rattle.kaem_script.specs.Fold.{Folded, RanAll, Ran, Stopped, folded}
 use Rattle.kaem_script.specs.Reported.{script_report}
-use Rattle.kaem_script.specs.Script.{RecipeContents}
+use Rattle.kaem_script.specs.Script.{ScriptContents}
 use Rattle.command_plan.specs.declared.status.Status.TheVariants.{RunFailed, Yes}
 use Rattle.command_plan.specs.Lists.{list_of}
 use Rattle.command_plan.specs.Plan.{Outcome, outcome}
@@ -31,7 +31,7 @@ kaem_verify script list report files = outcome (plan_of (codes "kaem-verify" ∷
 
 -- three words for three files. The files hold a script that reads, a list that reads, none of whose words stands for the report's file, and
 -- the contents of these words, within their limits; this is what the script says, and these are the listed files
-pub record HoldsScript (script list report : List ℕ) (files : NamedFiles) (said : RecipeContents) (listed : FilesListed) : Type 0 where
+pub record HoldsScript (script list report : List ℕ) (files : NamedFiles) (said : ScriptContents) (listed : FilesListed) : Type 0 where
   pub three : IsTrue (are_three_files script list report)
   pub script_bytes : List ℕ
   pub script_held : loaded files script 1_048_576 ≡ Bytes script_bytes
@@ -48,7 +48,7 @@ pub record HoldsScript (script list report : List ℕ) (files : NamedFiles) (sai
 -- ---- what they come to
 
 -- `kaem` by how its commands end: all ran, and the report is held; or one stopped the script, and nothing is changed
-abbrev pub kaem_ended : List ℕ → NamedFiles → RecipeContents → FilesListed → Folded → Outcome
+abbrev pub kaem_ended : List ℕ → NamedFiles → ScriptContents → FilesListed → Folded → Outcome
 kaem_ended report files said listed (RanAll ran world) = record {
   status = Yes;
   text = done_line (length ran) (steps_of_commands ran);
@@ -59,7 +59,7 @@ kaem_ended report files said listed (Stopped number cause step) =
 
 -- what is held as the report is exactly the text of what these commands come to: each exits with 0 at its recorded step, which is the first end
 -- and at most 2^48, and leaves the recorded streams, and the last one leaves the recorded files
-pub record IsScriptTrue (report : List ℕ) (files : NamedFiles) (said : RecipeContents) (listed : FilesListed) : Type 0 where
+pub record IsScriptTrue (report : List ℕ) (files : NamedFiles) (said : ScriptContents) (listed : FilesListed) : Type 0 where
   pub ran : List Ran
   pub world : World
   pub all_ran : folded (2 ^ 48) listed.world said.commands ≡ RanAll ran world
@@ -67,7 +67,7 @@ pub record IsScriptTrue (report : List ℕ) (files : NamedFiles) (said : RecipeC
 
 -- what a yes of `kaem-verify` shows: the files hold such a script and such a list, and the report is true of them; the text says how many commands ran
 pub record ScriptVerified (script list report : List ℕ) (files : NamedFiles) (answer : Outcome) : Type 0 where
-  pub said : RecipeContents
+  pub said : ScriptContents
   pub listed : FilesListed
   pub holds : HoldsScript script list report files said listed
   pub is_true : IsScriptTrue report files said listed
@@ -77,7 +77,7 @@ pub record ScriptVerified (script list report : List ℕ) (files : NamedFiles) (
 pub record ScriptReported (script list report steps : List ℕ) (files : NamedFiles) (answer : Outcome) : Type 0 where
   pub most : ℕ
   pub counted : as_steps steps ≡ Some most
-  pub said : RecipeContents
+  pub said : ScriptContents
   pub listed : FilesListed
   pub holds : HoldsScript script list report files said listed
   pub ran : List Ran

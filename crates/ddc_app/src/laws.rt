@@ -17,7 +17,7 @@ ghost use Rattle.ddc_base.specs.Outside.{NamedFiles};
 ghost use Rattle.ddc_base.specs.Lines.{line};
 ghost use Rattle.kaem_script.specs.FilesListed.{FilesListed};
 ghost use Rattle.kaem_script.specs.Fold.{folded};
-ghost use Rattle.kaem_script.specs.Script.{RecipeContents};
+ghost use Rattle.kaem_script.specs.Script.{ScriptContents};
 ghost use Rattle.recipe.specs.declared.contents.RecipeContents.{RecipeContents as Recipe};
 ghost use Rattle.report.specs.Lines.{line_words};
 ghost use Rattle.report.specs.declared.line.ReportLine.TheVariants.{Left, Stream1, Stream2};
@@ -188,7 +188,7 @@ pub fn differences()
 /// `kaem` ends exactly as the fold of its script's commands over the listed files does, each command within STEPS: where all ran, their report is
 /// held, and where one stopped the script, nothing is changed.
 pub fn scripts_fold()
-    ensures { (script list report : List ℕ) (steps : ℕ) (files : NamedFiles) (said : RecipeContents) (listed : FilesListed)
+    ensures { (script list report : List ℕ) (steps : ℕ) (files : NamedFiles) (said : ScriptContents) (listed : FilesListed)
         → HoldsScript script list report files said listed → IsStepCount steps
         → kaem script list report steps files ≡ kaem_ended report files said listed (folded steps listed.world said.commands) }
 {}
@@ -196,11 +196,11 @@ pub fn scripts_fold()
 /// `kaem-verify` over files that hold a script, and of which those that `kaem` loads are bytes, says yes exactly where what is held as the report is the
 /// text of what the script's commands come to, and its yes says how many they are.
 pub fn scripts_verified()
-    ensures yes { (script list report : List ℕ) (steps : ℕ) (files : NamedFiles) (said : RecipeContents) (listed : FilesListed)
+    ensures yes { (script list report : List ℕ) (steps : ℕ) (files : NamedFiles) (said : ScriptContents) (listed : FilesListed)
         → HoldsScript script list report files said listed → IsStepCount steps
         → LoadsBytes (plan_of (codes "kaem" ∷ script ∷ list ∷ report ∷ decimal steps ∷ [])) files
         → ((kaem_verify script list report files).status ≡ Yes) ↔ IsScriptTrue report files said listed }
-    ensures text { (script list report : List ℕ) (files : NamedFiles) (said : RecipeContents) (listed : FilesListed)
+    ensures text { (script list report : List ℕ) (files : NamedFiles) (said : ScriptContents) (listed : FilesListed)
         → HoldsScript script list report files said listed → (kaem_verify script list report files).status ≡ Yes
         → (kaem_verify script list report files).text ≡ commands_true_line (length said.commands) }
 {}
@@ -220,7 +220,7 @@ pub fn scripts_accepted()
     ensures yes { (script list report : List ℕ) (steps : ℕ) (files : NamedFiles)
         → LoadsBytes (plan_of (codes "kaem" ∷ script ∷ list ∷ report ∷ decimal steps ∷ [])) files → (kaem script list report steps files).status ≡ Yes
         → (kaem_verify script list report (kaem script list report steps files).files).status ≡ Yes }
-    ensures text { (script list report : List ℕ) (steps : ℕ) (files : NamedFiles) (said : RecipeContents) (listed : FilesListed)
+    ensures text { (script list report : List ℕ) (steps : ℕ) (files : NamedFiles) (said : ScriptContents) (listed : FilesListed)
         → HoldsScript script list report files said listed → LoadsBytes (plan_of (codes "kaem" ∷ script ∷ list ∷ report ∷ decimal steps ∷ [])) files
         → (kaem script list report steps files).status ≡ Yes
         → (kaem_verify script list report (kaem script list report steps files).files).text ≡ commands_true_line (length said.commands) }

@@ -15,7 +15,7 @@ use Rattle.kaem_script.specs.FilesListed.{FilesListed, IsList}
 use Rattle.kaem_script.specs.Fold.{CommandResult, RanAll, Ran, after_command, command, command_box, fold_from, folded, program_name}
 use Rattle.kaem_script.specs.Kept.{IsCommand, IsScript, IsWord}
 use Rattle.kaem_script.specs.Reported.{command_line, script_report}
-use Rattle.kaem_script.specs.Script.{RecipeContents}
+use Rattle.kaem_script.specs.Script.{ScriptContents}
 use Rattle.kaem_script.proofs.Renewing.{left-files}
 use Rattle.kaem_script.proofs.Runs.{is-run}
 use Rattle.kaem_script.proofs.Starting.{entries-left}
@@ -72,7 +72,7 @@ fold-leaves most done w (words ∷ commands) all last few sound are bytes lines 
         record { sound = rest.sound; lines = rest.lines; length_is = omega (arith, rest.length_is, length-append done (ran ∷ [])) }
 
 -- a script of bytes over listed files that keep their rules
-pub done-report : (most : ℕ) (said : RecipeContents) (listed : FilesListed) (ran : List Ran) (world : World) → most ≤ 2 ^ 48 → IsScript said → All (All AreBytes) said.commands
+pub done-report : (most : ℕ) (said : ScriptContents) (listed : FilesListed) (ran : List Ran) (world : World) → most ≤ 2 ^ 48 → IsScript said → All (All AreBytes) said.commands
     → IsList listed → IsSound listed.world → folded most listed.world said.commands ≡ RanAll ran world → IsScriptReport (script_report said listed ran world)
 unfolding folded script_report
 done-report most said listed ran world few is bytes list sound all_ran =

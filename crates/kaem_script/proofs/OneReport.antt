@@ -24,7 +24,7 @@ use Rattle.kaem_script.specs.Fold.{CommandResult, RanAll, Folded, Ran, Stopped, 
 use Rattle.kaem_script.specs.FilesListed.{FilesListed, listed_files}
 use Rattle.report.specs.Marks.{mark_of}
 use Rattle.kaem_script.specs.Reported.{end_of_script, command_line, script_ended, marked, script_report}
-use Rattle.kaem_script.specs.Script.{RecipeContents}
+use Rattle.kaem_script.specs.Script.{ScriptContents}
 use Rattle.kaem_script.proofs.Runs.{is-command, is-run}
 
 -- ---- what the tests of lines say
@@ -287,7 +287,7 @@ headed : (b : Bool) (rest : Option (ScriptPart × ℕ)) → cond b rest (Some (p
 headed true rest e = (refl, e)
 headed false rest e = absurd cc
 
-pub no_fault_reports : (script : RecipeContents) (listed : FilesListed) (report : ScriptReport) → first_script_fault script listed report ≡ None → end_of_script (2 ^ 48) script listed ≡ Done report
+pub no_fault_reports : (script : ScriptContents) (listed : FilesListed) (report : ScriptReport) → first_script_fault script listed report ≡ None → end_of_script (2 ^ 48) script listed ≡ Done report
 unfolding first_script_fault folded script_report
 no_fault_reports script listed report is =
     let files = files_fault (listed_files listed) report.files in
@@ -303,13 +303,13 @@ no_fault_reports script listed report is =
     ∙ (λ i. Done (record { script = record { 0 = digest_is i }; files = sym files_are i; commands = sym lines_are i; left = sym left_is i }))
 
 -- the report of an audit that is done
-record IsDone (most : ℕ) (script : RecipeContents) (listed : FilesListed) (report : ScriptReport) : Type 0 where
+record IsDone (most : ℕ) (script : ScriptContents) (listed : FilesListed) (report : ScriptReport) : Type 0 where
   rans : List Ran
   last : World
   are : AreRun most listed.world script.commands rans last
   is : script_report script listed rans last ≡ report
 
-done-is : (most : ℕ) (script : RecipeContents) (listed : FilesListed) (report : ScriptReport) → end_of_script most script listed ≡ Done report → IsDone most script listed report
+done-is : (most : ℕ) (script : ScriptContents) (listed : FilesListed) (report : ScriptReport) → end_of_script most script listed ≡ Done report → IsDone most script listed report
 unfolding folded
 done-is most script listed report is = on (folded most listed.world script.commands) refl is
   where
@@ -321,7 +321,7 @@ done-is most script listed report is = on (folded most listed.world script.comma
         record { rans = all; last = last; are = are; is = cc }
 
 -- a report that the commands give has no fault
-run_has_none : (script : RecipeContents) (listed : FilesListed) (rans : List Ran) (last : World) → AreRun (2 ^ 48) listed.world script.commands rans last
+run_has_none : (script : ScriptContents) (listed : FilesListed) (rans : List Ran) (last : World) → AreRun (2 ^ 48) listed.world script.commands rans last
     → first_script_fault script listed (script_report script listed rans last) ≡ None
 unfolding first_script_fault script_report
 run_has_none script listed rans last are =
@@ -333,7 +333,7 @@ run_has_none script listed rans last are =
     ∙ ap (λ (o : Option ℕ). fault_or (option_map (λ number. (part.File, number)) o) (commands_fault at_end 1 listed.world script.commands lines)) (said-files 1 (listed_files listed))
     ∙ right-lines at_end 1 listed.world script.commands rans last are none_left
 
-pub reported_without_fault : (most : ℕ) (script : RecipeContents) (listed : FilesListed) (report : ScriptReport) → most ≤ 2 ^ 48 → end_of_script most script listed ≡ Done report
+pub reported_without_fault : (most : ℕ) (script : ScriptContents) (listed : FilesListed) (report : ScriptReport) → most ≤ 2 ^ 48 → end_of_script most script listed ≡ Done report
     → first_script_fault script listed report ≡ None
 reported_without_fault most script listed report few is =
     let done = done-is most script listed report is in

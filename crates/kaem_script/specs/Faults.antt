@@ -12,7 +12,7 @@ use Rattle.kaem_script.specs.declared.verdict.ScriptPart.{ScriptPart}
 use Rattle.kaem_script.specs.declared.verdict.ScriptPart.TheVariants as part
 use Rattle.kaem_script.specs.Fold.{CommandResult, command}
 use Rattle.kaem_script.specs.FilesListed.{FilesListed, listed_files}
-use Rattle.kaem_script.specs.Script.{RecipeContents}
+use Rattle.kaem_script.specs.Script.{ScriptContents}
 
 -- a line says the name of this file, and the mark of its bytes
 abbrev pub says_file : LeftLine → List ℕ × List ℕ → Bool
@@ -84,7 +84,7 @@ files_fault files lines = option_map (λ number. (part.File, number)) (wrong_fil
 
 -- the first part of a report that fails, with its place: the number of the file or of the command from 1, 0 for the header and for the files
 -- at the end; none where every word of the report is true
-unfoldable pub first_script_fault : RecipeContents → FilesListed → ScriptReport → Option (ScriptPart × ℕ)
+unfoldable pub first_script_fault : ScriptContents → FilesListed → ScriptReport → Option (ScriptPart × ℕ)
 first_script_fault script listed report =
     if bytes_eq script.digest.0 report.script.0
     then fault_or (files_fault (listed_files listed) report.files)

@@ -3,7 +3,7 @@ use Rattle.std.specs.Prelude.{ℕ, ◌≤◌, ◌==◌, not, IsTrue, List, [], �
 use Rattle.std.specs.List.{list_any}
 use Rattle.mem_files.specs.Names.{is_file_name, stripped}
 use Rattle.report.specs.Reports.{IsDigest}
-use Rattle.kaem_script.specs.Script.{RecipeContents, most_commands, most_words}
+use Rattle.kaem_script.specs.Script.{ScriptContents, most_commands, most_words}
 
 -- a word has no zero byte, and at most 255 bytes
 pub record IsWord (text : List ℕ) : Type 0 where
@@ -29,6 +29,6 @@ pub record AreCommands (commands : List (List (List ℕ))) : Type 0 where
   pub each : All IsCommand commands
 
 -- a script that was read: the digest of its bytes, and commands that keep the rules
-pub record IsScript (said : RecipeContents) : Type 0 where
+pub record IsScript (said : ScriptContents) : Type 0 where
   pub digest : IsDigest said.digest
   pub commands : AreCommands said.commands

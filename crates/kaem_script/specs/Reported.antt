@@ -10,7 +10,7 @@ use Rattle.report.specs.declared.script.types.CommandLine.{CommandLine}
 use Rattle.report.specs.declared.script.types.ScriptReport.{ScriptReport}
 use Rattle.kaem_script.specs.declared.auditing.ScriptEnd.{ScriptEnd}
 use Rattle.kaem_script.specs.declared.auditing.ScriptEnd.TheVariants.{Done, Failed, OutOfMemory}
-use Rattle.kaem_script.specs.Script.{RecipeContents}
+use Rattle.kaem_script.specs.Script.{ScriptContents}
 use Rattle.kaem_script.specs.FilesListed.{FilesListed, listed_files}
 use Rattle.kaem_script.specs.Fold.{RanAll, Folded, Ran, Stopped, folded}
 
@@ -23,7 +23,7 @@ abbrev pub command_line : Ran → CommandLine
 command_line ran = record { steps = ran.steps; stream1 = mark_of ran.world.stream1; stream2 = mark_of ran.world.stream2 }
 
 -- the report of a script whose commands all ran and left these files
-unfoldable pub script_report : RecipeContents → FilesListed → List Ran → World → ScriptReport
+unfoldable pub script_report : ScriptContents → FilesListed → List Ran → World → ScriptReport
 script_report script listed ran world = record {
   script = script.digest;
   files = map marked (listed_files listed);
@@ -31,12 +31,12 @@ script_report script listed ran world = record {
   left = map marked (left world);
 }
 
-abbrev pub script_ended : RecipeContents → FilesListed → Folded → ScriptEnd
+abbrev pub script_ended : ScriptContents → FilesListed → Folded → ScriptEnd
 script_ended script listed (RanAll ran world) = Done (script_report script listed ran world)
 script_ended script listed (Stopped number why step) = Failed number why step
 
 -- what a script over the listed files comes to, each of its commands within so many steps
-abbrev pub end_of_script : ℕ → RecipeContents → FilesListed → ScriptEnd
+abbrev pub end_of_script : ℕ → ScriptContents → FilesListed → ScriptEnd
 end_of_script most script listed = script_ended script listed (folded most listed.world script.commands)
 
 -- what a call answered: the end, or memory was wanting

@@ -129,12 +129,12 @@ Reads meant (Err OutOfMemory) = Unit {0}
 -- ---- a script that was read
 
 -- the digest of its bytes, and its commands
-pub record RecipeContents : Type 0 where
+pub record ScriptContents : Type 0 where
   pub digest : Digest
   pub commands : List (List (List ℕ))
 
 -- what a call answered: what a script says, or its first fault, or memory was wanting
-abbrev pub ReadsScript : List ℕ → Result RecipeContents ScriptRefusal → Type 0
+abbrev pub ReadsScript : List ℕ → Result ScriptContents ScriptRefusal → Type 0
 ReadsScript script (Ok said) = (commands_of script ≡ Ok said.commands) × (said.digest.0 ≡ sha256 script)
 ReadsScript script (Err (At fault at)) = commands_of script ≡ Err (fault, at)
 ReadsScript script (Err OutOfMemory) = Unit {0}

@@ -6,7 +6,7 @@ use Rattle.kaem_script.specs.declared.verdict.ScriptVerdict.{ScriptVerdict}
 use Rattle.kaem_script.specs.declared.verdict.ScriptVerdict.TheVariants.{Yes, Refuted, OutOfMemory}
 use Rattle.kaem_script.specs.Faults.{wrong_file}
 use Rattle.kaem_script.specs.FilesListed.{FilesListed, listed_files}
-use Rattle.kaem_script.specs.Script.{RecipeContents}
+use Rattle.kaem_script.specs.Script.{ScriptContents}
 
 abbrev pub script_verdict : Option (ScriptPart × ℕ) → ScriptVerdict
 script_verdict None = Yes
@@ -18,7 +18,7 @@ JudgesScript fault OutOfMemory = Unit {0}
 JudgesScript fault answer = answer ≡ script_verdict fault
 
 -- memory is wanting only where the header and all listed files are right
-abbrev pub WantsAtCommands : RecipeContents → FilesListed → ScriptReport → ScriptVerdict → Type 0
+abbrev pub WantsAtCommands : ScriptContents → FilesListed → ScriptReport → ScriptVerdict → Type 0
 WantsAtCommands script listed report OutOfMemory =
     (bytes_eq script.digest.0 report.script.0 ≡ true) × (wrong_file 1 (listed_files listed) report.files ≡ None)
 WantsAtCommands script listed report answer = Unit {0}

@@ -19,9 +19,9 @@ pub struct Script {
 
 impl Model for Script {
     ghost use Rattle.kaem_script.specs.Kept.{IsScript};
-    ghost use Rattle.kaem_script.specs.Script.{RecipeContents};
+    ghost use Rattle.kaem_script.specs.Script.{ScriptContents};
 
-    ghost Value = { RecipeContents };
+    ghost Value = { ScriptContents };
 
     ghost view = { λ s. record { digest = s.digest; commands = s.commands } };
 

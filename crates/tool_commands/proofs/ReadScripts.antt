@@ -4,13 +4,13 @@ use Rattle.sha2.specs.Sha256.{sha256}
 use Rattle.ddc_base.specs.declared.digests.Digest.{Digest}
 use Rattle.mem_files.specs.Sound.{AreBytes}
 use Rattle.kaem_script.specs.Kept.{IsScript}
-use Rattle.kaem_script.specs.Script.{Commands, RecipeContents, commands_of}
+use Rattle.kaem_script.specs.Script.{Commands, ScriptContents, commands_of}
 use Rattle.kaem_script.proofs.Kept.{script-kept}
 use Rattle.kaem_script.proofs.ScriptBytes.{AllBytes, commands-bytes}
 use Rattle.kaem_script.proofs.WellFormed.{script-whole}
 use Rattle.tool_commands.specs.Scripts.{script_by_text, script_of}
 
-pub read-good : (text : List ℕ) (said : RecipeContents) → script_of text ≡ Ok said → AreBytes text → IsScript said × All (All AreBytes) said.commands
+pub read-good : (text : List ℕ) (said : ScriptContents) → script_of text ≡ Ok said → AreBytes text → IsScript said × All (All AreBytes) said.commands
 unfolding script_of
 read-good text said is bytes = by (commands_of text) refl is (commands-bytes text bytes)
   where
@@ -19,4 +19,4 @@ read-good text said is bytes = by (commands_of text) refl is (commands-bytes tex
     by (Ok commands) reads here good =
         let digest : Digest = record { 0 = sha256 text } in
         let same : record { digest = digest; commands = commands } ≡ said = cc in
-        subst (λ (s : RecipeContents). IsScript s × All (All AreBytes) s.commands) same (script-whole text digest commands refl (script-kept text commands reads), good)
+        subst (λ (s : ScriptContents). IsScript s × All (All AreBytes) s.commands) same (script-whole text digest commands refl (script-kept text commands reads), good)

@@ -14,7 +14,7 @@ use Rattle.kaem_script.specs.declared.verdict.ScriptVerdict.TheVariants as verdi
 use Rattle.kaem_script.specs.FilesListed.{FilesListed}
 use Rattle.kaem_script.specs.Fold.{Folded, Ran, RanAll, Stopped}
 use Rattle.kaem_script.specs.Reported.{command_line, script_ended, script_report}
-use Rattle.kaem_script.specs.Script.{RecipeContents, commands_of}
+use Rattle.kaem_script.specs.Script.{ScriptContents, commands_of}
 use Rattle.kaem_script.specs.Verdicts.{JudgesScript}
 use Rattle.ddc_base.specs.Outside.{ShelfState}
 use Rattle.command_plan.specs.declared.answer.Answer.{Answer}
@@ -30,7 +30,7 @@ use Rattle.tool_commands.specs.ScriptTexts.{command_failed_line, commands_true_l
 
 -- ---- a script that was read
 
-pub script-said : (text : List ℕ) (said : RecipeContents) → commands_of text ≡ Ok said.commands → said.digest.0 ≡ sha256 text → script_of text ≡ Ok said
+pub script-said : (text : List ℕ) (said : ScriptContents) → commands_of text ≡ Ok said.commands → said.digest.0 ≡ sha256 text → script_of text ≡ Ok said
 unfolding script_of
 script-said text said is digest =
     ap (script_by_text text) is ∙ λ i. Ok (record { digest = record { 0 = sym digest i }; commands = said.commands })
@@ -64,7 +64,7 @@ saved-so file content commands made answer old new result text_is same says_so p
     subst (λ plan. Performs plan old new result)
     ((λ i. sets file (text_is i) (sym says_so.by_result i)) ∙ ap (λ cs. sets file (script_report_text made) (answers Yes (done_line (length cs) (steps_in cs)))) same) p
 
-module _ (file : List ℕ) (said : RecipeContents) (listed : FilesListed) where
+module _ (file : List ℕ) (said : ScriptContents) (listed : FilesListed) where
   pub all-ran : (folds : Folded) (made : ScriptReport) → script_ended said listed folds ≡ end.Done made → folded_plan file said listed folds ≡ saved file made
   unfolding script_report
   all-ran (RanAll ran world) made is =

@@ -5,7 +5,7 @@ use Rattle.report.specs.Script.Reports.{script_report_text}
 use Rattle.kaem_script.specs.FilesListed.{FilesListed}
 use Rattle.kaem_script.specs.Fold.{Folded, RanAll, Ran, Stopped, folded}
 use Rattle.kaem_script.specs.Reported.{script_report}
-use Rattle.kaem_script.specs.Script.{RecipeContents}
+use Rattle.kaem_script.specs.Script.{ScriptContents}
 use Rattle.command_plan.specs.declared.status.Status.TheVariants.{RunFailed, Yes}
 use Rattle.command_plan.specs.Plan.{Plan, answers, sets}
 use Rattle.command_plan.specs.Words.{are_three_files, as_steps, or_usage, usage}
@@ -17,7 +17,7 @@ abbrev pub steps_of_commands : List Ran → ℕ
 steps_of_commands ran = sum_by (λ (one : Ran). one.steps) ran
 
 -- all commands ran, and the report is saved; or one stopped the script
-abbrev pub folded_plan : List ℕ → RecipeContents → FilesListed → Folded → Plan
+abbrev pub folded_plan : List ℕ → ScriptContents → FilesListed → Folded → Plan
 folded_plan report said listed (RanAll ran world) =
     sets report (script_report_text (script_report said listed ran world)) (answers Yes (done_line (length ran) (steps_of_commands ran)))
 folded_plan report said listed (Stopped number cause step) = answers RunFailed (command_failed_line number cause step)

@@ -7,7 +7,7 @@ use Rattle.mem_files.specs.Calls.{placed}
 use Rattle.mem_files.specs.Names.{stripped}
 use Rattle.kaem_script.specs.declared.refusal.ScriptFault.{ScriptFault}
 use Rattle.kaem_script.specs.FilesListed.{FilesListed, no_files}
-use Rattle.kaem_script.specs.Script.{Commands, RecipeContents, commands_of}
+use Rattle.kaem_script.specs.Script.{Commands, ScriptContents, commands_of}
 use Rattle.command_plan.specs.declared.status.Status.TheVariants.{ScriptRefused}
 use Rattle.command_plan.specs.Lists.{is_listed_word, needs_list}
 use Rattle.command_plan.specs.Plan.{Plan, answers, needs, needs_all, unless_refused}
@@ -17,16 +17,16 @@ use Rattle.tool_commands.specs.ScriptTexts.{script_line}
 -- ---- SCRIPT
 
 -- a script by its text: the digest of all its bytes, and its commands
-abbrev pub script_by_text : List ℕ → Commands → Result RecipeContents (ScriptFault × ℕ)
+abbrev pub script_by_text : List ℕ → Commands → Result ScriptContents (ScriptFault × ℕ)
 script_by_text text (Err fault) = Err fault
 script_by_text text (Ok commands) = Ok (record { digest = record { 0 = sha256 text }; commands = commands })
 
 -- the script whose text this is, or its first fault with the offset of its word
-unfoldable pub script_of : List ℕ → Result RecipeContents (ScriptFault × ℕ)
+unfoldable pub script_of : List ℕ → Result ScriptContents (ScriptFault × ℕ)
 script_of text = script_by_text text (commands_of text)
 
 -- the script is needed, of at most 1,048,576 bytes, and read
-abbrev pub needs_script : List ℕ → (RecipeContents → Plan) → Plan
+abbrev pub needs_script : List ℕ → (ScriptContents → Plan) → Plan
 needs_script file next =
     needs file 1_048_576 (λ text. unless_refused (script_of text) (λ fault. answers ScriptRefused (script_line fault.0 fault.1)) next)
 
@@ -62,6 +62,6 @@ needs_files words next = needs_all 268_435_456 536_870_912 words (λ contents. n
 
 -- ---- what comes before the files: SCRIPT, then LIST, of at most 4,096 lines, then REPORT, which is to be no listed file
 
-abbrev pub needs_script_and_list : List ℕ → List ℕ → List ℕ → (RecipeContents → List (List ℕ) → Plan) → Plan
+abbrev pub needs_script_and_list : List ℕ → List ℕ → List ℕ → (ScriptContents → List (List ℕ) → Plan) → Plan
 needs_script_and_list script list report next =
     needs_script script (λ said. needs_list file_line 4_096 list (λ words. needs_unlisted words report (λ _. next said words)))
