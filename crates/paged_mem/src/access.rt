@@ -2,7 +2,7 @@
 
 ghost use Rattle.std.specs.Prelude.{◌≡◌, ◌+◌, ◌-◌, ◌*◌, ◌%◌, ◌^◌, ◌<◌, ◌≤◌, length, IfSome, slice_index, unwrap_or, Err, Some};
 ghost use Rattle.paged_mem.specs.Memory.{bytes_at, maps, reads};
-ghost use Rattle.paged_mem.specs.Ram.{count_of, RunsFrom, shown_bytes, Stores, StoresNear, Writes};
+ghost use Rattle.paged_mem.specs.Ram.{count_of, RunsFrom, shown_bytes, StoresNear, Writes};
 ghost use Rattle.paged_mem.specs.Inside.Entries.{AreFull, ArePages, AreRowsOf, IsHeldPage, flat, held_pages};
 ghost use Rattle.paged_mem.specs.Inside.Flat.{AreLow, Rises, Spans, memory_of, number_at};
 ghost use Rattle.paged_mem.specs.Paged.{pages_touched, TouchesUnheld};
@@ -276,43 +276,6 @@ pub fn store_near(
         }
     }
     false
-}
-
-/// Stores the low bytes of a number at an address, all or none.
-#[inline(always)]
-pub fn store_at(
-    alloc: Global,
-    pages: &[u64],
-    entries: &mut [Entry],
-    rows: &Rows,
-    at: u64,
-    width: Width,
-    value: u64,
-) -> Result<(), StoreRefusal>
-    requires pages { ArePages pages.now entries.old }
-    requires rows { AreRowsOf pages.now rows.now }
-    ensures pages { ArePages pages.now entries.new }
-    ensures stores { Stores (memory_of pages.now (flat entries.old)) at (count_of width) value result
-        (memory_of pages.now (flat entries.new)) }
-    ensures raises { length (held_pages pages.now entries.new)
-        ≤ length (held_pages pages.now entries.old) + pages_touched at (count_of width) }
-    ensures kept { length (held_pages pages.now entries.old) ≤ length (held_pages pages.now entries.new) }
-    ensures unmapped { result ≡ Err StoreRefusal.Unmapped
-        → held_pages pages.now entries.new ≡ held_pages pages.now entries.old }
-    ensures wants { result ≡ Err StoreRefusal.OutOfMemory
-        → TouchesUnheld (held_pages pages.now entries.old) at (count_of width) }
-{
-    if store_near(pages, entries, rows, at, width, value) {
-        return Ok(());
-    }
-    write_at(
-        alloc,
-        pages,
-        entries,
-        rows,
-        at,
-        &value.to_le_bytes()[..width.count() as usize],
-    )
 }
 
 /// The page at an address: unmapped, zero where it holds no bytes, or its bytes.

@@ -7,8 +7,7 @@ ghost use Rattle.paged_mem.specs.Paged.{pages_touched, TouchesUnheld};
 ghost use Rattle.std.specs.FinMap as map;
 
 use crate::access::{
-    fetch_near, load_at, load_near, mapped_at, page_at, read_at, run_at, store_at, store_near,
-    write_at,
+    fetch_near, load_at, load_near, mapped_at, page_at, read_at, run_at, store_near, write_at,
 };
 use crate::entries::{Entry, count_held};
 use crate::mapping::{map_entries, unmap_entries};
@@ -94,17 +93,10 @@ impl Ram for PagedRam {
         ensures unmapped { result ≡ Err StoreRefusal.Unmapped → self.new.held ≡ self.old.held }
         ensures wants { result ≡ Err StoreRefusal.OutOfMemory → TouchesUnheld self.old.held at (count_of width) }
     {
-        let stored = store_at(
-            self.alloc,
-            &self.pages,
-            &mut self.entries,
-            &self.rows,
-            at,
-            width,
-            value,
-        );
-        self.code = PageRow::none();
-        stored
+        if self.store_near(at, width, value) {
+            return Ok(());
+        }
+        self.write_from(at, &value.to_le_bytes()[..width.count() as usize])
     }
 
     #[inline(always)]
