@@ -11,7 +11,7 @@ ghost use Rattle.paged_mem.specs.Memory.{bytes_at, maps};
 ghost use Rattle.std.specs.Prelude.{◌≡◌, ◌+◌, ◌^◌, ◌<◌, ◌≤◌, length, slice_index, unwrap_or, Ok, Err, IfErr, IfOk, OnOk};
 
 use crate::placing::{place_segments, place_stack};
-use crate::run::{RunEnd, run_parts};
+use crate::run::{Process, RunEnd};
 use crate::run_box::RunBox;
 use crate::stack;
 use ddc_base::OutOfMemory;
@@ -27,15 +27,11 @@ use std::marker::Model;
 /// has taken. Two guests that are equal in these behave alike, over whatever memories they stand.
 #[derive(Drop)]
 pub struct Guest<R: Ram> {
-    hart: Hart<R>,
-    files: Files,
-    heap: Heap,
-    steps: u64,
-    alloc: Global,
+    process: Process<R>,
 }
 
 impl<R: Ram> Model for Guest<R> {
-    ghost use Rattle.guest_run.specs.State.{GuestState};
+    ghost use Rattle.guest_run.specs.State.{GuestState, guest_state};
     ghost use Rattle.guest_run.specs.Inside.Codes.{guest_code};
     ghost use Rattle.guest_run.specs.Valid.{IsValid};
 
@@ -43,9 +39,9 @@ impl<R: Ram> Model for Guest<R> {
 
     ghost coded = { guest_code };
 
-    ghost view = { λ g. record { hart = g.hart; world = g.files; heap = g.heap; steps = g.steps } };
+    ghost view = { λ g. guest_state g.process.hart g.process.files g.process.heap g.process.steps };
 
-    ghost invariant = { λ g. IsValid (record { hart = g.hart; world = g.files; heap = g.heap; steps = g.steps }) };
+    ghost invariant = { λ g. IsValid (guest_state g.process.hart g.process.files g.process.heap g.process.steps) };
 }
 
 impl<R: Ram> Guest<R> {
@@ -72,11 +68,13 @@ impl<R: Ram> Guest<R> {
         hart.show_rules();
         files.show_sound();
         Guest {
-            hart,
-            files,
-            heap,
-            steps,
-            alloc,
+            process: Process {
+                hart,
+                files,
+                heap,
+                steps,
+                alloc,
+            },
         }
     }
 
@@ -102,15 +100,7 @@ impl<R: Ram> Guest<R> {
         requires { self.old.steps + most < 2 ^ 64 }
         ensures { Travels stop self.old most result self.new }
     {
-        run_parts(
-            self.alloc,
-            &mut self.hart,
-            &mut self.files,
-            &mut self.heap,
-            &mut self.steps,
-            most,
-            stop,
-        )
+        self.process.run(most, stop)
     }
 
     /// How many steps were taken that did not end the run.
@@ -119,7 +109,7 @@ impl<R: Ram> Guest<R> {
         // Every guest is in a valid state.
         ensures valid { IsValid self.now }
     {
-        self.steps
+        self.process.steps
     }
 
     /// Shows that the guest is in a valid state, and that its steps are a number of 64 bits.
@@ -127,7 +117,7 @@ impl<R: Ram> Guest<R> {
         ensures valid { IsValid self.now }
         ensures counted { self.now.steps < 2 ^ 64 }
     {
-        let _steps = self.steps;
+        let _steps = self.process.steps;
     }
 
     /// The value of a register.
@@ -135,14 +125,14 @@ impl<R: Ram> Guest<R> {
         requires { number < 32 }
         ensures { result ≡ slice_index self.now.hart.registers number }
     {
-        self.hart.reg(number)
+        self.process.hart.reg(number)
     }
 
     /// The address of the next instruction.
     pub fn pc(&self) -> u64
         ensures { result ≡ self.now.hart.pc }
     {
-        self.hart.pc()
+        self.process.hart.pc()
     }
 
     /// Fills `out` with the bytes from `at` on; `false`, with `out` as it was, where one is unmapped.
@@ -150,28 +140,28 @@ impl<R: Ram> Guest<R> {
         ensures answer { result ≡ maps self.now.hart.memory at (length out.old) }
         ensures moved { out.new ≡ unwrap_or (bytes_at self.now.hart.memory at (length out.old)) out.old }
     {
-        self.hart.ram().read_into(at, out)
+        self.process.hart.ram().read_into(at, out)
     }
 
     /// The files.
     pub fn files(&self) -> &Files
         ensures { result.now ≡ self.now.world }
     {
-        &self.files
+        &self.process.files
     }
 
     /// The hart, with the memory.
     pub fn hart(&self) -> &Hart<R>
         ensures { result.now ≡ self.now.hart }
     {
-        &self.hart
+        &self.process.hart
     }
 
     /// The heap.
     pub fn heap(&self) -> Heap
         ensures { result ≡ self.now.heap }
     {
-        self.heap
+        self.process.heap
     }
 }
 
@@ -234,11 +224,13 @@ fn started<R: Ram>(
         limit: setting.heap(),
     };
     Ok(Guest {
-        hart,
-        files,
-        heap,
-        steps: 0,
-        alloc,
+        process: Process {
+            hart,
+            files,
+            heap,
+            steps: 0,
+            alloc,
+        },
     })
 }
 
@@ -248,19 +240,11 @@ impl<R: Ram> Guest<R> {
         ensures { result ≡ record self { world = files } }
     {
         files.show_sound();
-        let Guest {
-            hart,
-            files: _,
-            heap,
-            steps,
-            alloc,
-        } = self;
         Guest {
-            hart,
-            files,
-            heap,
-            steps,
-            alloc,
+            process: Process {
+                files,
+                ..self.process
+            },
         }
     }
 
@@ -268,6 +252,6 @@ impl<R: Ram> Guest<R> {
     pub fn into_files(self) -> Files
         ensures { result ≡ self.world }
     {
-        self.files
+        self.process.files
     }
 }

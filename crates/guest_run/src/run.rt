@@ -1,4 +1,4 @@
-//! The steps of a guest, over its parts.
+//! The steps of a guest, in any state.
 
 ghost use Rattle.guest_run.specs.Run.{Steps};
 ghost use Rattle.guest_run.specs.State.{guest_state};
@@ -30,31 +30,82 @@ pub enum RunEnd {
     OutOfMemory,
 }
 
-/// At most `most` steps, up to the one that comes to the stop: the first end within them, else that they are spent.
-pub(crate) fn run_parts<R: Ram>(
-    alloc: Global,
-    hart: &mut Hart<R>,
-    files: &mut Files,
-    heap: &mut Heap,
-    steps: &mut u64,
-    most: u64,
-    stop: Option<u64>,
-) -> RunEnd
-    requires heap_of { IsHeapOf hart.old.memory heap.old }
-    requires counted { steps.old + most < 2 ^ 64 }
-    ensures { Travels stop (guest_state hart.old files.old heap.old steps.old) most result
-        (guest_state hart.new files.new heap.new steps.new) }
-{
-    let end = *steps + most;
-    while *steps < end {
-        if let Some(end) = stretch(alloc, hart, files, heap, steps, end - *steps, stop) {
-            return end;
+/// What a guest runs, in any state: a hart with its memory, files, a heap, and how many steps were taken.
+#[derive(Drop)]
+pub(crate) struct Process<R: Ram> {
+    pub(crate) hart: Hart<R>,
+    pub(crate) files: Files,
+    pub(crate) heap: Heap,
+    pub(crate) steps: u64,
+    pub(crate) alloc: Global,
+}
+
+impl<R: Ram> Process<R> {
+    /// At most `most` steps, up to the one that comes to the stop: the first end within them, else that they are spent.
+    pub(crate) fn run(&mut self, most: u64, stop: Option<u64>) -> RunEnd
+        requires heap_of { IsHeapOf self.old.hart.memory self.old.heap }
+        requires counted { self.old.steps + most < 2 ^ 64 }
+        ensures { Travels stop (guest_state self.old.hart self.old.files self.old.heap self.old.steps) most result
+            (guest_state self.new.hart self.new.files self.new.heap self.new.steps) }
+    {
+        let end = self.steps + most;
+        while self.steps < end {
+            if let Some(end) = self.stretch(end - self.steps, stop) {
+                return end;
+            }
+            if is_at(stop, self.hart.pc()) {
+                return RunEnd::Spent;
+            }
         }
-        if is_at(stop, hart.pc()) {
-            return RunEnd::Spent;
+        RunEnd::Spent
+    }
+
+    /// At most `most` steps: instructions up to the stop or a call, and the call. None where the guest goes on, else why it does not.
+    fn stretch(&mut self, most: u64, stop: Option<u64>) -> Option<RunEnd>
+        requires some { 0 < most }
+        requires heap_of { IsHeapOf self.old.hart.memory self.old.heap }
+        requires counted { self.old.steps + most < 2 ^ 64 }
+        ensures steps { Stretches stop (guest_state self.old.hart self.old.files self.old.heap self.old.steps) most result
+            (guest_state self.new.hart self.new.files self.new.heap self.new.steps) }
+        ensures kept { IsHeapOf self.new.hart.memory self.new.heap }
+    {
+        let (end, done) = self.hart.run_to(most, stop);
+        self.steps += done;
+        match end {
+            StepEnd::Done => None,
+            StepEnd::Call => self.serve(),
+            StepEnd::Trap(cause) => Some(RunEnd::Trapped(cause)),
+            StepEnd::OutOfMemory => Some(RunEnd::OutOfMemory),
         }
     }
-    RunEnd::Spent
+
+    /// The step of a guest that makes a call.
+    fn serve(&mut self) -> Option<RunEnd>
+        requires calls { act self.old.hart ≡ machine.Calls }
+        requires heap_of { IsHeapOf self.old.hart.memory self.old.heap }
+        requires counted { self.old.steps + 1 < 2 ^ 64 }
+        ensures step { Steps (guest_state self.old.hart self.old.files self.old.heap self.old.steps) result
+            (guest_state self.new.hart self.new.files self.new.heap self.new.steps) }
+        ensures kept { IsHeapOf self.new.hart.memory self.new.heap }
+    {
+        let regs = call_regs(&self.hart);
+        match call(
+            self.alloc,
+            &regs,
+            self.hart.ram_mut(),
+            &mut self.files,
+            &mut self.heap,
+        ) {
+            CallEnd::Back(value) => {
+                self.hart.answer(value);
+                self.steps += 1;
+                None
+            }
+            CallEnd::Exit(status) => Some(RunEnd::Exited(status)),
+            CallEnd::Unknown(number) => Some(RunEnd::UnknownCall(number)),
+            CallEnd::OutOfMemory => Some(RunEnd::OutOfMemory),
+        }
+    }
 }
 
 /// Whether a pc is the address to stop at.
@@ -64,61 +115,6 @@ fn is_at(stop: Option<u64>, pc: u64) -> bool
     match stop {
         None => false,
         Some(address) => pc == address,
-    }
-}
-
-/// At most `most` steps: instructions up to the stop or a call, and the call. None where the guest goes on, else why it does not.
-fn stretch<R: Ram>(
-    alloc: Global,
-    hart: &mut Hart<R>,
-    files: &mut Files,
-    heap: &mut Heap,
-    steps: &mut u64,
-    most: u64,
-    stop: Option<u64>,
-) -> Option<RunEnd>
-    requires some { 0 < most }
-    requires heap_of { IsHeapOf hart.old.memory heap.old }
-    requires counted { steps.old + most < 2 ^ 64 }
-    ensures steps { Stretches stop (guest_state hart.old files.old heap.old steps.old) most result
-        (guest_state hart.new files.new heap.new steps.new) }
-    ensures kept { IsHeapOf hart.new.memory heap.new }
-{
-    let (end, done) = hart.run_to(most, stop);
-    *steps += done;
-    match end {
-        StepEnd::Done => None,
-        StepEnd::Call => serve(alloc, hart, files, heap, steps),
-        StepEnd::Trap(cause) => Some(RunEnd::Trapped(cause)),
-        StepEnd::OutOfMemory => Some(RunEnd::OutOfMemory),
-    }
-}
-
-/// The step of a guest that makes a call.
-fn serve<R: Ram>(
-    alloc: Global,
-    hart: &mut Hart<R>,
-    files: &mut Files,
-    heap: &mut Heap,
-    steps: &mut u64,
-) -> Option<RunEnd>
-    requires calls { act hart.old ≡ machine.Calls }
-    requires heap_of { IsHeapOf hart.old.memory heap.old }
-    requires counted { steps.old + 1 < 2 ^ 64 }
-    ensures step { Steps (guest_state hart.old files.old heap.old steps.old) result
-        (guest_state hart.new files.new heap.new steps.new) }
-    ensures kept { IsHeapOf hart.new.memory heap.new }
-{
-    let regs = call_regs(hart);
-    match call(alloc, &regs, hart.ram_mut(), files, heap) {
-        CallEnd::Back(value) => {
-            hart.answer(value);
-            *steps += 1;
-            None
-        }
-        CallEnd::Exit(status) => Some(RunEnd::Exited(status)),
-        CallEnd::Unknown(number) => Some(RunEnd::UnknownCall(number)),
-        CallEnd::OutOfMemory => Some(RunEnd::OutOfMemory),
     }
 }
 

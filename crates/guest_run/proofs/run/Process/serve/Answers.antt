@@ -7,21 +7,21 @@ use Rattle.linux_calls.specs.Calls.{CallState, state}
 use Rattle.guest_run.specs.State.{GuestState, guest_state}
 use Rattle.guest_run.specs.Run.{call_number, Goes, step_goes_on, outcome_of}
 use Rattle.guest_run.proofs.Stepping.{at_guest, exits_with, goes_back, left_as_was, next-calls, unknown_is, wants_memory}
-use Rattle.guest_run.proofs.run.serve.Goals as goal
+use Rattle.guest_run.proofs.run.Process.serve.Goals as goal
 
 pub returns-in-Back-clause-step : goal.returns-in-Back-clause-step
 returns-in-Back-clause-step g c =
-    let guest : GuestState = guest_state c.args.hart.now c.args.files.now c.args.heap.now c.args.steps.now in
+    let guest : GuestState = guest_state c.args.self.now.hart c.args.self.now.files c.args.self.now.heap c.args.self.now.steps in
     let left : CallState = state (g.R.Ram.bytes c.call.new.ram) c.call.new.files c.call.new.heap in
     let is : IsAnswer (call_number guest) (state guest.hart.memory guest.world guest.heap) left (outcome_of guest) (Back c.in-Back.value) =
     at_guest guest left (Back c.in-Back.value) _ _ _ c.call_regs-regs.ensures.number c.call_regs-regs.ensures.arguments c.ram_mut.ensures.value c.in-Back.ensures.answer in
     next-calls guest c.requires.calls
     ∙ goes_back guest (outcome_of guest) _ c.in-Back.value _ left is
-    ∙ ap (λ (hart : HartState). Goes (guest_state hart c.call.new.files c.call.new.heap (c.args.steps.now + 1))) (sym c.answer.ensures)
+    ∙ ap (λ (hart : HartState). Goes (guest_state hart c.call.new.files c.call.new.heap (c.args.self.now.steps + 1))) (sym c.answer.ensures)
 
 pub returns-in-Exit-clause-step : goal.returns-in-Exit-clause-step
 returns-in-Exit-clause-step g c =
-    let guest : GuestState = guest_state c.args.hart.now c.args.files.now c.args.heap.now c.args.steps.now in
+    let guest : GuestState = guest_state c.args.self.now.hart c.args.self.now.files c.args.self.now.heap c.args.self.now.steps in
     let left : CallState = state (g.R.Ram.bytes c.call.new.ram) c.call.new.files c.call.new.heap in
     let is : IsAnswer (call_number guest) (state guest.hart.memory guest.world guest.heap) left (outcome_of guest) (Exit c.in-Exit.status) =
     at_guest guest left (Exit c.in-Exit.status) _ _ _ c.call_regs-regs.ensures.number c.call_regs-regs.ensures.arguments c.ram_mut.ensures.value c.in-Exit.ensures.answer in
@@ -30,7 +30,7 @@ returns-in-Exit-clause-step g c =
 
 pub returns-in-Unknown-clause-step : goal.returns-in-Unknown-clause-step
 returns-in-Unknown-clause-step g c =
-    let guest : GuestState = guest_state c.args.hart.now c.args.files.now c.args.heap.now c.args.steps.now in
+    let guest : GuestState = guest_state c.args.self.now.hart c.args.self.now.files c.args.self.now.heap c.args.self.now.steps in
     let left : CallState = state (g.R.Ram.bytes c.call.new.ram) c.call.new.files c.call.new.heap in
     let is : IsAnswer (call_number guest) (state guest.hart.memory guest.world guest.heap) left (outcome_of guest) (Unknown c.in-Unknown.number) =
     at_guest guest left (Unknown c.in-Unknown.number) _ _ _ c.call_regs-regs.ensures.number c.call_regs-regs.ensures.arguments c.ram_mut.ensures.value c.in-Unknown.ensures.answer in
@@ -39,7 +39,7 @@ returns-in-Unknown-clause-step g c =
 
 pub returns-in-OutOfMemory-clause-step : goal.returns-in-OutOfMemory-clause-step
 returns-in-OutOfMemory-clause-step g c =
-    let guest : GuestState = guest_state c.args.hart.now c.args.files.now c.args.heap.now c.args.steps.now in
+    let guest : GuestState = guest_state c.args.self.now.hart c.args.self.now.files c.args.self.now.heap c.args.self.now.steps in
     let left : CallState = state (g.R.Ram.bytes c.call.new.ram) c.call.new.files c.call.new.heap in
     let is : IsAnswer (call_number guest) (state guest.hart.memory guest.world guest.heap) left (outcome_of guest) OutOfMemory =
     at_guest guest left OutOfMemory _ _ _ c.call_regs-regs.ensures.number c.call_regs-regs.ensures.arguments c.ram_mut.ensures.value c.in-OutOfMemory.ensures.answer in
