@@ -1,4 +1,4 @@
-"""What every document keeps: its length, a page's question in its first line, and days in the log alone."""
+"""What every document keeps: its length, a page's question in its first line, a way to it from README.md, and days in the log alone."""
 import re
 
 MOST_WORDS = {"README.md": 1500, "docs/TESTING.md": 2500, "docs/DECISIONS.md": 3500, "docs/PROVING.md": 6000}
@@ -15,17 +15,36 @@ def asks(text):
     return re.match(r"# .+\n\n\*.+\?\*\n", text) is not None
 
 
+def linked(root):
+    """The names of the pages to which links lead from README.md."""
+    found, left = set(), [root / "README.md"]
+    while left:
+        page = left.pop()
+        name = str(page.relative_to(root))
+        if name in found:
+            continue
+        found.add(name)
+        for target in re.findall(r"\]\(([^)#\s]+\.md)", page.read_text()):
+            if "://" not in target and (page.parent / target).is_file():
+                left.append((page.parent / target).resolve())
+    return found
+
+
 def faults(root):
     """Each fault, after the name of its document."""
+    found = linked(root)
     for name, most in MOST_WORDS.items():
         count = words((root / name).read_text())
         if count > most:
             yield f"{name}: {count} words, more than {most}"
-    for page in sorted((root / "docs").rglob("*.md")):
+    pages = [*sorted((root / "docs").rglob("*.md")), *sorted(root.glob("examples/*/*.md")), *sorted(root.glob("tests/**/*.md"))]
+    for page in pages:
         if not asks(page.read_text()):
             yield f"{page.relative_to(root)}: no question under the title"
-    for page in [root / "README.md", *sorted((root / "docs").rglob("*.md")), *sorted(root.glob("*/*/README.md"))]:
+    for page in [root / "README.md", *pages]:
         name = str(page.relative_to(root))
+        if name not in found:
+            yield f"{name}: no link leads to it from README.md"
         if name not in DATED:
             for day in re.findall(r"\b20\d\d-\d\d-\d\d\b", page.read_text()):
                 yield f"{name}: {day} stands outside the log"
