@@ -29,13 +29,16 @@ module _ (recipe base patch report : List ℕ) (b : After recipe base patch repo
 
   goes_on : (total : ℕ) (piece : Outcome) → Stood total piece → GoesOn (delta_resume recipe base patch report) Stood total piece
   goes_on total piece (inr e, held) = inl (e.not_paused, λ n. (inr e, held))
-  goes_on total piece (inl p, held) = inr (p.status, λ steps counted.
-      let comes = resumes_at recipe base patch report b piece.files p.holds held steps counted total p.place p.stands p.kept_held in (
-        subst (Settles recipe patch report b.c (kept_relative recipe base patch report b) first (total + steps)) (sym comes)
-            (settles recipe patch report b.c first piece.files p.holds p.same_report (kept_relative recipe base patch report b) (total + steps)
-            (position b.c.said b.c.inputs (total + steps)) refl),
-        resume_leaves_base recipe base patch report b steps piece.files held,
-      ))
+  goes_on total piece (inl p, held) = inr (
+    p.status,
+    λ steps counted.
+        let comes = resumes_at recipe base patch report b piece.files p.holds held steps counted total p.place p.stands p.kept_held in (
+          subst (Settles recipe patch report b.c (kept_relative recipe base patch report b) first (total + steps)) (sym comes)
+              (settles recipe patch report b.c first piece.files p.holds p.same_report (kept_relative recipe base patch report b) (total + steps)
+              (position b.c.said b.c.inputs (total + steps)) refl),
+          resume_leaves_base recipe base patch report b steps piece.files held,
+        ),
+  )
 
 -- ---- all of them
 
