@@ -55,7 +55,7 @@ check 'help of help' 0 'help [COMMAND]\nlists the commands, or says of COMMAND w
 check 'help of no command' 2 'usage\n' "$ddc" help none
 check 'help of a word with dashes' 2 'usage\n' "$ddc" help --help
 check 'help of two commands' 2 'usage\n' "$ddc" help hex0 asm
-check 'the release and the kit' 0 "ddc 1.0\n$(grep -o 'rattle-kit-.* logic .*' "$root/README.md")\n" "$ddc" version
+check 'the release and the logic' 0 "ddc 1.0\nrattle $(grep -o 'logic [0-9a-f]*$' "$root/README.md")\n" "$ddc" version
 check 'the same with dashes' 0 "$("$ddc" version)\n" "$ddc" --version
 check 'version has no words' 2 'usage\n' "$ddc" version 1
 check 'no other word with dashes' 2 'usage\n' "$ddc" --usage

@@ -10,7 +10,7 @@ use Rattle.command_plan.specs.declared.answer.Answer.{Answer}
 use Rattle.command_plan.specs.declared.stop.Stop.{Stop}
 use Rattle.command_plan.specs.declared.stop.Stop.TheVariants as stop
 use Rattle.command_plan.specs.Plan.{Plan, answers, talks, needs, unless_refused}
-use Rattle.command_plan.specs.Performs.{PerformsTalk, Performs}
+use Rattle.command_plan.specs.Performs.{OutsideState, PerformsTalk, Performs, outside}
 use Rattle.command_plan.specs.Words.{or_usage}
 use Rattle.command_plan.specs.Steps.{EndsAs, Fetches, Obtains, talking}
 use Rattle.command_plan.proofs.Performing.{ends_answered, ends_at_fetch, leads_after_fetch, led_to, spoken, wants_memory}
@@ -41,26 +41,26 @@ on_words {old = old} {new = new} {result = result} next is same p =
 
 -- ---- the same of a command that may hold a talk
 
-pub holds_with : {A : Type 0} {plan : (A → Plan) → Plan} {next : A → Plan} {old mid new : ShelfState} {before after : SinkState} {asked now : PromptState} {value : A}
-    {result : Result (Result (Unit {0}) PutFail) Stop} → Obtains plan old mid (Ok value) → PerformsTalk (next value) mid new before after asked now result → PerformsTalk (plan next) old new before after asked now result
-holds_with {A} {plan} {next} {old} {mid} {new} {value = value} {result = Ok end} o h = record {
+pub holds_with : {A : Type 0} {plan : (A → Plan) → Plan} {next : A → Plan} {old mid : ShelfState} {sink : SinkState} {prompt : PromptState} {after : OutsideState} {value : A}
+    {result : Result (Result (Unit {0}) PutFail) Stop} → Obtains plan old mid (Ok value) → PerformsTalk (next value) (outside mid sink prompt) after result → PerformsTalk (plan next) (outside old sink prompt) after result
+holds_with {A} {plan} {next} {after = after} {value = value} {result = Ok end} o h = record {
   by_result = record {
     talk = h.by_result.talk;
-    speaks = (o.by_result next new (talking h.by_result.talk) (record { by_ending = h.by_result.speaks })).by_ending;
+    speaks = (o.by_result next after.shelf (talking h.by_result.talk) (record { by_ending = h.by_result.speaks })).by_ending;
     went = h.by_result.went;
   };
 }
 holds_with {next = next} {result = Err ending} o h = record { by_result = (goes_on_with {next = next} o h.by_result.0, h.by_result.1, h.by_result.2) }
 
 -- what ended the command before its talk, and what `?` hands on of it
-pub stops_holding : {plan : Plan} {old new : ShelfState} {before : SinkState} {asked : PromptState} {ending : Stop} {result : Result (Result (Unit {0}) PutFail) Stop}
-    → IsErrAnd result (λ handed. handed ≡ ending) → Performs plan old new (Err ending) → PerformsTalk plan old new before before asked asked result
+pub stops_holding : {plan : Plan} {old new : ShelfState} {sink : SinkState} {prompt : PromptState} {ending : Stop} {result : Result (Result (Unit {0}) PutFail) Stop}
+    → IsErrAnd result (λ handed. handed ≡ ending) → Performs plan old new (Err ending) → PerformsTalk plan (outside old sink prompt) (outside new sink prompt) result
 stops_holding {result = Ok end} handed p = absurd handed
 stops_holding {plan} {old} {new} {result = Err given} handed p = record { by_result = (subst (λ e. Performs plan old new (Err e)) (sym handed) p, refl, refl) }
 
 -- the talk itself, with no further call of a shelf
 pub holds_here : (plan : Plan) (shelf : ShelfState) (before after : SinkState) (asked now : PromptState) (talk : List ℕ → Talk) (end : Result (Unit {0}) PutFail) → plan ≡ talks talk
-    → Converses talk before after asked now end → PerformsTalk plan shelf shelf before after asked now (Ok end)
+    → Converses talk before after asked now end → PerformsTalk plan (outside shelf before asked) (outside shelf after now) (Ok end)
 holds_here plan shelf before after asked now talk end is went = record { by_result = record { talk = talk; speaks = spoken plan shelf talk is; went = went } }
 
 -- ---- steps

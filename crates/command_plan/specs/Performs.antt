@@ -47,16 +47,26 @@ PerformsBy plan old new (Err stop.OutOfMemory) = WantsMemory plan old new
 pub record Performs (plan : Plan) (old new : ShelfState) (result : Result Answer Stop) : Type 0 where
   pub by_result : PerformsBy plan old new result
 
--- a talk was held: every call of the plan was answered, the plan ends with this talk, and it went as far as the result says
-pub record HoldsTalk (plan : Plan) (old new : ShelfState) (before after : SinkState) (asked now : PromptState) (end : Result (Unit {0}) PutFail) : Type 0 where
-  pub talk : List ℕ → Talk
-  pub speaks : Speaks plan old new talk
-  pub went : Converses talk before after asked now end
+-- what a command has to do with outside of itself: a shelf, a sink and a prompt, as they stand at one moment
+pub record OutsideState : Type 0 where
+  pub shelf : ShelfState
+  pub sink : SinkState
+  pub prompt : PromptState
 
-abbrev pub HoldsBy : Plan → ShelfState → ShelfState → SinkState → SinkState → PromptState → PromptState → Result (Result (Unit {0}) PutFail) Stop → Type 0
-HoldsBy plan old new before after asked now (Ok end) = HoldsTalk plan old new before after asked now end
-HoldsBy plan old new before after asked now (Err ending) = Performs plan old new (Err ending) × (after ≡ before) × (now ≡ asked)
+abbrev pub outside : ShelfState → SinkState → PromptState → OutsideState
+outside shelf sink prompt = record { shelf = shelf; sink = sink; prompt = prompt }
+
+-- a talk was held: every call of the plan was answered, the plan ends with this talk, and it went as far as the result says
+pub record HoldsTalk (plan : Plan) (before after : OutsideState) (end : Result (Unit {0}) PutFail) : Type 0 where
+  pub talk : List ℕ → Talk
+  pub speaks : Speaks plan before.shelf after.shelf talk
+  pub went : Converses talk before.sink after.sink before.prompt after.prompt end
+
+abbrev pub HoldsBy : Plan → OutsideState → OutsideState → Result (Result (Unit {0}) PutFail) Stop → Type 0
+HoldsBy plan before after (Ok end) = HoldsTalk plan before after end
+HoldsBy plan before after (Err ending) =
+    Performs plan before.shelf after.shelf (Err ending) × (after.sink ≡ before.sink) × (after.prompt ≡ before.prompt)
 
 -- the same of a command that may hold a talk: it held its plan's, or ended before one, with nothing put and no line asked for
-pub record PerformsTalk (plan : Plan) (old new : ShelfState) (before after : SinkState) (asked now : PromptState) (result : Result (Result (Unit {0}) PutFail) Stop) : Type 0 where
-  pub by_result : HoldsBy plan old new before after asked now result
+pub record PerformsTalk (plan : Plan) (before after : OutsideState) (result : Result (Result (Unit {0}) PutFail) Stop) : Type 0 where
+  pub by_result : HoldsBy plan before after result

@@ -13,42 +13,32 @@ use Rattle.audit_commands.specs.Audit.{audited}
 use Rattle.audit_commands.specs.Pause.{whole_save}
 use Rattle.ddc_app.specs.Accepting.{audit, is_compared, verify}
 use Rattle.ddc_app.specs.Commands.{plan_of}
-use Rattle.ddc_app.specs.Differences.{AreDeltaWords, AreKept, Differences, IsSavedRelative, after_save, delta_resume, delta_start, differing_in_turn, in_differences}
-use Rattle.ddc_app.specs.Pausing.{AreSame, IsStepCount, is_paused, part}
+use Rattle.ddc_app.specs.Differences.{AreDeltaWords, AreKept, Differences, IsSavedRelative, after_save, delta_resume, delta_start, in_differences}
+use Rattle.ddc_app.specs.Pausing.{AreSame, IsStepCount, in_turn, is_paused, part}
 use Rattle.ddc_app.proofs.Beginnings.{Begun, Case, Refused, begins, four_of, part_loaded, three_apart}
 use Rattle.ddc_app.proofs.Relative.{After, IsBaseHeld, kept_relative, kept_of, resume_leaves_base, resumes_at, start_leaves_base, starts_at}
-use Rattle.ddc_app.proofs.Pausing.{compared, first_settles}
+use Rattle.ddc_app.proofs.Pausing.{GoesOn, compared, first_settles, further}
 use Rattle.ddc_app.proofs.Pieces.{Ends, Settles, alike, saved_of, settles}
 
 -- ---- the pieces after the whole save
-
--- an audit that is over goes on by no difference
-stays_over : (recipe base patch report : List ℕ) (piece : Outcome) (counts : List ℕ) → is_paused piece.status ≡ false → differing_in_turn recipe base patch report piece counts ≡ piece
-stays_over recipe base patch report piece [] over = refl
-stays_over recipe base patch report piece (steps ∷ counts) over =
-    ap (λ b. cond b (differing_in_turn recipe base patch report (delta_resume recipe base patch report steps piece.files) counts) piece) over
 
 module _ (recipe base patch report : List ℕ) (b : After recipe base patch report) (first : NamedFiles) where
   -- so many steps in all are after a piece, and the base is held
   abbrev Stood : ℕ → Outcome → Type 0
   Stood total piece = Settles recipe patch report b.c (kept_relative recipe base patch report b) first total piece × IsBaseHeld recipe base patch report b piece.files
 
-  further : (counts : List ℕ) → All IsStepCount counts → (total : ℕ) (piece : Outcome) → Stood total piece
-      → Stood (fold (λ a x. a + x) total counts) (differing_in_turn recipe base patch report piece counts)
-  further [] are total piece stood = stood
-  further (steps ∷ counts) are total piece (inr e, held) =
-      subst (Stood (fold (λ a x. a + x) (total + steps) counts)) (sym (stays_over recipe base patch report piece (steps ∷ counts) e.not_paused)) (inr e, held)
-  further (steps ∷ counts) are total piece (inl p, held) =
-      let next : Outcome = delta_resume recipe base patch report steps piece.files in
-      let counted = All-head IsStepCount steps counts are in
-      let comes = resumes_at recipe base patch report b piece.files p.holds held steps counted total p.place p.stands p.kept_held in
-      subst (λ (s : Status). Stood (fold (λ a x. a + x) (total + steps) counts) (cond (is_paused s) (differing_in_turn recipe base patch report next counts) piece)) (sym p.status)
-      (further counts (All-tail IsStepCount steps counts are) (total + steps) next (
-        subst (Settles recipe patch report b.c (kept_relative recipe base patch report b) first (total + steps)) (sym comes)
-            (settles recipe patch report b.c first piece.files p.holds p.same_report (kept_relative recipe base patch report b) (total + steps)
-            (position b.c.said b.c.inputs (total + steps)) refl),
-        resume_leaves_base recipe base patch report b steps piece.files held,
-      ))
+  goes_on : (total : ℕ) (piece : Outcome) → Stood total piece → GoesOn (delta_resume recipe base patch report) Stood total piece
+  goes_on total piece (inr e, held) = inl (e.not_paused, λ n. (inr e, held))
+  goes_on total piece (inl p, held) = inr (
+    p.status,
+    λ steps counted.
+        let comes = resumes_at recipe base patch report b piece.files p.holds held steps counted total p.place p.stands p.kept_held in (
+          subst (Settles recipe patch report b.c (kept_relative recipe base patch report b) first (total + steps)) (sym comes)
+              (settles recipe patch report b.c first piece.files p.holds p.same_report (kept_relative recipe base patch report b) (total + steps)
+              (position b.c.said b.c.inputs (total + steps)) refl),
+          resume_leaves_base recipe base patch report b steps piece.files held,
+        ),
+  )
 
 -- ---- all of them
 
@@ -114,7 +104,7 @@ module _ (recipe base patch report : List ℕ) (steps : ℕ) (files : NamedFiles
   by_pieces b [] are (inl p) = inl (p.status, saved_of recipe base report b.c files steps piece p)
   by_pieces b [] are (inr e) = inr (finished b piece e)
   by_pieces b (second ∷ counts) are (inr e) =
-      subst (λ paused. Stands (second ∷ counts) (cond paused (differing_in_turn recipe base patch report (delta_start recipe base patch report second piece.files) counts) piece))
+      subst (λ paused. Stands (second ∷ counts) (cond paused (in_turn (delta_resume recipe base patch report) (delta_start recipe base patch report second piece.files) counts) piece))
       (sym e.not_paused) (inr (finished b piece e))
   by_pieces b (second ∷ counts) are (inl p) =
       let from : After recipe base patch report = following b p.place p.stands in
@@ -124,16 +114,16 @@ module _ (recipe base patch report : List ℕ) (steps : ℕ) (files : NamedFiles
       subst (Settles recipe patch report from.c (kept_relative recipe base patch report from) files (steps + second)) (sym comes)
       (settles recipe patch report from.c files piece.files p.holds p.same_report (kept_relative recipe base patch report from) (steps + second)
       (position b.c.said b.c.inputs (steps + second)) refl) in
-      let stood = further recipe base patch report from files counts (All-tail IsStepCount second counts are) (steps + second) next
+      let stood = further (delta_resume recipe base patch report) (Stood recipe base patch report from files) (goes_on recipe base patch report from files) counts (All-tail IsStepCount second counts are) (steps + second) next
       (settled, start_leaves_base recipe base patch report from second piece.files p.kept_held) in
-      subst (λ (s : Status). Stands (second ∷ counts) (cond (is_paused s) (differing_in_turn recipe base patch report next counts) piece)) (sym p.status)
-      (told b p.place p.stands second counts (differing_in_turn recipe base patch report next counts) stood)
+      subst (λ (s : Status). Stands (second ∷ counts) (cond (is_paused s) (in_turn (delta_resume recipe base patch report) next counts) piece)) (sym p.status)
+      (told b p.place p.stands second counts (in_turn (delta_resume recipe base patch report) next counts) stood)
 
   -- a piece that is refused is not followed
   refused_stays : (counts : List ℕ) → is_paused piece.status ≡ false → after_save recipe base patch report piece counts ≡ piece
   refused_stays [] over = refl
   refused_stays (second ∷ counts) over =
-      ap (λ b. cond b (differing_in_turn recipe base patch report (delta_start recipe base patch report second piece.files) counts) piece) over
+      ap (λ b. cond b (in_turn (delta_resume recipe base patch report) (delta_start recipe base patch report second piece.files) counts) piece) over
 
   -- both are refused alike
   abbrev Refuses : Outcome → Type 0

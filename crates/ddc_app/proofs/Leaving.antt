@@ -22,8 +22,8 @@ use Rattle.audit_commands.specs.Audit.{completed}
 use Rattle.audit_commands.specs.Delta.{delta_resume_files, delta_start_files, needs_position_relative, read_relative}
 use Rattle.audit_commands.specs.Pause.{came_to, needs_position, part_files, paused, read_as, resume_files, whole_save}
 use Rattle.audit_commands.specs.PauseTexts.{delta_refused_line, save_refused_line}
-use Rattle.ddc_app.specs.Differences.{LeavesAllBut, after_save, delta_resume, delta_start, differing_in_turn, in_differences}
-use Rattle.ddc_app.specs.Pausing.{LeavesOthers, LeavesUnwritten, in_pieces, is_paused, part, resume, resumed_in_turn}
+use Rattle.ddc_app.specs.Differences.{LeavesAllBut, after_save, delta_resume, delta_start, in_differences}
+use Rattle.ddc_app.specs.Pausing.{LeavesOthers, LeavesUnwritten, in_pieces, in_turn, is_paused, part, resume}
 use Rattle.ddc_app.proofs.Beginnings.{three_apart, three_of_four}
 use Rattle.ddc_app.proofs.Loads.{not_equal}
 use Rattle.ddc_app.proofs.Pieces.{never_paused}
@@ -155,43 +155,43 @@ delta_resume_stays recipe base patch report steps files name no_patch no_report 
     delta_resume_leaves recipe patch report files (Stays recipe patch report files name no_patch no_report) (λ status text. refl) base
     (λ four. stays recipe patch report files name no_patch no_report) steps
 
-resumed_stay : (recipe save report : List ℕ) (files : NamedFiles) (counts : List ℕ) (piece : Outcome) → LeavesOthers save report files piece
-    → LeavesOthers save report files (resumed_in_turn recipe save report piece counts)
-resumed_stay recipe save report files [] piece leaves = leaves
-resumed_stay recipe save report files (steps ∷ counts) piece leaves =
-    by (is_paused piece.status) (resumed_stay recipe save report files counts (resume recipe save report steps piece.files)
-    (λ name no_save no_report. resume_stays recipe save report steps piece.files name no_save no_report ∙ leaves name no_save no_report)) where
-      by : (b : Bool) → LeavesOthers save report files (resumed_in_turn recipe save report (resume recipe save report steps piece.files) counts)
-          → LeavesOthers save report files (cond b (resumed_in_turn recipe save report (resume recipe save report steps piece.files) counts) piece)
-      by true later = later
-      by false later = leaves
+-- what each command keeps of the files, all of them in turn keep
+module _ (Kept : NamedFiles → Type 0) where
+  either_keeps : (b : Bool) (later piece : Outcome) → Kept later.files → Kept piece.files → Kept (cond b later piece).files
+  either_keeps true later piece after before = after
+  either_keeps false later piece after before = before
+
+  in_turn_keeps : (next : ℕ → NamedFiles → Outcome) → ((steps : ℕ) (files : NamedFiles) → Kept files → Kept (next steps files).files) → (counts : List ℕ) (piece : Outcome)
+      → Kept piece.files → Kept (in_turn next piece counts).files
+  in_turn_keeps next keeps [] piece held = held
+  in_turn_keeps next keeps (steps ∷ counts) piece held =
+      either_keeps (is_paused piece.status) (in_turn next (next steps piece.files) counts) piece
+      (in_turn_keeps next keeps counts (next steps piece.files) (keeps steps piece.files held)) held
+
+-- every name but these is as in other files
+abbrev Others : (save report : List ℕ) → NamedFiles → NamedFiles → Type 0
+Others save report files now = (name : List ℕ) → name ≢ save → name ≢ report → finite.get now name ≡ finite.get files name
+
+abbrev AllBut : (base patch report : List ℕ) → NamedFiles → NamedFiles → Type 0
+AllBut base patch report files now = (name : List ℕ) → name ≢ base → name ≢ patch → name ≢ report → finite.get now name ≡ finite.get files name
 
 pub pieces_stay : (recipe save report : List ℕ) (steps : ℕ) (counts : List ℕ) (files : NamedFiles) → LeavesOthers save report files (in_pieces recipe save report steps counts files)
 pieces_stay recipe save report steps counts files =
-    resumed_stay recipe save report files counts (part recipe save report steps files) (part_stays recipe save report steps files)
+    in_turn_keeps (Others save report files) (resume recipe save report)
+    (λ more now leaves name no_save no_report. resume_stays recipe save report more now name no_save no_report ∙ leaves name no_save no_report)
+    counts (part recipe save report steps files) (part_stays recipe save report steps files)
 
 -- by differences also the base is changed, by the first piece
-differing_stay : (recipe base patch report : List ℕ) (files : NamedFiles) (counts : List ℕ) (piece : Outcome) → LeavesAllBut base patch report files piece
-    → LeavesAllBut base patch report files (differing_in_turn recipe base patch report piece counts)
-differing_stay recipe base patch report files [] piece leaves = leaves
-differing_stay recipe base patch report files (steps ∷ counts) piece leaves =
-    by (is_paused piece.status) (differing_stay recipe base patch report files counts (delta_resume recipe base patch report steps piece.files)
-    (λ name no_base no_patch no_report. delta_resume_stays recipe base patch report steps piece.files name no_patch no_report ∙ leaves name no_base no_patch no_report)) where
-      by : (b : Bool) → LeavesAllBut base patch report files (differing_in_turn recipe base patch report (delta_resume recipe base patch report steps piece.files) counts)
-          → LeavesAllBut base patch report files (cond b (differing_in_turn recipe base patch report (delta_resume recipe base patch report steps piece.files) counts) piece)
-      by true later = later
-      by false later = leaves
-
-after_stay : (recipe base patch report : List ℕ) (files : NamedFiles) (counts : List ℕ) (piece : Outcome) → LeavesAllBut base patch report files piece
-    → LeavesAllBut base patch report files (after_save recipe base patch report piece counts)
+after_stay : (recipe base patch report : List ℕ) (files : NamedFiles) (counts : List ℕ) (piece : Outcome) → AllBut base patch report files piece.files
+    → AllBut base patch report files (after_save recipe base patch report piece counts).files
 after_stay recipe base patch report files [] piece leaves = leaves
 after_stay recipe base patch report files (steps ∷ counts) piece leaves =
-    by (is_paused piece.status) (differing_stay recipe base patch report files counts (delta_start recipe base patch report steps piece.files)
-    (λ name no_base no_patch no_report. delta_start_stays recipe base patch report steps piece.files name no_patch no_report ∙ leaves name no_base no_patch no_report)) where
-      by : (b : Bool) → LeavesAllBut base patch report files (differing_in_turn recipe base patch report (delta_start recipe base patch report steps piece.files) counts)
-          → LeavesAllBut base patch report files (cond b (differing_in_turn recipe base patch report (delta_start recipe base patch report steps piece.files) counts) piece)
-      by true later = later
-      by false later = leaves
+    let first : Outcome = delta_start recipe base patch report steps piece.files in
+    either_keeps (AllBut base patch report files) (is_paused piece.status) (in_turn (delta_resume recipe base patch report) first counts) piece
+    (in_turn_keeps (AllBut base patch report files) (delta_resume recipe base patch report)
+    (λ more now stays name no_base no_patch no_report. delta_resume_stays recipe base patch report more now name no_patch no_report ∙ stays name no_base no_patch no_report) counts first
+    (λ name no_base no_patch no_report. delta_start_stays recipe base patch report steps piece.files name no_patch no_report ∙ leaves name no_base no_patch no_report))
+    leaves
 
 pub differences_stay : (recipe base patch report : List ℕ) (steps : ℕ) (counts : List ℕ) (files : NamedFiles)
     → LeavesAllBut base patch report files (in_differences recipe base patch report steps counts files)
@@ -246,13 +246,13 @@ is_pause Paused is = refl
 is_pause _ is = absurd cc
 
 resumed_wait : (recipe save report : List ℕ) (files : NamedFiles) (counts : List ℕ) (piece : Outcome) → (piece.status ≡ Paused → finite.get piece.files report ≡ finite.get files report)
-    → (resumed_in_turn recipe save report piece counts).status ≡ Paused → finite.get (resumed_in_turn recipe save report piece counts).files report ≡ finite.get files report
+    → (in_turn (resume recipe save report) piece counts).status ≡ Paused → finite.get (in_turn (resume recipe save report) piece counts).files report ≡ finite.get files report
 resumed_wait recipe save report files [] piece before = before
 resumed_wait recipe save report files (steps ∷ counts) piece before =
     by (is_paused piece.status) refl (λ was. resumed_wait recipe save report files counts (resume recipe save report steps piece.files)
     (λ again. (resume_writes recipe save report piece.files steps).report_stays again ∙ before was)) where
       later : Outcome
-      later = resumed_in_turn recipe save report (resume recipe save report steps piece.files) counts
+      later = in_turn (resume recipe save report) (resume recipe save report steps piece.files) counts
 
       by : (b : Bool) → is_paused piece.status ≡ b → (piece.status ≡ Paused → later.status ≡ Paused → finite.get later.files report ≡ finite.get files report)
           → (cond b later piece).status ≡ Paused → finite.get (cond b later piece).files report ≡ finite.get files report

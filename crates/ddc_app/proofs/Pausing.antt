@@ -11,12 +11,13 @@ use Rattle.audit_rules.specs.declared.answer.AuditAnswer.{AuditAnswer}
 use Rattle.audit_rules.specs.declared.answer.AuditAnswer.TheVariants.{Completes, Fails}
 use Rattle.audit_rules.specs.declared.answer.StageFault.TheVariants.{Runs, Checks}
 use Rattle.command_plan.specs.declared.status.Status.{Status}
+use Rattle.command_plan.specs.declared.status.Status.TheVariants.{Paused}
 use Rattle.command_plan.specs.Plan.{LoadsBytes, Outcome, outcome}
 use Rattle.audit_commands.specs.Audit.{audited, completed}
 use Rattle.audit_commands.specs.Pause.{whole_save}
 use Rattle.ddc_app.specs.Accepting.{audit, is_compared, verify}
 use Rattle.ddc_app.specs.Commands.{plan_of}
-use Rattle.ddc_app.specs.Pausing.{AreSame, AreWords, IsStepCount, Pieces, in_pieces, is_paused, part, resume, resumed_in_turn}
+use Rattle.ddc_app.specs.Pausing.{AreSame, AreWords, IsStepCount, Pieces, in_pieces, in_turn, is_paused, part, resume}
 use Rattle.ddc_app.proofs.Accepting.{judges}
 use Rattle.ddc_app.proofs.Beginnings.{Begun, Case, Refused, begins, part_loaded}
 use Rattle.ddc_app.proofs.Loads.{set_held}
@@ -44,36 +45,51 @@ parts recipe save report steps files words count = by (begins recipe save report
 
 -- ---- the pieces after it
 
--- an audit that is over is not resumed
-stays_over : (recipe save report : List ℕ) (piece : Outcome) (counts : List ℕ) → is_paused piece.status ≡ false → resumed_in_turn recipe save report piece counts ≡ piece
-stays_over recipe save report piece [] over = refl
-stays_over recipe save report piece (steps ∷ counts) over =
-    ap (λ b. cond b (resumed_in_turn recipe save report (resume recipe save report steps piece.files) counts) piece) over
+-- an audit that is over does not go on
+pub stays_over : (next : ℕ → NamedFiles → Outcome) (piece : Outcome) (counts : List ℕ) → is_paused piece.status ≡ false → in_turn next piece counts ≡ piece
+stays_over next piece [] over = refl
+stays_over next piece (steps ∷ counts) over = ap (λ b. cond b (in_turn next (next steps piece.files) counts) piece) over
+
+-- what stands after each piece, with its steps in all, stands after all of them, if it stands after every number of steps where the audit is over,
+-- and after one piece more where it pauses
+module _ (next : ℕ → NamedFiles → Outcome) (Stands : ℕ → Outcome → Type 0) where
+  abbrev pub GoesOn : ℕ → Outcome → Type 0
+  GoesOn total piece =
+      ((is_paused piece.status ≡ false) × ((n : ℕ) → Stands n piece))
+      ⊎ ((piece.status ≡ Paused) × ((steps : ℕ) → IsStepCount steps → Stands (total + steps) (next steps piece.files)))
+
+  pub further : ((total : ℕ) (piece : Outcome) → Stands total piece → GoesOn total piece) → (counts : List ℕ) → All IsStepCount counts
+      → (total : ℕ) (piece : Outcome) → Stands total piece → Stands (fold (λ a x. a + x) total counts) (in_turn next piece counts)
+  further goes [] are total piece stands = stands
+  further goes (steps ∷ counts) are total piece stands = elim goes total piece stands [
+    | inl over ↦ subst (Stands (fold (λ a x. a + x) (total + steps) counts)) (sym (stays_over next piece (steps ∷ counts) over.0)) (over.1 (fold (λ a x. a + x) (total + steps) counts))
+    | inr on ↦ (
+      let later = next steps piece.files in
+      subst (λ (s : Status). Stands (fold (λ a x. a + x) (total + steps) counts) (cond (is_paused s) (in_turn next later counts) piece)) (sym on.0)
+      (further goes counts (All-tail IsStepCount steps counts are) (total + steps) later (on.1 steps (All-head IsStepCount steps counts are)))
+    )
+  ]
 
 module _ (recipe save report : List ℕ) (c : Case recipe save report) (first : NamedFiles) (given : IsInputs c.said c.inputs) where
   abbrev kept : Position → List ℕ
   kept = whole_save c.said c.inputs
 
-  further : (counts : List ℕ) → All IsStepCount counts → (total : ℕ) (piece : Outcome) → Settles recipe save report c kept first total piece
-      → Settles recipe save report c kept first (fold (λ a x. a + x) total counts) (resumed_in_turn recipe save report piece counts)
-  further [] are total piece settled = settled
-  further (steps ∷ counts) are total piece (inr e) =
-      subst (Settles recipe save report c kept first (fold (λ a x. a + x) (total + steps) counts)) (sym (stays_over recipe save report piece (steps ∷ counts) e.not_paused)) (inr e)
-  further (steps ∷ counts) are total piece (inl p) =
-      let next : Outcome = resume recipe save report steps piece.files in
-      let counted = All-head IsStepCount steps counts are in
+  abbrev Stood : ℕ → Outcome → Type 0
+  Stood = Settles recipe save report c kept first
+
+  goes_on : (total : ℕ) (piece : Outcome) → Stood total piece → GoesOn (resume recipe save report) Stood total piece
+  goes_on total piece (inr e) = inl (e.not_paused, λ n. inr e)
+  goes_on total piece (inl p) = inr (p.status, λ steps counted.
       let comes = resumes_at recipe save report c piece.files given p.holds total p.place p.stands p.kept_held steps counted in
-      subst (λ (s : Status). Settles recipe save report c kept first (fold (λ a x. a + x) (total + steps) counts) (cond (is_paused s) (resumed_in_turn recipe save report next counts) piece)) (sym p.status)
-      (further counts (All-tail IsStepCount steps counts are) (total + steps) next
-      (subst (Settles recipe save report c kept first (total + steps)) (sym comes)
-      (settles recipe save report c first piece.files p.holds p.same_report kept (total + steps) (position c.said c.inputs (total + steps)) refl)))
+      subst (Stood (total + steps)) (sym comes)
+      (settles recipe save report c first piece.files p.holds p.same_report kept (total + steps) (position c.said c.inputs (total + steps)) refl))
 
 all_settle : (recipe save report : List ℕ) (steps : ℕ) (counts : List ℕ) (files : NamedFiles) (piece whole : Outcome) → All IsStepCount (steps ∷ counts)
     → (b : Begun recipe save report files steps piece whole) → IsInputs b.c.said b.c.inputs
-    → Settles recipe save report b.c (whole_save b.c.said b.c.inputs) files (sum (steps ∷ counts)) (resumed_in_turn recipe save report piece counts)
+    → Settles recipe save report b.c (whole_save b.c.said b.c.inputs) files (sum (steps ∷ counts)) (in_turn (resume recipe save report) piece counts)
 all_settle recipe save report steps counts files piece whole are b given =
     let none : steps ≡ 0 + steps = omega arith in
-    further recipe save report b.c files given counts (All-tail IsStepCount steps counts are) (0 + steps) piece
+    further (resume recipe save report) (Settles recipe save report b.c (whole_save b.c.said b.c.inputs) files) (goes_on recipe save report b.c files given) counts (All-tail IsStepCount steps counts are) (0 + steps) piece
     (subst (λ n. Settles recipe save report b.c (whole_save b.c.said b.c.inputs) files n piece) none (first_settles recipe save report steps files piece whole b))
 
 pub same : (recipe save report : List ℕ) (steps : ℕ) (counts : List ℕ) (files : NamedFiles) → AreWords recipe save report files → All IsStepCount (steps ∷ counts)
@@ -86,10 +102,10 @@ same recipe save report steps counts files words are bytes = by (begins recipe s
   whole : Outcome
   whole = audit recipe report files
 
-  by : Refused piece whole ⊎ Begun recipe save report files steps piece whole → Pieces recipe save report files (sum (steps ∷ counts)) (resumed_in_turn recipe save report piece counts)
-  by (inl r) = inr (alike report (resumed_in_turn recipe save report piece counts) whole (stays_over recipe save report piece counts r.refusal.0 ∙ r.same))
+  by : Refused piece whole ⊎ Begun recipe save report files steps piece whole → Pieces recipe save report files (sum (steps ∷ counts)) (in_turn (resume recipe save report) piece counts)
+  by (inl r) = inr (alike report (in_turn (resume recipe save report) piece counts) whole (stays_over (resume recipe save report) piece counts r.refusal.0 ∙ r.same))
   by (inr b) =
-      piece_of recipe save report b.c files (sum (steps ∷ counts)) (resumed_in_turn recipe save report piece counts) b.answers
+      piece_of recipe save report b.c files (sum (steps ∷ counts)) (in_turn (resume recipe save report) piece counts) b.answers
       (all_settle recipe save report steps counts files piece whole are b (part_loaded recipe save report steps files piece whole (All-head IsStepCount steps counts are) b bytes))
 
 -- ---- its report
@@ -129,7 +145,7 @@ accepted recipe save report steps counts files words are bytes over = by (begins
   whole = audit recipe report files
 
   last : Outcome
-  last = resumed_in_turn recipe save report piece counts
+  last = in_turn (resume recipe save report) piece counts
 
   given : (b : Begun recipe save report files steps piece whole) → IsInputs b.c.said b.c.inputs
   given b = part_loaded recipe save report steps files piece whole (All-head IsStepCount steps counts are) b bytes
@@ -142,6 +158,6 @@ accepted recipe save report steps counts files words are bytes over = by (begins
 
   by : Refused piece whole ⊎ Begun recipe save report files steps piece whole → (verify recipe report last.files).status ≡ last.status
   by (inl r) =
-      let never = sym r.refusal.1 ∙ ap (λ (o : Outcome). is_compared o.status) (sym (stays_over recipe save report piece counts r.refusal.0)) ∙ over in
+      let never = sym r.refusal.1 ∙ ap (λ (o : Outcome). is_compared o.status) (sym (stays_over (resume recipe save report) piece counts r.refusal.0)) ∙ over in
       absurd cc
   by (inr b) = settled b (all_settle recipe save report steps counts files piece whole are b (given b))

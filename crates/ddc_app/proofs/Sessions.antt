@@ -13,7 +13,7 @@ use Rattle.command_plan.specs.declared.stop.Stop.{Stop}
 use Rattle.command_plan.specs.Answered.{is_answer}
 use Rattle.command_plan.specs.Plan.{Plan, outcome, talk_of, IsSettled}
 use Rattle.command_plan.specs.Endings.{Completes}
-use Rattle.command_plan.specs.Performs.{PerformsTalk, HoldsTalk, Performs, WantsMemory}
+use Rattle.command_plan.specs.Performs.{HoldsTalk, OutsideState, Performs, PerformsTalk, WantsMemory, outside}
 use Rattle.command_plan.proofs.Performing.{stops_complete}
 use Rattle.ddc_app.specs.Commands.{is_step, plan_of, text_plan}
 use Rattle.stage_commands.specs.Step.{step_plan}
@@ -30,12 +30,19 @@ tells-after : (pieces : List (List ℕ)) (sink : SinkState) → (after_pieces pi
 tells-after [] sink = refl
 tells-after (piece ∷ pieces) sink = tells-after pieces (after_piece piece sink)
 
-module _ (steps : Bool) (plan : Plan) (old new : ShelfState) (before after : SinkState) (asked now : PromptState) (result : Status) where
+module _ (steps : Bool) (plan : Plan) (before after : OutsideState) (result : Status) where
+  -- how the command ended, and was said
+  abbrev IsEnded : Type 0
+  IsEnded = ending.Ends plan before.shelf after.shelf before.sink after.sink result
+
+  ended : (end : Result Answer Stop) → Performs plan before.shelf after.shelf end → SaysEnding before.sink end after.sink result → IsEnded
+  ended = ending.ends plan before.shelf after.shelf before.sink after.sink result
+
   abbrev IsOne : Type 0
-  IsOne = IsFalse steps ⊎ (IsSettled plan old.tells × (talk_of plan old.files ≡ None))
+  IsOne = IsFalse steps ⊎ (IsSettled plan before.shelf.tells × (talk_of plan before.shelf.files ≡ None))
 
   abbrev Session : Result (Unit {0}) PutFail → Type 0
-  Session end = HoldsTalk plan old new before after asked now end
+  Session end = HoldsTalk plan before after end
 
   -- what says one text holds no session
   no_session : {A : Type 0} (end : Result (Unit {0}) PutFail) → IsOne → IsTrue steps → Session end → A
@@ -44,56 +51,56 @@ module _ (steps : Bool) (plan : Plan) (old new : ShelfState) (before after : Sin
     | inr none ↦ (let both : Some h.talk ≡ None = sym (h.speaks.talk none.0) ∙ none.1 in cc)
   ])
 
-  in_one : IsOne → Leaves steps plan old new before after asked now result → ending.Ends plan old new before after result × (now ≡ asked)
-  in_one one (concluded end p c same) = (ending.ends plan old new before after result end p c, same)
+  in_one : IsOne → Leaves steps plan before after result → IsEnded × (after.prompt ≡ before.prompt)
+  in_one one (concluded end p c same) = (ended end p c, same)
   in_one one (conversed end is h ends) = no_session end one is h
 
-  pub status : Leaves steps plan old new before after asked now result → IsSettled plan old.tells → IsTrue (is_answer result) → result ≡ (outcome plan old.files).status
-  status (concluded end p c same) settled answers = ending.status_of plan old new before after result (ending.ends plan old new before after result end p c) settled answers
+  pub status : Leaves steps plan before after result → IsSettled plan before.shelf.tells → IsTrue (is_answer result) → result ≡ (outcome plan before.shelf.files).status
+  status (concluded end p c same) settled answers = ending.status_of plan before.shelf after.shelf before.sink after.sink result (ended end p c) settled answers
   status (conversed (Ok done) is h ends) settled answers = ends ∙ h.speaks.status settled
   status (conversed (Err putting.Failed) is h ends) settled answers = no_answer result OutFault answers ends refl
   status (conversed (Err putting.OutOfMemory) is h ends) settled answers = no_answer result OutOfMemory answers ends refl
 
-  pub calls : Leaves steps plan old new before after asked now result → IsTrue (is_answer result) → Completes plan old new
-  calls (concluded end p c same) answers = ending.calls_of plan old new before after result (ending.ends plan old new before after result end p c) answers
+  pub calls : Leaves steps plan before after result → IsTrue (is_answer result) → Completes plan before.shelf after.shelf
+  calls (concluded end p c same) answers = ending.calls_of plan before.shelf after.shelf before.sink after.sink result (ended end p c) answers
   calls (conversed end is h ends) answers = h.speaks.shelf
 
-  pub text : Leaves steps plan old new before after asked now result → IsOne → IsSettled plan old.tells → IsTrue (is_answer result) → after ≡ after_piece (outcome plan old.files).text before
-  text l one settled answers = ending.text_of plan old new before after result (in_one one l).0 settled answers
+  pub text : Leaves steps plan before after result → IsOne → IsSettled plan before.shelf.tells → IsTrue (is_answer result) → after.sink ≡ after_piece (outcome plan before.shelf.files).text before.sink
+  text l one settled answers = ending.text_of plan before.shelf after.shelf before.sink after.sink result (in_one one l).0 settled answers
 
-  pub one_put : Leaves steps plan old new before after asked now result → IsOne → IsTrue (is_answer result) → TakesOne before after
-  one_put l one answers = ending.put_of plan old new before after result (in_one one l).0 answers
+  pub one_put : Leaves steps plan before after result → IsOne → IsTrue (is_answer result) → TakesOne before.sink after.sink
+  one_put l one answers = ending.put_of plan before.shelf after.shelf before.sink after.sink result (in_one one l).0 answers
 
-  pub out_fault : Leaves steps plan old new before after asked now result → IsOne → result ≡ OutFault → LosesText plan old new before after
-  out_fault l one claimed = ending.out_fault_of plan old new before after result (in_one one l).0 claimed
+  pub out_fault : Leaves steps plan before after result → IsOne → result ≡ OutFault → LosesText plan before.shelf after.shelf before.sink after.sink
+  out_fault l one claimed = ending.out_fault_of plan before.shelf after.shelf before.sink after.sink result (in_one one l).0 claimed
 
-  pub silent : Leaves steps plan old new before after asked now result → IsOne → result ≡ OutOfMemory → after ≡ before
-  silent l one claimed = ending.silent_of plan old new before after result (in_one one l).0 claimed
+  pub silent : Leaves steps plan before after result → IsOne → result ≡ OutOfMemory → after.sink ≡ before.sink
+  silent l one claimed = ending.silent_of plan before.shelf after.shelf before.sink after.sink result (in_one one l).0 claimed
 
   -- the talk that was held is the plan's
-  said : (talk : List ℕ → Talk) (end : Result (Unit {0}) PutFail) → (h : Session end) → IsSettled plan old.tells → talk_of plan old.files ≡ Some talk → Converses talk before after asked now end
+  said : (talk : List ℕ → Talk) (end : Result (Unit {0}) PutFail) → (h : Session end) → IsSettled plan before.shelf.tells → talk_of plan before.shelf.files ≡ Some talk → Converses talk before.sink after.sink before.prompt after.prompt end
   said talk end h settled ends =
       let both : Some h.talk ≡ Some talk = sym (h.speaks.talk settled) ∙ ends in
       let same : h.talk ≡ talk = cc in
-      subst (λ t. Converses t before after asked now end) same h.went
+      subst (λ t. Converses t before.sink after.sink before.prompt after.prompt end) same h.went
 
   -- an answer that was said ends no plan that talks
-  says_none : (talk : List ℕ → Talk) → ending.Ends plan old new before after result → IsSettled plan old.tells → talk_of plan old.files ≡ Some talk → IsTrue (is_answer result) → SaysAll talk before after asked now
+  says_none : (talk : List ℕ → Talk) → IsEnded → IsSettled plan before.shelf.tells → talk_of plan before.shelf.files ≡ Some talk → IsTrue (is_answer result) → SaysAll talk before.sink after.sink before.prompt after.prompt
   says_none talk (ending.says answer a is put) settled ends answers = absurd (let both : None ≡ Some talk = sym (a.talk settled) ∙ ends in cc)
   says_none talk (ending.names text f is put) settled ends answers = no_answer result ShelfFault answers is refl
   says_none talk (ending.loses_answer answer a is put) settled ends answers = no_answer result OutFault answers is refl
   says_none talk (ending.loses_fault text f is put) settled ends answers = no_answer result OutFault answers is refl
   says_none talk (ending.wants w is none) settled ends answers = no_answer result OutOfMemory answers is refl
 
-  pub session : Leaves steps plan old new before after asked now result → IsSettled plan old.tells → (talk : List ℕ → Talk) → talk_of plan old.files ≡ Some talk → IsTrue (is_answer result)
-      → SaysAll talk before after asked now
-  session (concluded end p c same) settled talk ends answers = says_none talk (ending.ends plan old new before after result end p c) settled ends answers
+  pub session : Leaves steps plan before after result → IsSettled plan before.shelf.tells → (talk : List ℕ → Talk) → talk_of plan before.shelf.files ≡ Some talk → IsTrue (is_answer result)
+      → SaysAll talk before.sink after.sink before.prompt after.prompt
+  session (concluded end p c same) settled talk ends answers = says_none talk (ended end p c) settled ends answers
   session (conversed (Ok done) is h end_is) settled talk ends answers = (said talk (Ok done) h settled ends).by_result
   session (conversed (Err putting.Failed) is h end_is) settled talk ends answers = no_answer result OutFault answers end_is refl
   session (conversed (Err putting.OutOfMemory) is h end_is) settled talk ends answers = no_answer result OutOfMemory answers end_is refl
 
-  pub replies : Leaves steps plan old new before after asked now result → IsTrue (is_answer result) → (TakesOne before after × (now ≡ asked)) ⊎ Session (Ok tt)
-  replies (concluded end p c same) answers = inl (ending.put_of plan old new before after result (ending.ends plan old new before after result end p c) answers, same)
+  pub replies : Leaves steps plan before after result → IsTrue (is_answer result) → (TakesOne before.sink after.sink × (after.prompt ≡ before.prompt)) ⊎ Session (Ok tt)
+  replies (concluded end p c same) answers = inl (ending.put_of plan before.shelf after.shelf before.sink after.sink result (ended end p c) answers, same)
   replies (conversed (Ok done) is h ends) answers = inr h
   replies (conversed (Err putting.Failed) is h ends) answers = no_answer result OutFault answers ends refl
   replies (conversed (Err putting.OutOfMemory) is h ends) answers = no_answer result OutOfMemory answers ends refl
@@ -104,71 +111,74 @@ module _ (steps : Bool) (plan : Plan) (old new : ShelfState) (before after : Sin
   no_shelf (Err putting.Failed) is claimed = absurd (let both : OutFault ≡ ShelfFault = sym is ∙ claimed in cc)
   no_shelf (Err putting.OutOfMemory) is claimed = absurd (let both : OutOfMemory ≡ ShelfFault = sym is ∙ claimed in cc)
 
-  pub shelf_fault : Leaves steps plan old new before after asked now result → result ≡ ShelfFault → NamesFault plan old new before after
-  shelf_fault (concluded end p c same) claimed = ending.shelf_fault_of plan old new before after result (ending.ends plan old new before after result end p c) claimed
+  pub shelf_fault : Leaves steps plan before after result → result ≡ ShelfFault → NamesFault plan before.shelf after.shelf before.sink after.sink
+  shelf_fault (concluded end p c same) claimed = ending.shelf_fault_of plan before.shelf after.shelf before.sink after.sink result (ended end p c) claimed
   shelf_fault (conversed end is h ends) claimed = no_shelf end ends claimed
 
-  pub prompt_stays : Leaves steps plan old new before after asked now result → IsOne ⊎ (result ≡ ShelfFault) → now ≡ asked
+  pub prompt_stays : Leaves steps plan before after result → IsOne ⊎ (result ≡ ShelfFault) → after.prompt ≡ before.prompt
   prompt_stays (concluded end p c same) why = same
   prompt_stays (conversed end is h ends) (inl one) = no_session end one is h
   prompt_stays (conversed end is h ends) (inr claimed) = no_shelf end ends claimed
 
-  pub talk_fault : Leaves steps plan old new before after asked now result → result ≡ OutFault → (LosesText plan old new before after × (now ≡ asked)) ⊎ Session (Err putting.Failed)
-  talk_fault (concluded end p c same) claimed = inl (ending.out_fault_of plan old new before after result (ending.ends plan old new before after result end p c) claimed, same)
+  pub talk_fault : Leaves steps plan before after result → result ≡ OutFault → (LosesText plan before.shelf after.shelf before.sink after.sink × (after.prompt ≡ before.prompt)) ⊎ Session (Err putting.Failed)
+  talk_fault (concluded end p c same) claimed = inl (ending.out_fault_of plan before.shelf after.shelf before.sink after.sink result (ended end p c) claimed, same)
   talk_fault (conversed (Ok done) is h ends) claimed = absurd (let both : Yes ≡ OutFault = sym ends ∙ claimed in cc)
   talk_fault (conversed (Err putting.Failed) is h ends) claimed = inr h
   talk_fault (conversed (Err putting.OutOfMemory) is h ends) claimed = absurd (let both : OutOfMemory ≡ OutFault = sym ends ∙ claimed in cc)
 
-  pub talk_want : Leaves steps plan old new before after asked now result → result ≡ OutOfMemory → ((after ≡ before) × (now ≡ asked)) ⊎ Session (Err putting.OutOfMemory)
-  talk_want (concluded end p c same) claimed = inl (ending.silent_of plan old new before after result (ending.ends plan old new before after result end p c) claimed, same)
+  pub talk_want : Leaves steps plan before after result → result ≡ OutOfMemory → ((after.sink ≡ before.sink) × (after.prompt ≡ before.prompt)) ⊎ Session (Err putting.OutOfMemory)
+  talk_want (concluded end p c same) claimed = inl (ending.silent_of plan before.shelf after.shelf before.sink after.sink result (ended end p c) claimed, same)
   talk_want (conversed (Ok done) is h ends) claimed = absurd (let both : Yes ≡ OutOfMemory = sym ends ∙ claimed in cc)
   talk_want (conversed (Err putting.Failed) is h ends) claimed = absurd (let both : OutFault ≡ OutOfMemory = sym ends ∙ claimed in cc)
   talk_want (conversed (Err putting.OutOfMemory) is h ends) claimed = inr h
 
-  pub want : Leaves steps plan old new before after asked now result → result ≡ OutOfMemory → WantsMemory plan old new
-  want (concluded end p c same) claimed = ending.want_of plan old new before after result (ending.ends plan old new before after result end p c) claimed
-  want (conversed end is h ends) claimed = record { by_cause = inl (stops_complete plan old new h.speaks.shelf) }
+  pub want : Leaves steps plan before after result → result ≡ OutOfMemory → WantsMemory plan before.shelf after.shelf
+  want (concluded end p c same) claimed = ending.want_of plan before.shelf after.shelf before.sink after.sink result (ended end p c) claimed
+  want (conversed end is h ends) claimed = record { by_cause = inl (stops_complete plan before.shelf after.shelf h.speaks.shelf) }
 
-  pub shelf_tells : Leaves steps plan old new before after asked now result → new.tells ≡ old.tells
-  shelf_tells (concluded end p c same) = ending.shelf_tells_of plan old new before after result (ending.ends plan old new before after result end p c)
+  pub shelf_tells : Leaves steps plan before after result → after.shelf.tells ≡ before.shelf.tells
+  shelf_tells (concluded end p c same) = ending.shelf_tells_of plan before.shelf after.shelf before.sink after.sink result (ended end p c)
   shelf_tells (conversed end is h ends) = h.speaks.shelf.tells
 
   -- what tells goes on to tell
-  held_tells : (done : Talk) (between : SinkState) (then : PromptState) → Exchanged done before between asked then → (between.tells ≡ before.tells) × (then.tells ≡ asked.tells)
-  held_tells done between then held = (ap (λ s. s.tells) held.put ∙ tells-after (pieces_of done) before, ap (λ p. p.tells) held.asked)
+  held_tells : (done : Talk) (between : SinkState) (then : PromptState) → Exchanged done before.sink between before.prompt then → (between.tells ≡ before.sink.tells) × (then.tells ≡ before.prompt.tells)
+  held_tells done between then held = (ap (λ s. s.tells) held.put ∙ tells-after (pieces_of done) before.sink, ap (λ p. p.tells) held.asked)
 
-  talked : (talk : List ℕ → Talk) (end : Result (Unit {0}) PutFail) → Converses talk before after asked now end → (after.tells ≡ before.tells) × (now.tells ≡ asked.tells)
-  talked talk (Ok done) c = held_tells c.by_result.done after now c.by_result.held
+  talked : (talk : List ℕ → Talk) (end : Result (Unit {0}) PutFail) → Converses talk before.sink after.sink before.prompt after.prompt end → (after.sink.tells ≡ before.sink.tells) × (after.prompt.tells ≡ before.prompt.tells)
+  talked talk (Ok done) c = held_tells c.by_result.done after.sink after.prompt c.by_result.held
   talked talk (Err putting.Failed) c = elim c.by_result [
-    | inl lost ↦ (let held = held_tells lost.done after lost.between lost.held in (held.0, ap (λ p. p.tells) lost.line.failed ∙ held.1))
-    | inr lost ↦ (let held = held_tells lost.done lost.between now lost.held in (ap (λ s. s.tells) lost.put.failed ∙ held.0, held.1))
+    | inl lost ↦ (let held = held_tells lost.done after.sink lost.between lost.held in (held.0, ap (λ p. p.tells) lost.line.failed ∙ held.1))
+    | inr lost ↦ (let held = held_tells lost.done lost.between after.prompt lost.held in (ap (λ s. s.tells) lost.put.failed ∙ held.0, held.1))
   ]
-  talked talk (Err putting.OutOfMemory) c = held_tells c.by_result.done after now c.by_result.held
+  talked talk (Err putting.OutOfMemory) c = held_tells c.by_result.done after.sink after.prompt c.by_result.held
 
-  pub out_tells : Leaves steps plan old new before after asked now result → after.tells ≡ before.tells
-  out_tells (concluded end p c same) = ending.out_tells_of plan old new before after result (ending.ends plan old new before after result end p c)
+  pub out_tells : Leaves steps plan before after result → after.sink.tells ≡ before.sink.tells
+  out_tells (concluded end p c same) = ending.out_tells_of plan before.shelf after.shelf before.sink after.sink result (ended end p c)
   out_tells (conversed end is h ends) = (talked h.talk end h.went).0
 
-  pub prompt_tells : Leaves steps plan old new before after asked now result → now.tells ≡ asked.tells
+  pub prompt_tells : Leaves steps plan before after result → after.prompt.tells ≡ before.prompt.tells
   prompt_tells (concluded end p c same) = ap (λ p. p.tells) same
   prompt_tells (conversed end is h ends) = (talked h.talk end h.went).1
 
 -- ---- how a command line leaves things
 
 module _ (old new : ShelfState) (before mid after : SinkState) (asked now : PromptState) (result : Status) where
-  closed : (plan : Plan) (ended : Result (Result (Unit {0}) PutFail) Stop) → PerformsTalk plan old new before mid asked now ended → Closes mid ended after result → Leaves true plan old new before after asked now result
-  closed plan (Ok end) h c = conversed end refl (subst (λ sink. HoldsTalk plan old new before sink asked now end) (sym c.by_ended.1) h.by_result) c.by_ended.0
+  abbrev first : OutsideState
+  first = outside old before asked
+
+  closed : (plan : Plan) (ended : Result (Result (Unit {0}) PutFail) Stop) → PerformsTalk plan first (outside new mid now) ended → Closes mid ended after result → Leaves true plan first (outside new after now) result
+  closed plan (Ok end) h c = conversed end refl (subst (λ sink. HoldsTalk plan first (outside new sink now) end) (sym c.by_ended.1) h.by_result) c.by_ended.0
   closed plan (Err ending) h c = concluded (Err ending) h.by_result.0 (subst (λ sink. SaysEnding sink (Err ending) after result) h.by_result.1 c.by_ended) h.by_result.2
 
   -- words of `step`
   pub step_leaves : (words rest : List (List ℕ)) (ended : Result (Result (Unit {0}) PutFail) Stop) → IsTrue (is_step words) → rest ≡ drop 1 words
-      → PerformsTalk (step_plan rest) old new before mid asked now ended → Closes mid ended after result → Leaves (is_step words) (plan_of words) old new before after asked now result
+      → PerformsTalk (step_plan rest) first (outside new mid now) ended → Closes mid ended after result → Leaves (is_step words) (plan_of words) first (outside new after now) result
   step_leaves words rest ended is same h c =
-      subst (λ (b : Bool). Leaves b (cond b (step_plan (drop 1 words)) (text_plan words)) old new before after asked now result) (sym is)
-      (closed (step_plan (drop 1 words)) ended (subst (λ ws. PerformsTalk (step_plan ws) old new before mid asked now ended) same h) c)
+      subst (λ (b : Bool). Leaves b (cond b (step_plan (drop 1 words)) (text_plan words)) first (outside new after now) result) (sym is)
+      (closed (step_plan (drop 1 words)) ended (subst (λ ws. PerformsTalk (step_plan ws) first (outside new mid now) ended) same h) c)
 
 -- and of every other command
 pub text_leaves : (words : List (List ℕ)) (old new : ShelfState) (before after : SinkState) (asked : PromptState) (ending : Result Answer Stop) (result : Status) → IsFalse (is_step words)
-    → Performs (text_plan words) old new ending → SaysEnding before ending after result → Leaves (is_step words) (plan_of words) old new before after asked asked result
+    → Performs (text_plan words) old new ending → SaysEnding before ending after result → Leaves (is_step words) (plan_of words) (outside old before asked) (outside new after asked) result
 text_leaves words old new before after asked ending result other p s =
-    subst (λ (b : Bool). Leaves b (cond b (step_plan (drop 1 words)) (text_plan words)) old new before after asked asked result) (sym other) (concluded ending p s refl)
+    subst (λ (b : Bool). Leaves b (cond b (step_plan (drop 1 words)) (text_plan words)) (outside old before asked) (outside new after asked) result) (sym other) (concluded ending p s refl)

@@ -11,7 +11,7 @@ use Rattle.command_plan.specs.Plan.{Outcome, outcome}
 use Rattle.command_plan.specs.Words.{are_two_files}
 use Rattle.ddc_app.specs.Accepting.{audit}
 use Rattle.ddc_app.specs.Commands.{plan_of}
-use Rattle.ddc_app.specs.Pausing.{AreSame, AreWords, IsSavedAt, is_paused, part}
+use Rattle.ddc_app.specs.Pausing.{AreSame, AreWords, IsSavedAt, in_turn, is_paused, part}
 
 -- what `delta-start RECIPE BASE PATCH REPORT STEPS` and `delta-resume RECIPE BASE PATCH REPORT STEPS` come to over files
 abbrev pub delta_start : List ℕ → List ℕ → List ℕ → List ℕ → ℕ → NamedFiles → Outcome
@@ -45,17 +45,11 @@ abbrev pub DeltaPieces : List ℕ → List ℕ → List ℕ → List ℕ → Nam
 DeltaPieces recipe base patch report files first count piece =
     ((piece.status ≡ Paused) × IsSavedRelative recipe base patch piece.files first count) ⊎ AreSame report piece (audit recipe report files)
 
--- one `delta-resume` after the other, as long as the audit pauses, each over the files that the command before it left
-abbrev pub differing_in_turn : List ℕ → List ℕ → List ℕ → List ℕ → Outcome → List ℕ → Outcome
-differing_in_turn recipe base patch report piece [] = piece
-differing_in_turn recipe base patch report piece (steps ∷ counts) =
-    if is_paused piece.status then differing_in_turn recipe base patch report (delta_resume recipe base patch report steps piece.files) counts else piece
-
--- after a whole save `delta-start`, and then `delta-resume`
+-- after a whole save `delta-start`, and then `delta-resume`, as long as the audit pauses
 abbrev pub after_save : List ℕ → List ℕ → List ℕ → List ℕ → Outcome → List ℕ → Outcome
 after_save recipe base patch report piece [] = piece
 after_save recipe base patch report piece (steps ∷ counts) =
-    if is_paused piece.status then differing_in_turn recipe base patch report (delta_start recipe base patch report steps piece.files) counts else piece
+    if is_paused piece.status then in_turn (delta_resume recipe base patch report) (delta_start recipe base patch report steps piece.files) counts else piece
 
 -- an audit by differences: `part`, whose save is the base, then `delta-start`, and then `delta-resume`
 abbrev pub in_differences : List ℕ → List ℕ → List ℕ → List ℕ → ℕ → List ℕ → NamedFiles → Outcome

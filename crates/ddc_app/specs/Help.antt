@@ -114,7 +114,7 @@ command_answers command.Kaem = codes "runs the commands of SCRIPT over the files
 command_answers command.KaemVerify = codes "replays these commands, and says whether every word of REPORT is true"
 command_answers command.Demo = codes "makes and verifies an audit of N bytes with copy.elf and copy.hex0, and saves nothing"
 command_answers command.Help = codes "lists the commands, or says of COMMAND what it answers, and with which statuses"
-command_answers command.Version = codes "names this release of ddc, and the kit that proves it"
+command_answers command.Version = codes "names this release of ddc, and the logic in which it is proved"
 
 -- the statuses that are its own
 unfoldable pub command_statuses : CommandWord → List ℕ

@@ -75,12 +75,12 @@ abbrev pub is_paused : Status → Bool
 is_paused Paused = true
 is_paused _ = false
 
--- one `resume` after the other, as long as the audit pauses, each over the files that the command before it left
-abbrev pub resumed_in_turn : List ℕ → List ℕ → List ℕ → Outcome → List ℕ → Outcome
-resumed_in_turn recipe save report piece [] = piece
-resumed_in_turn recipe save report piece (steps ∷ counts) =
-    if is_paused piece.status then resumed_in_turn recipe save report (resume recipe save report steps piece.files) counts else piece
+-- one command after the other, as long as the audit pauses, each over the files that the command before it left; `next` says what a command of so
+-- many steps comes to over files
+abbrev pub in_turn : (ℕ → NamedFiles → Outcome) → Outcome → List ℕ → Outcome
+in_turn next piece [] = piece
+in_turn next piece (steps ∷ counts) = if is_paused piece.status then in_turn next (next steps piece.files) counts else piece
 
 -- an audit in pieces: `part`, and then `resume`
 abbrev pub in_pieces : List ℕ → List ℕ → List ℕ → ℕ → List ℕ → NamedFiles → Outcome
-in_pieces recipe save report steps counts files = resumed_in_turn recipe save report (part recipe save report steps files) counts
+in_pieces recipe save report steps counts files = in_turn (resume recipe save report) (part recipe save report steps files) counts

@@ -1,13 +1,13 @@
--- `version`: this release of ddc, and the kit that proves it. docs/reference/command-line.md says the same for people.
+-- `version`: this release of ddc, and the logic in which it is proved. docs/reference/command-line.md says the same for people.
 use Rattle.std.specs.Prelude.{ℕ, List, [], ◌∷◌, ◌++◌, codes}
 use Rattle.ddc_base.specs.Lines.{line}
 use Rattle.command_plan.specs.declared.status.Status.TheVariants.{Yes}
 use Rattle.command_plan.specs.Plan.{Plan, answers}
 use Rattle.command_plan.specs.Words.{usage}
 
--- the release, and the line by which `rt version` names the kit
+-- the release, and the logic of the kit by its digest, which `rt version` prints behind the kit's name
 abbrev pub version_text : List ℕ
-version_text = line (codes "ddc" ∷ codes "1.0" ∷ []) ++ line (codes "rattle-kit-13f" ∷ codes "logic" ∷ codes "dac8208d650f15bf" ∷ [])
+version_text = line (codes "ddc" ∷ codes "1.0" ∷ []) ++ line (codes "rattle" ∷ codes "logic" ∷ codes "dac8208d650f15bf" ∷ [])
 
 -- the words after `version`
 abbrev pub version_plan : List (List ℕ) → Plan

@@ -191,7 +191,8 @@ impl CommandWord {
                 "makes and verifies an audit of N bytes with copy.elf and copy.hex0, and saves nothing",
             CommandWord::Help =>
                 "lists the commands, or says of COMMAND what it answers, and with which statuses",
-            CommandWord::Version => "names this release of ddc, and the kit that proves it",
+            CommandWord::Version =>
+                "names this release of ddc, and the logic in which it is proved",
         }
     }
 

@@ -5,7 +5,7 @@ ghost use Rattle.prompt.specs.Converses.{SaysAll};
 ghost use Rattle.prompt.specs.Talks.{Talk};
 ghost use Rattle.command_plan.specs.Answered.{is_answer};
 ghost use Rattle.command_plan.specs.Endings.{Completes};
-ghost use Rattle.command_plan.specs.Performs.{HoldsTalk, Performs, WantsMemory};
+ghost use Rattle.command_plan.specs.Performs.{HoldsTalk, Performs, WantsMemory, outside};
 ghost use Rattle.command_plan.specs.Plan.{talk_of};
 ghost use Rattle.ddc_app.specs.Accepting.{is_compared, verify};
 ghost use Rattle.ddc_app.specs.Commands.{is_step, text_plan};
@@ -60,8 +60,8 @@ pub fn run<M: Meaning, S: Shelf, K: Sink, P: Prompt>(
         → SaysAll talk (K.state out.old) (K.state out.new) (P.state prompt.old) (P.state prompt.new) }
     ensures replies { IsTrue (is_answer result)
         → (TakesOne (K.state out.old) (K.state out.new) × (P.state prompt.new ≡ P.state prompt.old))
-        ⊎ HoldsTalk (plan_for words.now) (S.state shelf.old) (S.state shelf.new) (K.state out.old) (K.state out.new)
-        (P.state prompt.old) (P.state prompt.new) (Ok tt) }
+        ⊎ HoldsTalk (plan_for words.now) (outside (S.state shelf.old) (K.state out.old) (P.state prompt.old))
+        (outside (S.state shelf.new) (K.state out.new) (P.state prompt.new)) (Ok tt) }
 
     // A fault is a call that failed and was counted: the shelf's after a front part of the plan's calls, the sink's in the one put.
     ensures shelf_fault { result ≡ Status.ShelfFault
@@ -73,15 +73,15 @@ pub fn run<M: Meaning, S: Shelf, K: Sink, P: Prompt>(
     ensures talk_fault { result ≡ Status.OutFault
         → (LosesText (plan_for words.now) (S.state shelf.old) (S.state shelf.new) (K.state out.old) (K.state out.new)
         × (P.state prompt.new ≡ P.state prompt.old))
-        ⊎ HoldsTalk (plan_for words.now) (S.state shelf.old) (S.state shelf.new) (K.state out.old) (K.state out.new)
-        (P.state prompt.old) (P.state prompt.new) (Err putting.Failed) }
+        ⊎ HoldsTalk (plan_for words.now) (outside (S.state shelf.old) (K.state out.old) (P.state prompt.old))
+        (outside (S.state shelf.new) (K.state out.new) (P.state prompt.new)) (Err putting.Failed) }
 
     // Want of memory says nothing, or nothing after the whole replies of a session, and comes after a front part of the plan's calls.
     ensures silent { IsOneText words.now (S.state shelf.old) → result ≡ Status.OutOfMemory → K.state out.new ≡ K.state out.old }
     ensures talk_want { result ≡ Status.OutOfMemory
         → ((K.state out.new ≡ K.state out.old) × (P.state prompt.new ≡ P.state prompt.old))
-        ⊎ HoldsTalk (plan_for words.now) (S.state shelf.old) (S.state shelf.new) (K.state out.old) (K.state out.new)
-        (P.state prompt.old) (P.state prompt.new) (Err putting.OutOfMemory) }
+        ⊎ HoldsTalk (plan_for words.now) (outside (S.state shelf.old) (K.state out.old) (P.state prompt.old))
+        (outside (S.state shelf.new) (K.state out.new) (P.state prompt.new)) (Err putting.OutOfMemory) }
     ensures want { result ≡ Status.OutOfMemory
         → WantsMemory (plan_for words.now) (S.state shelf.old) (S.state shelf.new) }
 
@@ -134,8 +134,9 @@ fn act<M: Meaning, S: Shelf, K: Sink, P: Prompt>(
     out: &mut K,
     prompt: &mut P,
 ) -> Status
-    ensures { Leaves (is_step (map (λ word. word.now) words.now)) (plan_for words.now) (S.state shelf.old) (S.state shelf.new)
-        (K.state out.old) (K.state out.new) (P.state prompt.old) (P.state prompt.new) result }
+    ensures { Leaves (is_step (map (λ word. word.now) words.now)) (plan_for words.now)
+        (outside (S.state shelf.old) (K.state out.old) (P.state prompt.old))
+        (outside (S.state shelf.new) (K.state out.new) (P.state prompt.new)) result }
 {
     match after_step(words) {
         Some(words) => {

@@ -1,4 +1,4 @@
-//! `version`: this release of ddc, and the kit that proves it.
+//! `version`: this release of ddc, and the logic in which it is proved.
 
 ghost use Rattle.std.specs.Prelude.{◌≡◌, IfOk, map};
 ghost use Rattle.command_plan.specs.declared.status.Status.TheVariants.{Yes};
@@ -20,7 +20,7 @@ pub fn perform(alloc: Global, words: &[&str]) -> Result<Answer, Stop>
     }
 }
 
-/// The answer that names the release and the kit.
+/// The answer that names the release and the logic.
 fn version(alloc: Global) -> Result<Answer, Stop>
     ensures { Says (answers Yes version_text) result }
 {
@@ -34,5 +34,5 @@ fn version(alloc: Global) -> Result<Answer, Stop>
 fn text_of(alloc: Global) -> Result<Bytes, OutOfMemory>
     ensures { IfOk result (λ text. text ≡ version_text) }
 {
-    Bytes::from_slice(alloc, b"ddc 1.0\nrattle-kit-13f logic dac8208d650f15bf\n")
+    Bytes::from_slice(alloc, b"ddc 1.0\nrattle logic dac8208d650f15bf\n")
 }

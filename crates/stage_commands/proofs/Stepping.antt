@@ -20,7 +20,7 @@ use Rattle.command_plan.specs.declared.answer.Answer.{Answer}
 use Rattle.command_plan.specs.declared.stop.Stop.{Stop}
 use Rattle.command_plan.specs.declared.stop.Stop.TheVariants as stop
 use Rattle.command_plan.specs.Plan.{Plan, unless_refused}
-use Rattle.command_plan.specs.Performs.{PerformsTalk}
+use Rattle.command_plan.specs.Performs.{OutsideState, PerformsTalk}
 use Rattle.command_plan.specs.Steps.{Obtains, Says}
 use Rattle.command_plan.specs.Words.{or_usage, usage}
 use Rattle.command_plan.proofs.Obtaining.{answers_at_once, leads}
@@ -70,6 +70,6 @@ module _ (recipe : RecipeContents) (inputs : List (List ℕ)) (done : List Finis
         ∙ said.by_result)
 
 -- what a plan leaves is what the same plan leaves
-pub of_same_plan : {plan other : Plan} {old new : ShelfState} {before after : SinkState} {asked now : PromptState} {result : Result (Result (Unit {0}) PutFail) Stop}
-    → plan ≡ other → PerformsTalk other old new before after asked now result → PerformsTalk plan old new before after asked now result
-of_same_plan {old = old} {new} {before} {after} {asked} {now} {result} is held = subst (λ p. PerformsTalk p old new before after asked now result) (sym is) held
+pub of_same_plan : {plan other : Plan} {before after : OutsideState} {result : Result (Result (Unit {0}) PutFail) Stop}
+    → plan ≡ other → PerformsTalk other before after result → PerformsTalk plan before after result
+of_same_plan {before = before} {after} {result} is held = subst (λ p. PerformsTalk p before after result) (sym is) held

@@ -1,9 +1,8 @@
 //! `step RECIPE STAGE`: the stages before one are run, and then lines are answered.
 
 ghost use Rattle.std.specs.Prelude.{◌≡◌, ℕ, All, IfOk, List, map};
-ghost use Rattle.ddc_base.specs.Outside.{ShelfState, SinkState};
+ghost use Rattle.ddc_base.specs.Outside.{ShelfState};
 ghost use Rattle.mem_files.specs.Outputs.{IsContent};
-ghost use Rattle.prompt.specs.Prompts.{PromptState};
 ghost use Rattle.prompt.specs.Talks.{talk};
 ghost use Rattle.recipe.specs.Kept.{IsRecipe};
 ghost use Rattle.step_debug.specs.Sessions.{reply_to};
@@ -11,7 +10,7 @@ ghost use Rattle.audit_rules.specs.Stages.{contents};
 ghost use Rattle.audit_rules.specs.Valid.{AreDone, IsInputs};
 ghost use Rattle.audit_rules.specs.declared.answer.Finished.{Finished};
 ghost use Rattle.audit_run.specs.Stage.Rules.{AreMade, IsStageOf};
-ghost use Rattle.command_plan.specs.Performs.{PerformsTalk};
+ghost use Rattle.command_plan.specs.Performs.{OutsideState, PerformsTalk, outside};
 ghost use Rattle.command_plan.specs.Plan.{Plan, talks};
 ghost use Rattle.command_plan.specs.Steps.{Obtains};
 ghost use Rattle.command_plan.specs.Words.{usage};
@@ -45,8 +44,8 @@ pub fn perform<S: Shelf, K: Sink, P: Prompt>(
     out: &mut K,
     prompt: &mut P,
 ) -> Result<Result<(), PutFail>, Stop>
-    ensures { PerformsTalk (step_plan (map (λ w. w.now) words.now)) (S.state shelf.old) (S.state shelf.new)
-        (K.state out.old) (K.state out.new) (P.state prompt.old) (P.state prompt.new) result }
+    ensures { PerformsTalk (step_plan (map (λ w. w.now) words.now)) (outside (S.state shelf.old) (K.state out.old) (P.state prompt.old))
+        (outside (S.state shelf.new) (K.state out.new) (P.state prompt.new)) result }
 {
     let Some(words) = StageWords::read(words) else {
         return refuse(alloc);
@@ -56,7 +55,7 @@ pub fn perform<S: Shelf, K: Sink, P: Prompt>(
 
 /// Words that are no command line of ddc.
 fn refuse(alloc: Global) -> Result<Result<(), PutFail>, Stop>
-    ensures { (shelf : ShelfState) (sink : SinkState) (prompt : PromptState) → PerformsTalk usage shelf shelf sink sink prompt prompt result }
+    ensures { (state : OutsideState) → PerformsTalk usage state state result }
 {
     Err(Stop::Answered(usage(alloc)?))
 }
@@ -69,8 +68,8 @@ fn step<S: Shelf, K: Sink, P: Prompt>(
     prompt: &mut P,
     words: &StageWords<'_>,
 ) -> Result<Result<(), PutFail>, Stop>
-    ensures { PerformsTalk (step_stage words.now.recipe words.now.stage) (S.state shelf.old) (S.state shelf.new)
-        (K.state out.old) (K.state out.new) (P.state prompt.old) (P.state prompt.new) result }
+    ensures { PerformsTalk (step_stage words.now.recipe words.now.stage) (outside (S.state shelf.old) (K.state out.old) (P.state prompt.old))
+        (outside (S.state shelf.new) (K.state out.new) (P.state prompt.new)) result }
 {
     let recipe = fetch_recipe(alloc, shelf, &words.recipe)?;
     let (inputs, done) = run_named(alloc, shelf, &recipe, &words.stage)?;
@@ -112,8 +111,8 @@ fn talk<K: Sink, P: Prompt>(
     ready: &Ready,
 ) -> Result<Result<(), PutFail>, Stop>
     requires { IsReady ready.now }
-    ensures { (shelf : ShelfState) → PerformsTalk (needs_session ready.now.recipe ready.now.inputs ready.now.done (λ session. talks (talk reply_to session 65_536))) shelf shelf
-        (K.state out.old) (K.state out.new) (P.state prompt.old) (P.state prompt.new) result }
+    ensures { (shelf : ShelfState) → PerformsTalk (needs_session ready.now.recipe ready.now.inputs ready.now.done (λ session. talks (talk reply_to session 65_536)))
+        (outside shelf (K.state out.old) (P.state prompt.old)) (outside shelf (K.state out.new) (P.state prompt.new)) result }
 {
     let mut session = start_session(alloc, ready)?;
     Ok(converse(&mut session, MOST_LINES, prompt, out))
