@@ -61,7 +61,7 @@ module _ (next : ℕ → NamedFiles → Outcome) (Stands : ℕ → Outcome → T
   pub further : ((total : ℕ) (piece : Outcome) → Stands total piece → GoesOn total piece) → (counts : List ℕ) → All IsStepCount counts
       → (total : ℕ) (piece : Outcome) → Stands total piece → Stands (fold (λ a x. a + x) total counts) (in_turn next piece counts)
   further goes [] are total piece stands = stands
-  further goes (steps ∷ counts) are total piece stands = elim goes total piece stands [
+  further goes (steps ∷ counts) are total piece stands = elim (goes total piece stands) [
     | inl over ↦ subst (Stands (fold (λ a x. a + x) (total + steps) counts)) (sym (stays_over next piece (steps ∷ counts) over.0)) (over.1 (fold (λ a x. a + x) (total + steps) counts))
     | inr on ↦ (
       let later = next steps piece.files in
