@@ -155,7 +155,7 @@ impl<'s> Reader<'s> {
         }
     }
 
-    /// Takes the token at an offset, and gives the offset behind it.
+    /// Takes the token at an offset, and gives the offset after it.
     fn token(&mut self, at: usize) -> Result<usize, Refusal> {
         let sign = self.source[at];
         if let Some(high) = digit(sign) {

@@ -46,7 +46,7 @@ struct Report {
     compared: (Vec<u8>, Vec<u8>, Compared),
 }
 
-/// The bytes behind the lines that were taken, and the number of the line that was last looked at.
+/// The bytes after the lines that were taken, and the number of the line that was last looked at.
 struct Lines<'a> {
     rest: &'a [u8],
     taken: u64,

@@ -52,7 +52,7 @@ scripted 'a script and a list that are listed' 0 'done 1 steps 3\n' 'exit.elf' '
 scripted 'a quote without its end' 15 'script refused 1 0\n' '"a\n'
 scripted 'a variable' 15 'script refused 2 2\n' 'a $b\n'
 scripted 'a line that goes on' 15 'script refused 2 9\n' 'exit.elf \\\\\na\n'
-scripted 'a word behind a quote' 15 'script refused 2 2\n' 'a "b"c\n'
+scripted 'a word after a quote' 15 'script refused 2 2\n' 'a "b"c\n'
 scripted 'a zero byte' 15 'script refused 2 2\n' 'a b\0\n'
 scripted 'a program without a name' 15 'script refused 2 2\n' 'a\n./\n'
 scripted 'a word of 255 bytes' 6 'run failed 1 no-program step 0\n' "$longest_name"

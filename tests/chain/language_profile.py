@@ -79,7 +79,7 @@ class Words:
 
 
 def gap(source, at):
-    """The place behind blanks and comments."""
+    """The place after blanks and comments."""
     while at < len(source):
         if source[at] in BLANKS:
             at += 1

@@ -180,7 +180,7 @@ class Program:
         self.put("}")
 
     def block(self, depth, loop):
-        """Statements, perhaps behind declarations, and the closing brace."""
+        """Statements, perhaps after declarations, and the closing brace."""
         r = self.random
         self.depth += 1
         scalars, places = len(self.scalars), len(self.places)

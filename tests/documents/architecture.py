@@ -84,7 +84,7 @@ def check_drawing(table, placed, lines):
 
 
 def check_crates(text, needs):
-    """The table of crates has each crate once, behind those that it stands on."""
+    """The table of crates has each crate once, after those that it stands on."""
     listed = [names(row[0])[0] for row in rows(section(text, "## The crates, lowest first"), "Crate")]
     for crate in sorted(set(listed) ^ set(needs)):
         yield f"{crate}: not both in crates.txt and in the table of crates"

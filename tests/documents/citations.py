@@ -73,7 +73,7 @@ def check_paths(root, text):
 
 
 def check_files(root, paragraph, crates):
-    """A file without its folder is in the one that the paragraph named last by a path, or in the crate behind its name."""
+    """A file without its folder is in the one that the paragraph named last by a path, or in the crate after its name."""
     for found in FILE.finditer(paragraph):
         named = re.match(r" of `(\w+)`", paragraph[found.end():])
         before = re.findall(r"crates/(\w+)/?(specs|src|proofs)?", paragraph[:found.start()])

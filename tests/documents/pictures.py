@@ -55,7 +55,7 @@ def missing(recipe, nodes, edges):
 
 
 def faults(root):
-    """Each fault, behind the name of its file."""
+    """Each fault, after the name of its file."""
     for path in sorted(root.glob("examples/*/*.toml")):
         recipe = tomllib.loads(path.read_text())
         yield from (f"{path.relative_to(root)}: drawn with {it}" for it in missing(recipe, *graph(root, path.relative_to(root))))

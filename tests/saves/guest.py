@@ -6,7 +6,7 @@ other it stops with a message, so it says nothing of a program that it has no ru
 
 PAGE = 4096
 STACK_PAGES = 2048
-TOP_PAGE = 1 << 26  # the page behind the stack, which ends at 2^38
+TOP_PAGE = 1 << 26  # the page after the stack, which ends at 2^38
 WORD = (1 << 64) - 1
 ZEROS = bytes(PAGE)
 

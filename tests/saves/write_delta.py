@@ -3,7 +3,7 @@
 
     tests/saves/write_delta.py RECIPE FIRST STEPS >DELTA
 
-RECIPE is read in its own folder; FIRST is how many steps the base is behind, and STEPS how many the position is, as for write_save.py.
+RECIPE is read in its own folder; FIRST is after how many steps the base stands, and STEPS after how many the position does, as for write_save.py.
 """
 
 import copy
@@ -81,7 +81,7 @@ class Place:
 
 
 def places(path, steps):
-    """The places behind so many steps of the audit of a recipe, by these numbers."""
+    """The places after so many steps of the audit of a recipe, by these numbers."""
     audit, at, found = Audit(path), 0, {}
     for place in sorted(set(steps)):
         audit.advance(place - at)

@@ -117,7 +117,7 @@ class Audit:
         self.begin()
 
     def begin(self):
-        """Starts the present stage's guest; there is none behind the last stage."""
+        """Starts the present stage's guest; there is none after the last stage."""
         self.now = None
         if len(self.done) < len(self.recipe["stage"]):
             self.stage = self.recipe["stage"][len(self.done)]
