@@ -1,5 +1,5 @@
 -- Lines taken one by one: those of commands that are replayed, and those of the files that are left, which a walk by "the first name after" finds.
-use Rattle.std.proofs.Common.{◌≡◌, ℕ, suc, ◌+◌, ◌-◌, ◌<◌, ◌≤◌, ◌&&◌, Bool, true, false, Bor, Option, Some, None, Result, Ok, List, [], ◌∷◌, length, take, drop, get_or, map, not, is_none, is_some, option_copied, refl, sym, ap, ◌∙◌, arith, All, subst}
+use Rattle.std.proofs.Common.{◌≡◌, ℕ, zero, suc, ◌+◌, ◌-◌, ◌<◌, ◌≤◌, ◌&&◌, Bool, true, false, Bor, Option, Some, None, Result, Ok, List, [], ◌∷◌, length, take, drop, get_or, map, not, is_none, is_some, option_copied, refl, sym, ap, ◌∙◌, arith, All, subst}
 use Rattle.std.specs.FinMap as fin
 use Rattle.std.proofs.lemmas.List.{take_all}
 use Rattle.std.proofs.lemmas.List.Elements.{All-tail}
@@ -11,6 +11,7 @@ use Rattle.report.specs.declared.types.LeftLine.{LeftLine}
 use Rattle.report.specs.declared.script.types.CommandLine.{CommandLine}
 use Rattle.kaem_script.specs.declared.verdict.ScriptPart.{ScriptPart}
 use Rattle.kaem_script.specs.Faults.{commands_fault, fault_after_command, replayed_command, says_file, says_files}
+use Rattle.kaem_script.specs.Verdicts.{CanReplay, CanWantFrom}
 use Rattle.kaem_script.specs.Kept.{IsCommand}
 use Rattle.kaem_script.specs.FilesListed.{named_in}
 use Rattle.kaem_script.proofs.Renewing.{files_after}
@@ -41,6 +42,35 @@ replay-goes-on f number world after ahead rest words lines others line whole ahe
 
 pub others-are : (ahead rest : List (List (List ℕ))) (words : List (List ℕ)) → ahead ≡ words ∷ rest → All IsCommand ahead → All IsCommand rest
 others-are ahead rest words is each = All-tail IsCommand words rest (subst (All IsCommand) is each)
+
+-- where memory may be wanting at one of these commands, it may be at the next number of those with one before them that is right
+wants-further : (world after : World) (commands : List (List (List ℕ))) (words : List (List ℕ)) (lines : List CommandLine) (line : CommandLine) (k : ℕ)
+    → replayed_command world words line ≡ Ok after → CanWantFrom after commands lines k → CanWantFrom world (words ∷ commands) (line ∷ lines) (suc k)
+wants-further world after [] words [] line zero is can = absurd can
+wants-further world after [] words (next ∷ lines) line zero is can = absurd can
+wants-further world after (more ∷ commands) words [] line zero is can = absurd can
+wants-further world after (more ∷ commands) words (next ∷ lines) line zero is can = absurd can
+wants-further world after commands words lines line (suc k) is can = (after, is, can)
+
+-- wherever memory may be wanting of what is ahead, it may be there of the whole
+abbrev pub WantsOfWhole : World → List (List (List ℕ)) → List CommandLine → World → List (List (List ℕ)) → List CommandLine → ℕ → Type 0
+WantsOfWhole first commands report world ahead lines number = (k n : ℕ) → n + 1 ≡ number + k → CanWantFrom world ahead lines k → CanWantFrom first commands report n
+
+pub wants-begin : (first : World) (commands : List (List (List ℕ))) (report : List CommandLine) → WantsOfWhole first commands report first commands report 1
+wants-begin first commands report k n is can =
+    let same : k ≡ n = omega (arith, is) in
+    subst (CanWantFrom first commands report) same can
+
+module _ (first : World) (commands : List (List (List ℕ))) (report : List CommandLine) (number : ℕ) (world : World) (ahead rest : List (List (List ℕ))) (words : List (List ℕ)) (lines others : List CommandLine) (line : CommandLine)
+    (ahead_is : ahead ≡ words ∷ rest) (lines_are : lines ≡ line ∷ others) (before : WantsOfWhole first commands report world ahead lines number) where
+  pub wants-on : (after : World) → replayed_command world words line ≡ Ok after → WantsOfWhole first commands report after rest others (number + 1)
+  wants-on after is k n count can =
+      before (suc k) n (omega (arith, count))
+      (subst (λ (a : List (List (List ℕ))). CanWantFrom world a lines (suc k)) (sym ahead_is)
+      (subst (λ (l : List CommandLine). CanWantFrom world (words ∷ rest) l (suc k)) (sym lines_are) (wants-further world after rest words others line k is can)))
+
+  pub wants-here : CanReplay world words line.steps → CanWantFrom first commands report number
+  wants-here can = before 1 number (omega arith) (subst (λ (a : List (List (List ℕ))). CanWantFrom world a lines 1) (sym ahead_is) (subst (λ (l : List CommandLine). CanWantFrom world (words ∷ rest) l 1) (sym lines_are) can))
 
 -- ---- the files that are left
 

@@ -4,8 +4,10 @@ ghost use Rattle.guest_run.specs.Run.{first_end};
 ghost use Rattle.kaem_script.specs.Faults.{left_after_steps, left_at_step, replayed_command, says_streams};
 ghost use Rattle.kaem_script.specs.Fold.{by_first_end, command};
 ghost use Rattle.kaem_script.specs.Inside.Commands.{renewed, world_in};
-ghost use Rattle.kaem_script.specs.Inside.Replays.{Judged, or_no_run};
+ghost use Rattle.kaem_script.specs.Inside.Replays.{Judged, OnReplayWant, or_no_run};
 ghost use Rattle.kaem_script.specs.Kept.{IsCommand};
+ghost use Rattle.kaem_script.specs.Verdicts.{CanReplay};
+ghost use Rattle.kaem_script.specs.Wants.{HasProgram};
 ghost use Rattle.kaem_script.specs.declared.replay.ReplayStop.TheVariants.{OutOfMemory};
 ghost use Rattle.std.specs.Prelude.{◌≡◌, ◌≤◌, ◌^◌};
 
@@ -46,7 +48,8 @@ pub(crate) fn replay(
     line: &CommandLine,
 ) -> Result<Files, ReplayStop>
     requires { IsCommand words.now }
-    ensures { Judged (λ files. files) (replayed_command (world_in present.entry) words.now line.now) result }
+    ensures value { Judged (λ files. files) (replayed_command (world_in present.entry) words.now line.now) result }
+    ensures memory { OnReplayWant result (CanReplay (world_in present.entry) words.now line.now.steps) }
 {
     let guest = exited(alloc, present, words, line.steps)?;
     if !says_streams(line, guest.files()) {
@@ -64,7 +67,8 @@ fn exited(
     step: u64,
 ) -> Result<Guest<RunRam>, ReplayStop>
     requires { IsCommand words.now }
-    ensures { Judged (λ guest. guest.world) (or_no_run (left_at_step (world_in present.entry) words.now step)) result }
+    ensures value { Judged (λ guest. guest.world) (or_no_run (left_at_step (world_in present.entry) words.now step)) result }
+    ensures memory { OnReplayWant result (CanReplay (world_in present.entry) words.now step) }
 {
     if 1 <= step && step <= MOST_STEPS {
         run_command(alloc, present, words, step)
@@ -83,7 +87,8 @@ fn run_command(
     requires words { IsCommand words.now }
     requires some { 1 ≤ step }
     requires few { step ≤ 2 ^ 48 }
-    ensures { Judged (λ guest. guest.world) (or_no_run (left_after_steps step (command step (world_in present.entry) words.now))) result }
+    ensures value { Judged (λ guest. guest.world) (or_no_run (left_after_steps step (command step (world_in present.entry) words.now))) result }
+    ensures memory { OnReplayWant result (HasProgram (world_in present.entry) words.now) }
 {
     match begun(alloc, files_in(&present), words)? {
         Ok(guest) => run_over(alloc, guest, present, step),

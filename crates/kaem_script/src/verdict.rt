@@ -38,6 +38,6 @@ pub enum ScriptVerdict {
     Yes,
     /// The first part that is not true, with the number of the file or of the command, from 1; 0 for the header and for the files at the end.
     Refuted { part: ScriptPart, place: u32 },
-    /// Want of memory of this process.
-    OutOfMemory,
+    /// Want of memory of this process at the command of this number, from 1. Nothing that is judged before is untrue.
+    OutOfMemory { command: u32 },
 }

@@ -3,9 +3,9 @@
 ghost use Rattle.kaem_script.specs.Faults.{commands_fault, first_script_fault, left_fault, says_file, says_files, wrong_file};
 ghost use Rattle.kaem_script.specs.Kept.{AreCommands};
 ghost use Rattle.kaem_script.specs.FilesListed.{listed_files};
-ghost use Rattle.kaem_script.specs.Verdicts.{JudgesScript, WantsAtCommands};
+ghost use Rattle.kaem_script.specs.Verdicts.{CanWantFrom, JudgesScript, OnVerdictWant, WantsAtCommand, script_verdict};
 ghost use Rattle.mem_files.specs.Outputs.{left};
-ghost use Rattle.std.specs.Prelude.{◌≡◌, ◌≤◌, IfOk, length};
+ghost use Rattle.std.specs.Prelude.{◌≡◌, ◌≤◌, Some, length};
 
 use crate::files::FileList;
 use crate::present::{Present, bytes_of, files_in};
@@ -13,19 +13,17 @@ use crate::reading::Command;
 use crate::replay::{ReplayStop, replay};
 use crate::script::Script;
 use crate::verdict::{ScriptPart, ScriptVerdict};
-use ddc_base::{Bytes, OutOfMemory};
+use ddc_base::Bytes;
 use mem_files::Files;
 use report::LeftLine;
 use report::script::{CommandLine, ScriptReport};
 use std::alloc::Global;
 
-/// A part that is not true, and its place.
-type UntruePart = (ScriptPart, u32);
-
 /// Replays a script's report, which it doesn't believe.
 ///
-/// `Refuted` names the first part that is not true, judged on the bytes that the earlier commands left. Want of memory comes only where the
-/// script's digest and all `file` lines are right. docs/reference/kaem.md has the rules.
+/// `Refuted` names the first part that is not true, judged on the bytes that the earlier commands left. Want of memory comes only at a command,
+/// where the script's digest, all `file` lines and the lines of all commands before it are right, its own recorded step is from 1 to 2^48, and its
+/// program is there and can be loaded. docs/reference/kaem.md has the rules.
 #[tactic(auto, unfolding(crate::specs::Faults::first_script_fault))]
 pub fn verify(
     alloc: Global,
@@ -34,7 +32,7 @@ pub fn verify(
     report: &ScriptReport,
 ) -> ScriptVerdict
     ensures value { JudgesScript (first_script_fault script.now files.now report.now) result }
-    ensures memory { WantsAtCommands script.now files.now report.now result }
+    ensures memory { OnVerdictWant result (WantsAtCommand script.now files.now report.now) }
 {
     if script.digest().0 != report.script.0 {
         return ScriptVerdict::Refuted {
@@ -48,11 +46,7 @@ pub fn verify(
             place,
         };
     }
-    match wrong_command(alloc, script.commands(), files.files(), report) {
-        Ok(None) => ScriptVerdict::Yes,
-        Ok(Some((part, place))) => ScriptVerdict::Refuted { part, place },
-        Err(OutOfMemory) => ScriptVerdict::OutOfMemory,
-    }
+    judge_commands(alloc, script.commands(), files.files(), report)
 }
 
 /// The number of the first listed file that no line says, or that of the first line too many.
@@ -89,15 +83,16 @@ fn wrong_name(list: &FileList, lines: &[LeftLine]) -> Option<u32>
     if ahead.is_empty() { None } else { Some(number) }
 }
 
-/// The first fault of the commands, each of which is replayed over the files that those before it left, and then of the files at the end.
-fn wrong_command(
+/// The verdict on the commands, each of which is replayed over the files that those before it left, and then on the files at the end.
+fn judge_commands(
     alloc: Global,
     commands: &[Command],
     files: &Files,
     report: &ScriptReport,
-) -> Result<Option<UntruePart>, OutOfMemory>
+) -> ScriptVerdict
     requires { AreCommands commands.now }
-    ensures { IfOk result (λ fault. fault ≡ commands_fault (left_fault report.now.left) 1 files.now commands.now report.now.commands) }
+    ensures value { JudgesScript (commands_fault (left_fault report.now.left) 1 files.now commands.now report.now.commands) result }
+    ensures memory { OnVerdictWant result (CanWantFrom files.now commands.now report.now.commands) }
 {
     let mut present = Present::Given(files);
     let mut ahead = commands;
@@ -105,12 +100,14 @@ fn wrong_command(
     let mut number: u32 = 1;
     while let [words, later @ ..] = ahead {
         match lines {
-            [] => return Ok(Some((ScriptPart::Run, number))),
+            [] => return refuted(ScriptPart::Run, number),
             [line, others @ ..] => {
                 match replay(alloc, present, words, line) {
                     Ok(left) => present = Present::Left(left),
-                    Err(ReplayStop::Refuted(part)) => return Ok(Some((part, number))),
-                    Err(ReplayStop::OutOfMemory) => return Err(OutOfMemory),
+                    Err(ReplayStop::Refuted(part)) => return refuted(part, number),
+                    Err(ReplayStop::OutOfMemory) => {
+                        return ScriptVerdict::OutOfMemory { command: number };
+                    }
                 }
                 ahead = later;
                 lines = others;
@@ -119,20 +116,27 @@ fn wrong_command(
         }
     }
     if lines.is_empty() {
-        Ok(wrong_left(files_in(&present), report.left.as_slice()))
+        judge_left(files_in(&present), report.left.as_slice())
     } else {
-        Ok(Some((ScriptPart::Run, number)))
+        refuted(ScriptPart::Run, number)
     }
 }
 
-/// The fault of the files at the end, if there is one.
-fn wrong_left(files: &Files, lines: &[LeftLine]) -> Option<UntruePart>
-    ensures { result ≡ left_fault lines.now files.now }
+/// The verdict on a report of which this part is not true.
+fn refuted(part: ScriptPart, place: u32) -> ScriptVerdict
+    ensures { result ≡ script_verdict (Some (part, place)) }
+{
+    ScriptVerdict::Refuted { part, place }
+}
+
+/// The verdict on the files at the end.
+fn judge_left(files: &Files, lines: &[LeftLine]) -> ScriptVerdict
+    ensures { result ≡ script_verdict (left_fault lines.now files.now) }
 {
     if says_left(files, lines) {
-        None
+        ScriptVerdict::Yes
     } else {
-        Some((ScriptPart::Left, 0))
+        refuted(ScriptPart::Left, 0)
     }
 }
 

@@ -141,7 +141,7 @@ fn judge(
     match kaem_script::verify(alloc, script, files, report) {
         ScriptVerdict::Yes => accepted(alloc, script.commands().len()),
         ScriptVerdict::Refuted { part, place } => refuted(alloc, part, place),
-        ScriptVerdict::OutOfMemory => Err(Stop::OutOfMemory),
+        ScriptVerdict::OutOfMemory { command: _ } => Err(Stop::OutOfMemory),
     }
 }
 

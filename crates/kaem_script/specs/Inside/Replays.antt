@@ -15,3 +15,8 @@ abbrev pub Judged : {A B : Type 0} → (B → A) → Result A ScriptPart → Res
 Judged view meant (Ok found) = meant ≡ Ok (view found)
 Judged view meant (Err (Refuted part)) = meant ≡ Err part
 Judged view meant (Err OutOfMemory) = Unit {0}
+
+-- a fact where memory was wanting
+abbrev pub OnReplayWant : {B : Type 0} → Result B ReplayStop → Type 0 → Type 0
+OnReplayWant (Err OutOfMemory) fact = fact
+OnReplayWant answer fact = Unit {0}
