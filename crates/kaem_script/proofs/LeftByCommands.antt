@@ -1,10 +1,11 @@
 -- What a command left, beside what all commands come to.
-use Rattle.std.proofs.Common.{◌≡◌, ℕ, suc, ◌+◌, ◌<◌, ◌≤◌, ⊥, Option, None, Some, List, [], ◌∷◌, ◌++◌, length, take, drop, Result, Ok, Err, refl, sym, ap, ◌∙◌, subst, length-append, arith}
+use Rattle.std.proofs.Common.{◌≡◌, ℕ, zero, suc, ◌+◌, ◌≤◌, Option, None, Some, List, [], ◌∷◌, ◌++◌, length, take, drop, Result, Ok, Err, refl, sym, ap, ◌∙◌, subst, length-append, arith}
+use Rattle.std.proofs.lemmas.Bool.{ne_eqb}
 use Rattle.std.proofs.Math.Seq.{drop-append_seam, take-append_seam}
 use Rattle.std.proofs.lemmas.List.{drop-append-le, length-drop, take-append-le}
 use Rattle.mem_files.specs.World.{World}
 use Rattle.mem_files.specs.Calls.{content_at}
-use Rattle.guest_run.specs.Run.{End, Exited, Trapped, UnknownCall, after, first_end}
+use Rattle.guest_run.specs.Run.{End, Exited, Trapped, UnknownCall, first_end}
 use Rattle.guest_run.specs.Start.{ArgsTooLong, BoxTooLarge, Elf, Refusal, start_of}
 use Rattle.guest_run.specs.State.{GuestState}
 use Rattle.kaem_script.specs.declared.cause.CommandCause.{CommandCause}
@@ -94,6 +95,24 @@ same_number a b why cause step at is = cc
 not_both : {A : Type 0} (at : ℕ) (why : CommandCause) (step : ℕ) (ran : List Ran) (left : World) → Stopped at why step ≡ RanAll ran left → A
 not_both at why step ran left is = absurd cc
 
+-- commands behind some that ran stop behind them
+stops_one : (number : ℕ) (found : CommandResult) (next : Ran → Folded) (at : ℕ) (why : CommandCause) (step : ℕ)
+    → ((ran : Ran) → next ran ≡ Stopped at why step → number ≤ at) → after_command number found next ≡ Stopped at why step → number ≤ at
+stops_one number (Err stop) next at why step rest is =
+    let same : number ≡ at = cc in
+    omega (arith, same)
+stops_one number (Ok ran) next at why step rest is = rest ran is
+
+stops_later : (most : ℕ) (others : List (List (List ℕ))) (done : List Ran) (left : World) (at : ℕ) (why : CommandCause) (step : ℕ)
+    → fold_from most done left others ≡ Stopped at why step → length done + 1 ≤ at
+stops_later most [] done left at why step is = absurd cc
+stops_later most (x ∷ others) done left at why step is =
+    stops_one (length done + 1) (command most left x) (λ one. fold_from most (done ++ one ∷ []) one.world others) at why step
+    (λ one here. (let more = stops_later most others (done ++ one ∷ []) one.world at why step here in omega (arith, more, length-append done (one ∷ [])))) is
+
+not_zero : (status step : ℕ) (files : World) → by_status (suc status) step files ≡ Err (cause.Status (suc status), step)
+not_zero status step files = rw (ne_eqb (suc status) 0 (λ e. absurd (omega (arith, e)))) refl
+
 -- a command that stops, by what it left
 stops_by : (left : LeftResult) (number : ℕ) (next : Ran → Folded) (why : CommandCause) (step : ℕ)
     → ((stop : ℕ × CommandCause × ℕ) → left ≡ Err stop → stop.0 ≡ number)
@@ -107,8 +126,10 @@ stops_by (Err stop) number next why step named is none =
 stops_by (Ok left) number next why step named is none = at left.cause refl is
   where
     by_zero : (status : ℕ) → left.cause ≡ cause.Status status → after_command number (by_status status left.step left.files) next ≡ Stopped number why step → (left.cause ≡ why) × (left.step ≡ step)
-    by_zero 0 same here = absurd (none (record { steps = left.step; world = left.files }) here)
+    by_zero zero same here = absurd (none (record { steps = left.step; world = left.files }) here)
     by_zero (suc status) same here =
+        let stopped : Stopped number (cause.Status (suc status)) left.step ≡ Stopped number why step =
+        ap (λ (found : CommandResult). after_command number found next) (sym (not_zero status left.step left.files)) ∙ here in
         let why_is : cause.Status (suc status) ≡ why = cc in
         let step_is : left.step ≡ step = cc in
         (same ∙ why_is, step_is)
@@ -131,7 +152,7 @@ ran_by (Ok left) number done all world is = at left.cause refl is
     goes_on ran = RanAll (done ++ ran ∷ []) ran.world
 
     by_zero : (status : ℕ) → left.cause ≡ cause.Status status → after_command number (by_status status left.step left.files) goes_on ≡ RanAll all world → IsLast (Ok left) all world
-    by_zero 0 same here =
+    by_zero zero same here =
         let last : Ran = record { steps = left.step; world = left.files } in
         let all_is : done ++ last ∷ [] ≡ all = cc in
         let world_is : left.files ≡ world = cc in
@@ -142,7 +163,9 @@ ran_by (Ok left) number done all world is = at left.cause refl is
           world_is = world_is;
           left_is = λ i. Ok (record { cause = same i; step = left.step; files = left.files });
         }
-    by_zero (suc status) same here = absurd cc
+    by_zero (suc status) same here =
+        not_both number (cause.Status (suc status)) left.step all world
+        (ap (λ (found : CommandResult). after_command number found (λ (ran : Ran). RanAll (done ++ ran ∷ []) ran.world)) (sym (not_zero status left.step left.files)) ∙ here)
 
     at : (cause : CommandCause) → left.cause ≡ cause → after_command number (result_by_cause cause left.step left.files) goes_on ≡ RanAll all world → IsLast (Ok left) all world
     at (cause.Status status) same here = by_zero status same here
@@ -162,19 +185,6 @@ module _ (most : ℕ) (world : World) (earlier : List (List (List ℕ))) (words 
       further most [] ran world left earlier (words ∷ others) is
       ∙ ap (λ found. after_command (length ran + 1) found (λ one. fold_from most (ran ++ one ∷ []) one.world others)) (alone most (length earlier + 1) left words)
 
-  stops_later : (others : List (List (List ℕ))) (done : List Ran) (left : World) (number : ℕ) (why : CommandCause) (step : ℕ)
-      → fold_from most done left others ≡ Stopped number why step → length done + 1 ≤ number
-  stops_later [] done left number why step is = absurd cc
-  stops_later (x ∷ others) done left number why step is = by (command most left x) is
-    where
-      by : (found : CommandResult) → after_command (length done + 1) found (λ one. fold_from most (done ++ one ∷ []) one.world others) ≡ Stopped number why step → length done + 1 ≤ number
-      by (Err stop) here =
-          let same : length done + 1 ≡ number = cc in
-          omega (arith, same)
-      by (Ok one) here =
-          let more = stops_later others (done ++ one ∷ []) one.world number why step here in
-          omega (arith, more, length-append done (one ∷ []))
-
   pub stopped_here : (others : List (List (List ℕ))) (why : CommandCause) (step : ℕ) → folded most world (earlier ++ words ∷ others) ≡ Stopped (length earlier + 1) why step
       → StopsThere (length earlier + 1) why step (left_of_command most world earlier words)
   unfolding left_of_command
@@ -191,7 +201,7 @@ module _ (most : ℕ) (world : World) (earlier : List (List (List ℕ))) (words 
           (refused most (length earlier + 1) left words)
           (ap (λ (n : ℕ). after_command (n + 1) (result_of (command_left most (length earlier + 1) left words)) (λ one. fold_from most (ran ++ one ∷ []) one.world others)) (sym count)
           ∙ sym (after_them others ran left same) ∙ is)
-          (λ one later. (let past = stops_later others (ran ++ one ∷ []) one.world (length earlier + 1) why step later in omega (arith, past, count, length-append ran (one ∷ []))))
+          (λ one later. (let past = stops_later most others (ran ++ one ∷ []) one.world (length earlier + 1) why step later in omega (arith, past, count, length-append ran (one ∷ []))))
 
   pub all_ran : (ran : List Ran) (left : World) → folded most world (earlier ++ words ∷ []) ≡ RanAll ran left → IsLast (left_of_command most world earlier words) ran left
   unfolding left_of_command
