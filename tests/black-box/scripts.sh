@@ -1,4 +1,4 @@
-# The cases of `kaem` and `kaem-verify`, which tests/black-box/run reads: scripts over listed files. The worked report is that of
+# The cases of `kaem`, `kaem-verify` and `kaem-left`, which tests/black-box/run reads: scripts over listed files. The worked report is that of
 # docs/reference/kaem-report.md, which `printf` and `sha256sum` give.
 mkdir scripts
 cd scripts || exit 1
@@ -208,4 +208,37 @@ check 'a comment more' 1 'refuted header 0\n' "$ddc" kaem-verify s l worked.repo
 printf '%b' "$worked" >s
 printf abc >in
 check 'another file' 1 'refuted file 2\n' "$ddc" kaem-verify s l worked.report
+
+# What a command left. fails.elf writes three bytes of its own to its standard error, and exits with 12.
+printf "${exits//x84/x9c}"'\x13\x05\x20\0\xb7\x05\1\0\x93\x85\x15\0\x13\x06\x30\0\x93\x08\0\4\x73\0\0\0\x13\x05\xc0\0\x93\x08\xd0\5\x73\0\0\0' >fails.elf
+cp copy.elf in
+printf './copy.elf\nfails.elf\nout\n' >s
+printf 'copy.elf\nin\nfails.elf\n' >l
+check 'a script that fails' 6 'run failed 2 status 12 step 9\n' "$ddc" kaem s l none 99
+check 'what its command said' 0 'left 2 2 3 status 12 step 9\n' "$ddc" kaem-left s l 99 2 2 kept
+check 'its bytes' 0 'ELF' cat kept
+check 'its other stream' 0 'left 2 1 0 status 12 step 9\n' "$ddc" kaem-left s l 99 2 1 kept
+check 'it is empty' 0 '' cmp kept empty
+check 'a file of the command before' 0 'left 2 ./out 232 status 12 step 9\n' "$ddc" kaem-left s l 99 2 ./out kept
+check 'it is the copy' 0 '' cmp kept copy.elf
+check 'what the command before said' 0 'left 1 2 0 status 0 step 32\n' "$ddc" kaem-left s l 99 1 2 kept
+check 'what stands at the limit of a command' 6 'left 1 out 232 spent step 31\n' "$ddc" kaem-left s l 31 1 out kept
+check 'a file that a command did not leave' 10 'not left 2 made status 12 step 9\n' "$ddc" kaem-left s l 99 2 made none
+check 'none before its limit' 6 'not left 1 out spent step 10\n' "$ddc" kaem-left s l 10 1 out none
+check 'a command behind one that failed' 6 'run failed 2 status 12 step 9\n' "$ddc" kaem-left s l 99 3 2 none
+check 'a command behind one without steps' 6 'run failed 1 spent step 31\n' "$ddc" kaem-left s l 31 2 2 none
+check 'a command whose program is not listed' 6 'run failed 1 no-program step 0\n' "$ddc" kaem-left s empty 99 1 1 none
+for words in '' 's l 99 2 2' 's l 99 2 2 none none' 's l 99 0 2 none' 's l 99 02 2 none' 's l 99 4 2 none' 's l 99 4097 2 none' 's l 0 2 2 none' 's l 99 2 ./ none' \
+    's l 99 2 2 l' 's l 99 2 2 ./s' 's s 99 2 2 none' 's l 99 2 2 fails.elf' 's l 99 2 2 ././in' 's none 99 4 2 none'; do
+    check "kaem-left $words" 2 'usage\n' "$ddc" kaem-left $words
+done
+check 'a name whose line would be two' 2 'usage\n' "$ddc" kaem-left s l 99 2 "$(printf 'out\nleft')" none
+printf '"' >quote
+check 'a script that is none, for what it left' 15 'script refused 1 0\n' "$ddc" kaem-left quote none 99 1 1 made
+check 'a list that is none, for what it left' 16 'list refused 1\n' "$ddc" kaem-left s in 99 1 1 none
+check 'a list that is not there, for what it left' 10 'file refused none absent\n' "$ddc" kaem-left s none 99 1 1 made
+check 'a folder for what a command left' 11 'shelf fault folder\n' "$ddc" kaem-left s l 99 2 2 folder
+check 'none of them is saved' 1 '' test -e none
+check 'the output is closed after what was left is saved' 12 '' closed "$ddc" kaem-left s l 99 2 2 none
+check 'it is saved all the same' 0 'ELF' cat none
 cd .. || exit 1

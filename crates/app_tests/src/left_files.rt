@@ -11,7 +11,8 @@ use std::process::Abort;
 use std::test::Fail;
 
 /// It writes the three bytes after its first one to stream 2, and exits with 12 in its step 9.
-const FAILS: &str = "13052000b7050100938515001306300093080004730000001305c0009308d00573000000";
+pub(crate) const FAILS: &str =
+    "13052000b7050100938515001306300093080004730000001305c0009308d00573000000";
 
 /// What is changed in the recipe, STAGE, FILE, the status and the text, and what is saved then.
 type Row = (

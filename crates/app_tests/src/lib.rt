@@ -31,6 +31,8 @@ mod scenes;
 #[cfg(test)]
 mod script_calls;
 #[cfg(test)]
+mod script_left;
+#[cfg(test)]
 mod script_reports;
 #[cfg(test)]
 mod scripts;

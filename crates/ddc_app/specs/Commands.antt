@@ -8,6 +8,7 @@ use Rattle.audit_commands.specs.Show.{show_plan}
 use Rattle.tool_commands.specs.Asm.{asm_plan}
 use Rattle.tool_commands.specs.Hex0.{hex0_plan}
 use Rattle.tool_commands.specs.Kaem.{kaem_plan}
+use Rattle.tool_commands.specs.KaemLeft.{kaem_left_plan}
 use Rattle.tool_commands.specs.KaemVerify.{kaem_verify_plan}
 use Rattle.tool_commands.specs.List.{list_plan}
 use Rattle.tool_commands.specs.RunProgram.{run_plan}
@@ -48,13 +49,14 @@ text_plan (command ∷ words) =
     else (if bytes_eq command (codes "chain") then chain_plan words
     else (if bytes_eq command (codes "kaem") then kaem_plan words
     else (if bytes_eq command (codes "kaem-verify") then kaem_verify_plan words
+    else (if bytes_eq command (codes "kaem-left") then kaem_left_plan words
     else (if bytes_eq command (codes "rests") then rests_plan words
     else (if bytes_eq command (codes "where") then where_plan words
     else (if bytes_eq command (codes "help") then help_plan words
     else (if bytes_eq command (codes "--help") then help_plan words
     else (if bytes_eq command (codes "version") then version_plan words
     else (if bytes_eq command (codes "--version") then version_plan words
-    else usage))))))))))))))))))))))))
+    else usage)))))))))))))))))))))))))
 
 -- whether a command line is one of `step`, the command that may begin a session
 abbrev pub is_step : List (List ℕ) → Bool

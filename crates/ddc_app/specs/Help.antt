@@ -31,6 +31,7 @@ all_commands =
     command.Ends ∷
     command.Kaem ∷
     command.KaemVerify ∷
+    command.KaemLeft ∷
     command.Demo ∷
     command.Help ∷
     command.Version ∷ []
@@ -58,6 +59,7 @@ command_name command.Segment = codes "segment"
 command_name command.Ends = codes "ends"
 command_name command.Kaem = codes "kaem"
 command_name command.KaemVerify = codes "kaem-verify"
+command_name command.KaemLeft = codes "kaem-left"
 command_name command.Demo = codes "demo"
 command_name command.Help = codes "help"
 command_name command.Version = codes "version"
@@ -85,6 +87,7 @@ command_form command.Segment = codes "segment FROM TO"
 command_form command.Ends = codes "ends RECIPE STAGE PREFIX COUNT"
 command_form command.Kaem = codes "kaem SCRIPT LIST REPORT STEPS"
 command_form command.KaemVerify = codes "kaem-verify SCRIPT LIST REPORT"
+command_form command.KaemLeft = codes "kaem-left SCRIPT LIST STEPS COMMAND FILE OUT"
 command_form command.Demo = codes "demo N"
 command_form command.Help = codes "help [COMMAND]"
 command_form command.Version = codes "version"
@@ -112,6 +115,7 @@ command_answers command.Segment = codes "says whether the state in TO is reached
 command_answers command.Ends = codes "says whether PREFIX.0 is the start of STAGE, and how the run after the last of COUNT states ends"
 command_answers command.Kaem = codes "runs the commands of SCRIPT over the files that LIST names, and saves their report under REPORT"
 command_answers command.KaemVerify = codes "replays these commands, and says whether every word of REPORT is true"
+command_answers command.KaemLeft = codes "runs these commands up to that of the number COMMAND, and saves under OUT what it left at FILE"
 command_answers command.Demo = codes "makes and verifies an audit of N bytes with copy.elf and copy.hex0, and saves nothing"
 command_answers command.Help = codes "lists the commands, or says of COMMAND what it answers, and with which statuses"
 command_answers command.Version = codes "names this release of ddc, and the logic in which it is proved"
@@ -139,6 +143,7 @@ command_statuses command.Segment = codes "0 1"
 command_statuses command.Ends = codes "0 1 4 6 7"
 command_statuses command.Kaem = codes "0 6 15 16"
 command_statuses command.KaemVerify = codes "0 1 5 15 16"
+command_statuses command.KaemLeft = codes "0 6 10 15 16"
 command_statuses command.Demo = codes "0 3 6 7"
 command_statuses command.Help = codes "0"
 command_statuses command.Version = codes "0"

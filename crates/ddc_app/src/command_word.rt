@@ -27,13 +27,14 @@ pub enum CommandWord {
     Ends,
     Kaem,
     KaemVerify,
+    KaemLeft,
     Demo,
     Help,
     Version,
 }
 
 /// All commands, in order.
-static COMMANDS: [CommandWord; 24] = [
+static COMMANDS: [CommandWord; 25] = [
     CommandWord::Hex0,
     CommandWord::Asm,
     CommandWord::Where,
@@ -55,6 +56,7 @@ static COMMANDS: [CommandWord; 24] = [
     CommandWord::Ends,
     CommandWord::Kaem,
     CommandWord::KaemVerify,
+    CommandWord::KaemLeft,
     CommandWord::Demo,
     CommandWord::Help,
     CommandWord::Version,
@@ -63,7 +65,7 @@ static COMMANDS: [CommandWord; 24] = [
 impl CommandWord {
     /// All of them, in order.
     #[tactic(auto, unfolding(crate::specs::Help::all_commands))]
-    pub fn all() -> &'static [CommandWord; 24]
+    pub fn all() -> &'static [CommandWord; 25]
         ensures { result.now ≡ all_commands }
     {
         &COMMANDS
@@ -107,6 +109,7 @@ impl CommandWord {
             CommandWord::Ends => "ends",
             CommandWord::Kaem => "kaem",
             CommandWord::KaemVerify => "kaem-verify",
+            CommandWord::KaemLeft => "kaem-left",
             CommandWord::Demo => "demo",
             CommandWord::Help => "help",
             CommandWord::Version => "version",
@@ -140,6 +143,7 @@ impl CommandWord {
             CommandWord::Ends => "ends RECIPE STAGE PREFIX COUNT",
             CommandWord::Kaem => "kaem SCRIPT LIST REPORT STEPS",
             CommandWord::KaemVerify => "kaem-verify SCRIPT LIST REPORT",
+            CommandWord::KaemLeft => "kaem-left SCRIPT LIST STEPS COMMAND FILE OUT",
             CommandWord::Demo => "demo N",
             CommandWord::Help => "help [COMMAND]",
             CommandWord::Version => "version",
@@ -187,6 +191,8 @@ impl CommandWord {
                 "runs the commands of SCRIPT over the files that LIST names, and saves their report under REPORT",
             CommandWord::KaemVerify =>
                 "replays these commands, and says whether every word of REPORT is true",
+            CommandWord::KaemLeft =>
+                "runs these commands up to that of the number COMMAND, and saves under OUT what it left at FILE",
             CommandWord::Demo =>
                 "makes and verifies an audit of N bytes with copy.elf and copy.hex0, and saves nothing",
             CommandWord::Help =>
@@ -223,6 +229,7 @@ impl CommandWord {
             CommandWord::Ends => "0 1 4 6 7",
             CommandWord::Kaem => "0 6 15 16",
             CommandWord::KaemVerify => "0 1 5 15 16",
+            CommandWord::KaemLeft => "0 6 10 15 16",
             CommandWord::Demo => "0 3 6 7",
             CommandWord::Help => "0",
             CommandWord::Version => "0",

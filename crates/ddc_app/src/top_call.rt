@@ -23,7 +23,7 @@ use ddc_base::{PutFail, Shelf, Sink};
 use prompt::Prompt;
 use stage_commands::{cut, ends, left, segment, step};
 use std::alloc::Global;
-use tool_commands::{asm, hex0, kaem, kaem_verify, list, refusal_place, run};
+use tool_commands::{asm, hex0, kaem, kaem_left, kaem_verify, list, refusal_place, run};
 use verify_commands::{chain, rests, verify};
 use wheeler::Meaning;
 
@@ -194,6 +194,7 @@ fn perform<M: Meaning, S: Shelf>(
         "chain" => chain::perform(alloc, words, shelf),
         "kaem" => kaem::perform(alloc, words, shelf),
         "kaem-verify" => kaem_verify::perform(alloc, words, shelf),
+        "kaem-left" => kaem_left::perform(alloc, words, shelf),
         "rests" => rests::perform(alloc, words, shelf),
         "where" => refusal_place::perform(alloc, words, shelf),
         "help" => help::perform(alloc, words),

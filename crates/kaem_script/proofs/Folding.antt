@@ -16,7 +16,7 @@ further_one : (most number : ℕ) (found : CommandResult) (former latter : Ran �
 further_one most number (Err why) former latter whole all left next is = absurd cc
 further_one most number (Ok ran) former latter whole all left next is = next ran is
 
-further : (most : ℕ) (done all : List Ran) (w left : World) (xs more : List (List (List ℕ))) → fold_from most done w xs ≡ RanAll all left
+pub further : (most : ℕ) (done all : List Ran) (w left : World) (xs more : List (List (List ℕ))) → fold_from most done w xs ≡ RanAll all left
     → fold_from most done w (xs ++ more) ≡ fold_from most all left more
 further most done all w left [] more is =
     let done_is : done ≡ all = cc in
@@ -99,7 +99,7 @@ one_longer : (number count more : ℕ) (found : CommandResult) (former : Ran →
 one_longer number count more (Err why) former all left next is = absurd cc
 one_longer number count more (Ok ran) former all left next is = next ran is
 
-length-ran : (most : ℕ) (done all : List Ran) (w left : World) (xs : List (List (List ℕ))) → fold_from most done w xs ≡ RanAll all left → length all ≡ length done + length xs
+pub length-ran : (most : ℕ) (done all : List Ran) (w left : World) (xs : List (List (List ℕ))) → fold_from most done w xs ≡ RanAll all left → length all ≡ length done + length xs
 length-ran most done all w left [] is =
     let done_is : done ≡ all = cc in
     let same = ap length (sym done_is) in

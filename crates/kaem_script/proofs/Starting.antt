@@ -28,6 +28,7 @@ use Rattle.kaem_script.specs.declared.cause.CommandCause.TheVariants as cause
 use Rattle.kaem_script.specs.Fold.{command_box, by_first_end, by_program, by_started, command, program_name}
 use Rattle.kaem_script.specs.Inside.Commands.{renewed, texts_of}
 use Rattle.kaem_script.specs.Kept.{IsCommand, IsWord}
+use Rattle.kaem_script.specs.Leaving.{command_left, left_by_program, left_by_start, run_left}
 use Rattle.kaem_script.specs.Wants.{HasProgram}
 
 -- ---- the texts of a command fit
@@ -170,3 +171,19 @@ has-program w words program image there is = record { program = program; there =
 pub command-without : (most : ℕ) (w : World) (words : List (List ℕ)) → content_at w (program_name words) ≡ None → command most w words ≡ Err (cause.NoProgram, 0)
 unfolding command
 command-without most w words none = ap (by_program most w words) none
+
+-- ---- what it leaves
+
+pub left-starts : (most number : ℕ) (w : World) (words : List (List ℕ)) (program : List ℕ) (guest : GuestState) → IsSound w → IsCommand words
+    → content_at w (program_name words) ≡ Some program → start_of program (texts_of words) ≡ Ok guest
+    → command_left most number w words ≡ Ok (run_left (record guest { world = renewed w }) most)
+unfolding command_left
+left-starts most number w words program guest sound is there without =
+    ap (left_by_program most number w words) there ∙ ap (left_by_start most number) (starts program w words guest sound is without)
+
+pub left-refused : (most number : ℕ) (w : World) (words : List (List ℕ)) (program : List ℕ) (fault : ElfRefusal) → IsSound w → IsCommand words
+    → content_at w (program_name words) ≡ Some program → image_of program ≡ Err fault → command_left most number w words ≡ Err (number, cause.Elf fault, 0)
+unfolding command_left
+left-refused most number w words program fault sound is there refused =
+    ap (left_by_program most number w words) there
+    ∙ ap (left_by_start most number) (starts-by-image program (command_box w words) (box-fits w words sound is) ∙ ap (by_image program (command_box w words)) refused)

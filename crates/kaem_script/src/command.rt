@@ -4,7 +4,7 @@ ghost use Rattle.elf_load.specs.Image.{image_of};
 ghost use Rattle.guest_run.specs.Run.{first_end};
 ghost use Rattle.guest_run.specs.Start.{start_of};
 ghost use Rattle.kaem_script.specs.Fold.{by_first_end, command, program_name};
-ghost use Rattle.kaem_script.specs.Inside.Commands.{Begins, Comes, Exits, UnlessStopped, renewed, texts_of, world_in};
+ghost use Rattle.kaem_script.specs.Inside.Commands.{Begins, BeginsLeft, Comes, Exits, UnlessStopped, renewed, texts_of, world_in};
 ghost use Rattle.kaem_script.specs.Kept.{IsCommand};
 ghost use Rattle.kaem_script.specs.Reported.{command_line};
 ghost use Rattle.kaem_script.specs.Wants.{HasProgram};
@@ -50,7 +50,7 @@ pub(crate) fn run_command(
 }
 
 /// Starts the program that a command names among these files, without files, or says why it does not start, for which no memory is taken.
-#[tactic(auto, unfolding(crate::specs::Fold::command))]
+#[tactic(auto, unfolding(crate::specs::Fold::command, crate::specs::Leaving::command_left))]
 pub(crate) fn begun(
     alloc: Global,
     files: &Files,
@@ -58,6 +58,7 @@ pub(crate) fn begun(
 ) -> Result<Result<Guest<RunRam>, CommandCause>, OutOfMemory>
     requires { IsCommand words.now }
     ensures begins { (most : ℕ) → IfOk result (Begins files.now words.now most) }
+    ensures leaves { (most number : ℕ) → IfOk result (BeginsLeft files.now words.now most number) }
     ensures program { UnlessStopped result (HasProgram files.now words.now) }
     ensures fresh { IfOk result (λ begun. IfOk begun (λ guest. guest.steps ≡ 0)) }
 {

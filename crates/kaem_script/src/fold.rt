@@ -1,7 +1,7 @@
 //! All commands of a script, one after the other.
 
 ghost use Rattle.kaem_script.specs.Fold.{folded};
-ghost use Rattle.kaem_script.specs.Inside.Commands.{Folds, HasLines, OnFoldWant};
+ghost use Rattle.kaem_script.specs.Inside.Commands.{Folds, HasLines, OnFoldWant, WantsWithin};
 ghost use Rattle.kaem_script.specs.Kept.{AreCommands};
 ghost use Rattle.kaem_script.specs.Wants.{WantsAt};
 ghost use Rattle.std.specs.Prelude.{◌≤◌, ◌^◌, length};
@@ -37,6 +37,7 @@ pub(crate) fn fold<'a>(
     requires few { most ≤ 2 ^ 48 }
     ensures folds { Folds (folded most files.now commands.now) result }
     ensures memory { OnFoldWant result (WantsAt most files.now commands.now) }
+    ensures within { WantsWithin (length commands.now) result }
     ensures lines { HasLines (length commands.now) result }
 {
     let mut lines = CommandLines::new(alloc);

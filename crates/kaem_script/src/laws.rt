@@ -1,5 +1,5 @@
 //! Laws of scripts. Each law is the contract of a function that does nothing.
-ghost use Rattle.std.specs.Prelude.{◌≡◌, ◌≤◌, ◌^◌, ◌↔◌, ℕ, List, None, Ok, Err};
+ghost use Rattle.std.specs.Prelude.{◌≡◌, ◌≤◌, ◌^◌, ◌+◌, ◌++◌, ◌∷◌, [], ◌↔◌, ℕ, List, None, Ok, Err, length};
 ghost use Rattle.elf_load.specs.declared.refusal.ElfRefusal.{ElfRefusal};
 ghost use Rattle.guest_run.specs.Start.{Elf, Refusal, start_of};
 ghost use Rattle.mem_files.specs.Sound.{IsSound};
@@ -7,12 +7,14 @@ ghost use Rattle.mem_files.specs.World.{World};
 ghost use Rattle.report.specs.declared.script.types.ScriptReport.{ScriptReport};
 ghost use Rattle.kaem_script.specs.ByLines.{commands_by_line};
 ghost use Rattle.kaem_script.specs.Faults.{first_script_fault};
-ghost use Rattle.kaem_script.specs.Fold.{Ran, command_box, command};
+ghost use Rattle.kaem_script.specs.Fold.{Ran, RanAll, Stopped, command, command_box, folded};
 ghost use Rattle.kaem_script.specs.Kept.{AreCommands, IsCommand};
 ghost use Rattle.kaem_script.specs.FilesListed.{FilesListed};
+ghost use Rattle.kaem_script.specs.Leaving.{IsLast, StopsThere, command_left, left_of_command, result_of};
 ghost use Rattle.kaem_script.specs.Reported.{end_of_script};
 ghost use Rattle.kaem_script.specs.Runs.{IsCommandRun};
 ghost use Rattle.kaem_script.specs.Script.{ScriptContents, commands_of};
+ghost use Rattle.kaem_script.specs.declared.cause.CommandCause.{CommandCause};
 ghost use Rattle.kaem_script.specs.declared.auditing.ScriptEnd.TheVariants.{Done};
 
 /// One reading: what a script says in one pass, byte by byte, is what it says line by line and word by word, its first fault and the offset of
@@ -40,6 +42,19 @@ pub fn a_command_is_a_run()
         → IsCommandRun most world words ran }
     ensures found { (most : ℕ) (world : World) (words : List (List ℕ)) (ran : Ran) → IsCommandRun most world words ran
         → command most world words ≡ Ok ran }
+{}
+
+/// What a command left is what all commands come to: by it a command goes on or stops the script, where one stops the script it is left at that
+/// cause and step, and where all ran the last one left its exit with 0, its step and the files that stand at the end.
+pub fn what_is_left_is_folded()
+    ensures alone { (most number : ℕ) (world : World) (words : List (List ℕ)) → command most world words ≡ result_of (command_left most number world words) }
+    ensures stopped { (most : ℕ) (world : World) (earlier : List (List (List ℕ))) (words : List (List ℕ)) (others : List (List (List ℕ))) (why : CommandCause) (step : ℕ)
+        → folded most world (earlier ++ words ∷ others) ≡ Stopped (length earlier + 1) why step
+        → StopsThere (length earlier + 1) why step (left_of_command most world earlier words) }
+    ensures before { (most : ℕ) (world : World) (earlier : List (List (List ℕ))) (words : List (List ℕ)) (number : ℕ) (why : CommandCause) (step : ℕ)
+        → folded most world earlier ≡ Stopped number why step → left_of_command most world earlier words ≡ Err (number, why, step) }
+    ensures ran { (most : ℕ) (world : World) (earlier : List (List (List ℕ))) (words : List (List ℕ)) (ran : List Ran) (left : World)
+        → folded most world (earlier ++ words ∷ []) ≡ RanAll ran left → IsLast (left_of_command most world earlier words) ran left }
 {}
 
 /// One report: a script over listed files has one report without a fault, that of its commands, which each exit with 0 within 2^48 steps.

@@ -36,7 +36,8 @@ use Rattle.recipe_plan.specs.Recipes.{is_input, needs_apart, needs_inputs, paths
 use Rattle.recipe_plan.specs.Texts.{recipe_line}
 use Rattle.stage_commands.specs.Begun.{IsBegun}
 use Rattle.stage_commands.specs.Earlier.{needs_earlier, needs_stage}
-use Rattle.stage_commands.specs.Left.{RunLeft, are_left_words, bytes_left_at, cause_of, ends_left, left_by, left_files, left_of_stage, run_left, run_left_by, saved_left}
+use Rattle.stage_commands.specs.Left.{RunLeft, are_left_words, cause_of, ends_left, left_by, left_files, left_of_stage, run_left, run_left_by, saved_left}
+use Rattle.tool_commands.specs.GuestFiles.{bytes_left_at}
 use Rattle.stage_commands.specs.LeftMade.{LeftRun, artefact_saved, left_over, needs_left, output_word}
 use Rattle.stage_commands.specs.declared.ready.Ready.{Ready}
 use Rattle.stage_commands.proofs.BegunStages.{begun_of}

@@ -6,7 +6,8 @@ use Rattle.command_plan.specs.Words.{are_two_files, as_steps, has_no_zero_byte, 
 use Rattle.stage_commands.specs.Cut.{cut_files, cut_plan}
 use Rattle.stage_commands.specs.Ends.{ends_files, ends_plan}
 use Rattle.stage_commands.specs.Inside.Words.{cut_of, cut_words, ends_of, ends_words, left_of, left_words, named_left, place_of, stage_words}
-use Rattle.stage_commands.specs.Left.{are_left_words, is_left_word, left_files, left_plan}
+use Rattle.stage_commands.specs.Left.{are_left_words, left_files, left_plan}
+use Rattle.tool_commands.specs.GuestFiles.{is_left_word}
 use Rattle.stage_commands.specs.Names.{as_states, is_prefix}
 use Rattle.stage_commands.specs.Step.{step_plan, step_stage}
 use Rattle.stage_commands.specs.declared.words.CutWords.{CutWords}

@@ -1,13 +1,10 @@
 -- `left RECIPE STAGE FILE OUT`: a stage's program is run, whatever it ends with, and what it left at one place is saved.
 -- docs/reference/command-line.md says the same for people.
-use Rattle.std.specs.Prelude.{ℕ, ◌+◌, ◌==◌, nat_lt, Bool, ◌&&◌, ◌||◌, not, Option, None, Some, Result, Ok, Err, List, [], ◌∷◌, bytes_eq, codes, decimal, length, slice_get, unwrap_or, if◌then◌else◌}
-use Rattle.std.specs.List.{list_any}
+use Rattle.std.specs.Prelude.{ℕ, ◌+◌, Bool, ◌&&◌, Option, None, Some, Result, Ok, Err, List, [], ◌∷◌, codes, decimal, length, slice_get, unwrap_or, if◌then◌else◌}
 use Rattle.ddc_base.specs.Lines.{line}
 use Rattle.guest_run.specs.Run.{End, Exited, Trapped, UnknownCall, after, first_end}
 use Rattle.guest_run.specs.Start.{Refusal}
 use Rattle.guest_run.specs.State.{GuestState}
-use Rattle.mem_files.specs.Calls.{content_at}
-use Rattle.mem_files.specs.Names.{is_stripped_name, stripped}
 use Rattle.mem_files.specs.World.{World}
 use Rattle.recipe.specs.declared.contents.RecipeContents.{RecipeContents}
 use Rattle.recipe.specs.declared.parts.Stage.{Stage}
@@ -22,6 +19,7 @@ use Rattle.command_plan.specs.Words.{are_two_files, has_no_zero_byte, or_usage, 
 use Rattle.command_plan.specs.Plan.{Plan, answers, sets}
 use Rattle.recipe_plan.specs.Recipes.{needs_apart, needs_inputs, needs_recipe}
 use Rattle.recipe_plan.specs.NotDone.{run_cause_text, unfinished}
+use Rattle.tool_commands.specs.GuestFiles.{bytes_left_at, is_left_word}
 use Rattle.stage_commands.specs.Earlier.{needs_earlier, needs_stage}
 
 -- ---- how a run ended, and what stood then
@@ -45,15 +43,6 @@ run_left_by start most None = record { cause = run.Spent; step = most; files = (
 
 unfoldable pub run_left : GuestState → ℕ → RunLeft
 run_left start most = run_left_by start most (first_end start most)
-
--- ---- what is asked for
-
--- what FILE asks for: `1` and `2` are the streams, any other name a file's, from which leading `./` are taken off
-unfoldable pub bytes_left_at : World → List ℕ → Option (List ℕ)
-bytes_left_at files file =
-    if bytes_eq file (codes "1") then Some files.stream1
-    else (if bytes_eq file (codes "2") then Some files.stream2
-    else content_at files (stripped file))
 
 -- ---- what is answered
 
@@ -102,17 +91,6 @@ left_files recipe stage file out =
     needs_inputs said (λ inputs.
     needs_earlier said inputs count (λ done.
     left_of_stage said inputs done file out)))))
-
--- a word that stands in one line as it is written: no byte of it is a control character of ASCII
-unfoldable pub is_control : ℕ → Bool
-is_control byte = nat_lt byte 32 || byte == 127
-
-abbrev pub fits_one_line : List ℕ → Bool
-fits_one_line word = not (list_any is_control word)
-
--- FILE: a guest's file name, with or without leading `./`, that fits one line
-unfoldable pub is_left_word : List ℕ → Bool
-is_left_word file = is_stripped_name (stripped file) && fits_one_line file
 
 -- the words after `left`: RECIPE and OUT can name two files, STAGE has no zero byte, and FILE can be asked for
 unfoldable pub are_left_words : List ℕ → List ℕ → List ℕ → List ℕ → Bool

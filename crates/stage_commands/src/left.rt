@@ -1,7 +1,6 @@
 //! `left RECIPE STAGE FILE OUT`: a stage's program is run, whatever it ends with, and what it left at one place is saved.
 
 ghost use Rattle.std.specs.Prelude.{◌≡◌, ◌+◌, ◌≤◌, ◌^◌, ℕ, IfOk, IfSome, List, Some, length, map, slice_get};
-ghost use Rattle.std.specs.Option.{option_copied};
 ghost use Rattle.recipe.specs.Kept.{IsRecipe};
 ghost use Rattle.audit_rules.specs.Stages.{contents, start_stage};
 ghost use Rattle.audit_rules.specs.Valid.{AreDone, IsInputs};
@@ -12,21 +11,22 @@ ghost use Rattle.command_plan.specs.Steps.{Obtains};
 ghost use Rattle.recipe_plan.specs.Recipes.{needs_apart, needs_inputs};
 ghost use Rattle.stage_commands.specs.Earlier.{needs_earlier, needs_stage};
 ghost use Rattle.stage_commands.specs.Inside.Kept.{IsReady};
-ghost use Rattle.stage_commands.specs.Left.{absent_status, run_left, ends_left, bytes_left_at, left_by, left_of_stage, left_files, file_left_line, left_plan, left_status, none_left_line};
+ghost use Rattle.stage_commands.specs.Left.{absent_status, run_left, ends_left, left_by, left_of_stage, left_files, file_left_line, left_plan, left_status, none_left_line};
 
 use crate::earlier::stages_before;
 use crate::ready::{Ready, run_stages, stage_after};
-use crate::words::{GuestFile, LeftWords, Wanted};
+use crate::words::LeftWords;
 use audit_rules::{RunCause, StageFault};
 use audit_run::stage::{Done, start_stage};
 use command_plan::{Answer, Status, Stop, keep, usage};
 use ddc_base::{Bytes, ListOf, Name, OutOfMemory, Shelf};
 use guest_run::{Guest, RunEnd, RunRam};
-use mem_files::{Files, strip};
+use mem_files::Files;
 use recipe::{Inputs, Recipe, Stage};
 use recipe_plan::causes::run_cause;
 use recipe_plan::{about_stage, apart, fetch_recipe, unfinished};
 use std::alloc::Global;
+use tool_commands::guest_file::{Wanted, bytes_left_at};
 
 /// Performs the command on the words after its name.
 pub fn perform<S: Shelf>(alloc: Global, words: &[&str], shelf: &mut S) -> Result<Answer, Stop>
@@ -176,19 +176,6 @@ fn save_left<S: Shelf>(
             status: absent_status(end.0),
             text: none_left_line(alloc, stage, file, end)?,
         }),
-    }
-}
-
-/// What FILE asks for: `1` and `2` are the streams, any other name a file's.
-#[tactic(auto, unfolding(crate::specs::Left::bytes_left_at))]
-fn bytes_left_at<'a>(files: &'a Files, file: &GuestFile<'_>) -> Option<&'a [u8]>
-    ensures { option_copied result ≡ bytes_left_at files.now file.now }
-{
-    let file = file.text();
-    match file {
-        "1" => Some(files.stream(1)),
-        "2" => Some(files.stream(2)),
-        _ => files.content(strip(file.as_bytes())),
     }
 }
 

@@ -1,17 +1,14 @@
 //! The words of the commands on one stage, each set of them as one value.
 
 ghost use Rattle.std.specs.Prelude.{◌≡◌, ◌≤◌, IsTrue, map};
-ghost use Rattle.mem_files.specs.Names.{is_stripped_name, stripped};
-ghost use Rattle.stage_commands.specs.Inside.Words.{as_guest_file, as_prefix, as_stage_word, cut_words, ends_words, left_words, named_left, named_stage, stage_words};
-ghost use Rattle.stage_commands.specs.Left.{fits_one_line, is_control, is_left_word};
+ghost use Rattle.stage_commands.specs.Inside.Words.{as_prefix, as_stage_word, cut_words, ends_words, left_words, named_left, named_stage, stage_words};
 ghost use Rattle.stage_commands.specs.Names.{as_states, is_prefix};
-ghost use Rattle.std.specs.List.{list_any};
 
 use crate::names::{is_prefix, states_of};
 use command_plan::words::has_no_zero_byte;
 use command_plan::{FileName, StepCount, two_files};
-use mem_files::{is_stripped_name, strip};
 use std::marker::Model;
+use tool_commands::guest_file::{GuestFile, Wanted};
 
 /// A word without a zero byte, by which a stage is looked for. Contracts see its bytes.
 #[derive(Drop)]
@@ -48,75 +45,6 @@ impl<'w> StageWord<'w> {
     {
         self.text
     }
-}
-
-/// A word that is a guest's file name once leading `./` are taken off, and fits one line. Contracts see its bytes.
-#[derive(Drop)]
-pub(crate) struct GuestFile<'w> {
-    text: &'w str,
-}
-
-impl<'w> Model for GuestFile<'w> {
-    ghost use Rattle.std.specs.Prelude.{List, ℕ, IsTrue};
-    ghost use Rattle.mem_files.specs.Names.{is_stripped_name, stripped};
-
-    ghost Value = { List ℕ };
-
-    ghost view = { λ word. word.text.now };
-
-    ghost invariant = { λ word. IsTrue (is_stripped_name (stripped word.text.now)) };
-}
-
-impl<'w> GuestFile<'w> {
-    /// The word as a guest's file, and `None` for every other word.
-    pub(crate) fn read(word: &'w str) -> Option<GuestFile<'w>>
-        ensures { result ≡ as_guest_file word.now }
-    {
-        if is_left_word(word) {
-            Some(GuestFile { text: word })
-        } else {
-            None
-        }
-    }
-
-    /// The word.
-    pub(crate) fn text(&self) -> &'w str
-        ensures value { result.now ≡ self.now }
-        ensures name { IsTrue (is_stripped_name (stripped self.now)) }
-    {
-        self.text
-    }
-}
-
-/// Whether FILE is a guest's file name that fits one line.
-#[tactic(auto, unfolding(crate::specs::Left::is_left_word))]
-fn is_left_word(file: &str) -> bool
-    ensures value { result ≡ is_left_word file.now }
-    ensures name { IsTrue result → IsTrue (is_stripped_name (stripped file.now)) }
-{
-    is_stripped_name(strip(file.as_bytes())) && fits_one_line(file)
-}
-
-/// Whether a word stands in one line as it is written: no byte of it is below 0x20 or 0x7F.
-fn fits_one_line(word: &str) -> bool
-    ensures { result ≡ fits_one_line word.now }
-{
-    !has_control(word.as_bytes())
-}
-
-/// Whether one of the bytes is a control character of ASCII.
-fn has_control(bytes: &[u8]) -> bool
-    ensures { result ≡ list_any is_control bytes.now }
-{
-    bytes.iter().any(|byte| is_control(*byte))
-}
-
-/// Whether a byte is a control character of ASCII.
-#[tactic(auto, unfolding(crate::specs::Left::is_control))]
-fn is_control(byte: u8) -> bool
-    ensures { result ≡ is_control byte }
-{
-    byte < 32 || byte == 127
 }
 
 /// The beginning of the names of states: 1 to 250 bytes, none of them zero, which contracts see.
@@ -220,13 +148,6 @@ impl<'w> StageWords<'w> {
         let stage = StageWord::read(stage)?;
         Some(StageWords { recipe, stage })
     }
-}
-
-/// The place in a guest whose bytes are asked for, and the file under which they are saved.
-#[derive(Drop)]
-pub(crate) struct Wanted<'w> {
-    pub file: GuestFile<'w>,
-    pub out: FileName<'w>,
 }
 
 /// A stage of a recipe, and what is asked for of what its program left.

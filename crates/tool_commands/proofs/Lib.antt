@@ -7,5 +7,6 @@ pub mod ReadScripts
 mod FilePlaces
 mod FileWords
 mod ScriptEnds
+mod ScriptPlaces
 mod PlaceSteps
 mod Worded

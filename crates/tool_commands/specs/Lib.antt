@@ -3,9 +3,11 @@ pub mod Asm
 pub mod Inside
 pub mod List
 pub mod RunProgram
+pub mod GuestFiles
 pub mod Scripts
 pub mod ScriptTexts
 pub mod Kaem
 pub mod KaemVerify
+pub mod KaemLeft
 pub mod Places
 pub mod Where

@@ -120,7 +120,12 @@ fn steps_in_all(commands: &[CommandLine]) -> u64
 }
 
 /// The answer where a command stopped the script.
-fn stopped(alloc: Global, number: u32, cause: CommandCause, step: u64) -> Result<Answer, Stop>
+pub(crate) fn stopped(
+    alloc: Global,
+    number: u32,
+    cause: CommandCause,
+    step: u64,
+) -> Result<Answer, Stop>
     ensures { Says (answers RunFailed (command_failed_line number cause step)) result }
 {
     Ok(Answer {

@@ -1,11 +1,13 @@
-//! The commands which name no recipe: `hex0`, `asm` and `where` of the languages, `list` and `run` of the machine, `kaem` and `kaem-verify` of scripts.
+//! The commands which name no recipe: `hex0`, `asm` and `where` of the languages, `list` and `run` of the machine, `kaem`, `kaem-verify` and `kaem-left` of scripts.
 //!
 //! Their rules for people: docs/reference/command-line.md.
 #![tactic(auto)]
 
 pub mod asm;
+pub mod guest_file;
 pub mod hex0;
 pub mod kaem;
+pub mod kaem_left;
 pub mod kaem_verify;
 pub mod list;
 mod listed_file;

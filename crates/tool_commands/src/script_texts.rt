@@ -1,6 +1,7 @@
 //! The texts of the commands on scripts.
 
 ghost use Rattle.std.specs.Prelude.{◌≡◌, IfOk, string_bytes};
+ghost use Rattle.tool_commands.specs.KaemLeft.{command_left_line, command_none_left_line};
 ghost use Rattle.tool_commands.specs.ScriptTexts.{command_cause_text, command_failed_line, commands_true_line, done_line, script_fault_number, script_line, script_refuted_line};
 
 use command_plan::causes;
@@ -58,6 +59,39 @@ pub(crate) fn command_failed(
 {
     let cause = cause_text(alloc, cause)?;
     let text = format!(in alloc; "run failed {number} {cause} step {step}\n")?;
+    Ok(Bytes::from_vec(text.into_bytes()))
+}
+
+/// The command of this number left so many bytes at FILE, and its run ended so.
+#[tactic(auto, unfolding(crate::specs::KaemLeft::command_left_line))]
+pub(crate) fn left(
+    alloc: Global,
+    number: u32,
+    file: &str,
+    size: u64,
+    end: (CommandCause, u64),
+) -> Result<Bytes, OutOfMemory>
+    ensures { IfOk result (λ text. text ≡ command_left_line number file.now size end.0 end.1) }
+{
+    let (cause, step) = end;
+    let cause = cause_text(alloc, cause)?;
+    let text = format!(in alloc; "left {number} {file} {size} {cause} step {step}\n")?;
+    Ok(Bytes::from_vec(text.into_bytes()))
+}
+
+/// It left nothing there, and its run ended so.
+#[tactic(auto, unfolding(crate::specs::KaemLeft::command_none_left_line))]
+pub(crate) fn not_left(
+    alloc: Global,
+    number: u32,
+    file: &str,
+    end: (CommandCause, u64),
+) -> Result<Bytes, OutOfMemory>
+    ensures { IfOk result (λ text. text ≡ command_none_left_line number file.now end.0 end.1) }
+{
+    let (cause, step) = end;
+    let cause = cause_text(alloc, cause)?;
+    let text = format!(in alloc; "not left {number} {file} {cause} step {step}\n")?;
     Ok(Bytes::from_vec(text.into_bytes()))
 }
 

@@ -4,8 +4,10 @@ ghost use Rattle.std.specs.Prelude.{◌≡◌, ◌≤◌, ◌^◌, IfSome, IsTru
 ghost use Rattle.std.specs.List.{list_all};
 ghost use Rattle.guest_run.specs.Setting.{is_text};
 ghost use Rattle.tool_commands.specs.Asm.{as_base};
+ghost use Rattle.tool_commands.specs.KaemLeft.{as_command_number, kaem_left_words};
 ghost use Rattle.tool_commands.specs.Inside.Words.{as_args, asm_words, hex0_words, kaem_words, run_words, script_words};
 
+use crate::guest_file::{GuestFile, Wanted};
 use command_plan::words::has_no_zero_byte;
 use command_plan::{FileName, StepCount, three_files, two_files};
 use ddc_base::languages::Language;
@@ -14,6 +16,9 @@ use std::marker::Model;
 
 /// The greatest base: 2^37.
 const GREATEST_BASE: u64 = 137_438_953_472;
+
+/// The most commands of a script.
+const MOST_COMMANDS: u64 = 4_096;
 
 /// A source, and a binary that is compared with its value. They may be one file.
 #[derive(Drop)]
@@ -238,6 +243,92 @@ impl<'w> KaemWords<'w> {
             list,
             report,
             steps,
+        })
+    }
+}
+
+/// The number of a command, from 1 to 4,096, which contracts see as this number.
+#[derive(Clone, Copy)]
+pub(crate) struct CommandNumber {
+    number: u32,
+}
+
+impl Model for CommandNumber {
+    ghost use Rattle.std.specs.Prelude.{ℕ, ◌≤◌};
+
+    ghost Value = { ℕ };
+
+    ghost view = { λ command. command.number };
+
+    ghost invariant = { λ command. (1 ≤ command.number) × (command.number ≤ 4_096) };
+
+    ghost inverse = { λ number. record { number = number } };
+}
+
+impl CommandNumber {
+    /// The number that a word is, and `None` for every other word.
+    fn read(word: &str) -> Option<CommandNumber>
+        ensures { result ≡ as_command_number word.now }
+    {
+        let number = number_of(word)?;
+        Some(CommandNumber { number })
+    }
+
+    /// The number.
+    pub(crate) fn number(self) -> u32
+        ensures value { result ≡ self }
+        ensures some { 1 ≤ self }
+        ensures most { self ≤ 4_096 }
+    {
+        self.number
+    }
+}
+
+/// The number of a command, from 1 to 4,096.
+#[tactic(auto, unfolding(crate::specs::KaemLeft::as_command_number))]
+fn number_of(word: &str) -> Option<u32>
+    ensures value { result ≡ as_command_number word.now }
+    ensures within { IfSome result (λ number. (1 ≤ number) × (number ≤ 4_096)) }
+{
+    let number = read_decimal(word.as_bytes())?;
+    if 1 <= number && number <= MOST_COMMANDS {
+        Some(number as u32)
+    } else {
+        None
+    }
+}
+
+/// A script, the list of the files that it is given, the most steps of each of its commands, one of these by its number, and what is asked for of
+/// what that left.
+#[derive(Drop)]
+pub(crate) struct KaemLeftWords<'w> {
+    pub script: FileName<'w>,
+    pub list: FileName<'w>,
+    pub steps: StepCount,
+    pub command: CommandNumber,
+    pub wanted: Wanted<'w>,
+}
+
+impl<'w> KaemLeftWords<'w> {
+    /// The words `SCRIPT LIST STEPS COMMAND FILE OUT`, and `None` for every other.
+    #[tactic(auto, unfolding(crate::specs::KaemLeft::kaem_left_words))]
+    pub(crate) fn read(words: &[&'w str]) -> Option<KaemLeftWords<'w>>
+        ensures { result ≡ kaem_left_words (map (λ w. w.now) words.now) }
+    {
+        let [script, list, steps, command, file, out] = words else {
+            return None;
+        };
+        let (script, list, out) = three_files(script, list, out)?;
+        let steps = StepCount::read(steps)?;
+        let command = CommandNumber::read(command)?;
+        let file = GuestFile::read(file)?;
+        let wanted = Wanted { file, out };
+        Some(KaemLeftWords {
+            script,
+            list,
+            steps,
+            command,
+            wanted,
         })
     }
 }

@@ -17,7 +17,9 @@ use Rattle.kaem_script.specs.declared.present.Present.TheVariants.{Given, Left}
 use Rattle.kaem_script.specs.declared.fold.Folding.{Folding}
 use Rattle.kaem_script.specs.declared.fold.Folding.TheVariants as fold
 use Rattle.kaem_script.specs.Fold.{CommandResult, RanAll, Folded, Ran, Stopped, by_first_end, command}
+use Rattle.kaem_script.specs.Leaving.{LeftResult, command_left, run_left}
 use Rattle.kaem_script.specs.Reported.{command_line}
+use Rattle.kaem_script.specs.declared.leaving.CommandLeft.{CommandLeft}
 
 -- the files that are there
 abbrev pub world_in : Present → World
@@ -36,6 +38,15 @@ texts_of words = record { args = words; env = []; files = files.empty; heap = 53
 abbrev pub Begins : World → List (List ℕ) → ℕ → Result GuestState CommandCause → Type 0
 Begins world words most (Ok guest) = command most world words ≡ by_first_end most (first_end (record guest { world = renewed world }) most)
 Begins world words most (Err why) = command most world words ≡ Err (why, 0)
+
+-- what a command leaves, by the guest that its program starts as, without files, or why that does not start
+abbrev pub BeginsLeft : World → List (List ℕ) → ℕ → ℕ → Result GuestState CommandCause → Type 0
+BeginsLeft world words most number (Ok guest) = command_left most number world words ≡ Ok (run_left (record guest { world = renewed world }) most)
+BeginsLeft world words most number (Err why) = command_left most number world words ≡ Err (number, why, 0)
+
+abbrev pub LeavesOver : LeftResult → ℕ → Result CommandLeft CommandCause → Type 0
+LeavesOver meant number (Ok left) = meant ≡ Ok left
+LeavesOver meant number (Err why) = meant ≡ Err (number, why, 0)
 
 -- a command that ran, by its line and by the files that it left
 abbrev pub ran_with : CommandLine → World → Ran
@@ -67,6 +78,11 @@ Folds meant (fold.OutOfMemory number) = Unit {0}
 abbrev pub OnFoldWant : Folding → (ℕ → Type 0) → Type 0
 OnFoldWant (fold.OutOfMemory number) fact = fact number
 OnFoldWant folding fact = Unit {0}
+
+-- memory was wanting at one of so many commands
+abbrev pub WantsWithin : ℕ → Folding → Type 0
+WantsWithin count (fold.OutOfMemory number) = number ≤ count
+WantsWithin count folding = Unit {0}
 
 -- a fact where a command did not stop its script: it went on, or memory was wanting
 abbrev pub UnlessStopped : {A B E : Type 0} → Result (Result A B) E → Type 0 → Type 0

@@ -1,19 +1,16 @@
 -- The words of the commands on one stage, each set of them as one value.
 use Rattle.std.specs.Prelude.{ℕ, Option, None, Some, List, [], ◌∷◌, if◌then◌else◌}
 use Rattle.command_plan.specs.Words.{as_file_name, as_steps, as_two_files, has_no_zero_byte}
-use Rattle.stage_commands.specs.Left.{is_left_word}
+use Rattle.tool_commands.specs.GuestFiles.{as_guest_file}
 use Rattle.stage_commands.specs.Names.{as_states, is_prefix}
 use Rattle.stage_commands.specs.declared.words.StageWords.{StageWords}
 use Rattle.stage_commands.specs.declared.words.LeftWords.{LeftWords}
 use Rattle.stage_commands.specs.declared.words.CutWords.{CutWords}
 use Rattle.stage_commands.specs.declared.words.EndsWords.{EndsWords}
 
--- a word as STAGE, as FILE and as PREFIX, where it can be
+-- a word as STAGE and as PREFIX, where it can be
 abbrev pub as_stage_word : List ℕ → Option (List ℕ)
 as_stage_word word = if has_no_zero_byte word then Some word else None
-
-abbrev pub as_guest_file : List ℕ → Option (List ℕ)
-as_guest_file word = if is_left_word word then Some word else None
 
 abbrev pub as_prefix : List ℕ → Option (List ℕ)
 as_prefix word = if is_prefix word then Some word else None

@@ -1,6 +1,6 @@
 use Rattle.std.proofs.Common.{◌≡◌, [], Err, ap, sym, ◌∙◌, length, arith, take_all}
 use Rattle.std.specs.FinMap as fin
-use Rattle.guest_run.specs.Start.{ArgsTooLong, BoxTooLarge, Elf, Refusal, start_of}
+use Rattle.guest_run.specs.Start.{ArgsTooLong, BoxTooLarge, start_of}
 use Rattle.kaem_script.specs.Inside.Commands.{texts_of}
 use Rattle.kaem_script.proofs.Starting.{loaded-starts}
 use Rattle.kaem_script.proofs.command.start.Goals as goal

@@ -1,7 +1,7 @@
 use Rattle.std.proofs.Common.{[], ◌∷◌, ap, length, arith, length-append, subst, sym, All}
 use Rattle.std.proofs.lemmas.List.Elements.{All-nil, All-push}
 use Rattle.report.specs.Script.Reports.{IsCommandLine}
-use Rattle.kaem_script.proofs.Folding.{begins, finishes, goes_on, stops, wants}
+use Rattle.kaem_script.proofs.Folding.{begins, goes_on, stops, wants}
 use Rattle.kaem_script.proofs.WellFormed.{good-line}
 use Rattle.kaem_script.specs.Inside.Commands.{world_in}
 use Rattle.kaem_script.proofs.fold.fold.Goals as goal

@@ -1,0 +1,152 @@
+//! What a command left when its run ended, whatever it ended with.
+
+ghost use Rattle.guest_run.specs.Run.{first_end};
+ghost use Rattle.kaem_script.specs.Inside.Commands.{LeavesOver, UnlessStopped, renewed, world_in};
+ghost use Rattle.kaem_script.specs.Kept.{AreCommands, IsCommand};
+ghost use Rattle.kaem_script.specs.Leaving.{Leaves, OnCommandWant, command_left, left_of_command, run_left};
+ghost use Rattle.kaem_script.specs.Wants.{HasProgram, WantsAt};
+ghost use Rattle.std.specs.Prelude.{◌≡◌, ◌∷◌, ◌++◌, ◌≤◌, ◌^◌, [], ℕ, IfOk, length};
+
+use crate::cause::CommandCause;
+use crate::command::begun;
+use crate::files::FileList;
+use crate::fold::{Folding, fold};
+use crate::present::{Present, files_in, renewed};
+use crate::reading::Command;
+use ddc_base::OutOfMemory;
+use guest_run::{Guest, RunEnd, RunRam};
+use mem_files::Files;
+use std::alloc::Global;
+
+/// What a command's program left: how its run ended, at which step, and the files and streams then, of which that step changed nothing.
+#[derive(Drop)]
+pub struct CommandLeft {
+    /// How the run ended: of an exit the status, which may be 0.
+    pub cause: CommandCause,
+    pub step: u64,
+    pub files: Files,
+}
+
+/// How the search for what a command left ended.
+#[derive(Drop)]
+pub enum CommandEnd {
+    /// Its program ran.
+    Left(CommandLeft),
+    /// The command of this number, from 1, stopped the script: one before it, or itself, where its program does not start.
+    Failed {
+        command: u32,
+        cause: CommandCause,
+        step: u64,
+    },
+    /// Want of memory of this process at the command of this number, from 1, after those that all ran.
+    OutOfMemory {
+        command: u32,
+    },
+}
+
+/// Runs a script's commands in order over one world of files, as `audit` does, and then the command after them, whatever its program ends
+/// with: what that left.
+pub fn left(
+    alloc: Global,
+    earlier: &[Command],
+    command: &Command,
+    files: &FileList,
+    most: u64,
+) -> CommandEnd
+    requires some { 1 ≤ most }
+    requires few { most ≤ 2 ^ 48 }
+    requires earlier { AreCommands earlier.now }
+    requires command { IsCommand command.now }
+    ensures answer { Leaves (left_of_command most files.now.world earlier.now command.now) result }
+    ensures memory { OnCommandWant result (WantsAt most files.now.world (earlier.now ++ command.now ∷ [])) }
+{
+    match fold(alloc, earlier, files.files(), most) {
+        Folding::RanAll(_, present) => {
+            let number = earlier.len() as u32 + 1;
+            match left_over(alloc, present, command, most) {
+                Ok(Ok(left)) => CommandEnd::Left(left),
+                Ok(Err(cause)) => CommandEnd::Failed {
+                    command: number,
+                    cause,
+                    step: 0,
+                },
+                Err(OutOfMemory) => CommandEnd::OutOfMemory { command: number },
+            }
+        }
+        Folding::Stopped(command, (cause, step)) => CommandEnd::Failed {
+            command,
+            cause,
+            step,
+        },
+        Folding::OutOfMemory(command) => CommandEnd::OutOfMemory { command },
+    }
+}
+
+/// What a command left over the files that are there, or why its program does not start.
+fn left_over(
+    alloc: Global,
+    present: Present<'_>,
+    words: &Command,
+    most: u64,
+) -> Result<Result<CommandLeft, CommandCause>, OutOfMemory>
+    requires words { IsCommand words.now }
+    requires some { 1 ≤ most }
+    requires few { most ≤ 2 ^ 48 }
+    ensures leaves { (number : ℕ) → IfOk result (LeavesOver (command_left most number (world_in present.entry) words.now) number) }
+    ensures program { UnlessStopped result (HasProgram (world_in present.entry) words.now) }
+{
+    match begun(alloc, files_in(&present), words)? {
+        Ok(guest) => run_over(alloc, guest, present, most),
+        Err(cause) => Ok(Err(cause)),
+    }
+}
+
+/// What a guest left that is given the files that are there.
+fn run_over(
+    alloc: Global,
+    guest: Guest<RunRam>,
+    present: Present<'_>,
+    most: u64,
+) -> Result<Result<CommandLeft, CommandCause>, OutOfMemory>
+    requires fresh { guest.steps ≡ 0 }
+    requires some { 1 ≤ most }
+    requires few { most ≤ 2 ^ 48 }
+    ensures { IfOk result (λ left. left ≡ Ok (run_left (record guest { world = renewed (world_in present.entry) }) most)) }
+{
+    let files = renewed(alloc, present)?;
+    let left = run_out(guest.with_files(files), most)?;
+    Ok(Ok(left))
+}
+
+/// Runs a guest to the end of its run, within so many steps.
+fn run_out(guest: Guest<RunRam>, most: u64) -> Result<CommandLeft, OutOfMemory>
+    requires fresh { guest.steps ≡ 0 }
+    requires some { 1 ≤ most }
+    requires few { most ≤ 2 ^ 48 }
+    ensures { IfOk result (λ left. left ≡ run_left guest most) }
+{
+    let mut guest = guest;
+    let (cause, step) = end_of(&mut guest, most)?;
+    Ok(CommandLeft {
+        cause,
+        step,
+        files: guest.into_files(),
+    })
+}
+
+/// How a run of at most so many steps ends: the cause and the step.
+#[tactic(auto, unfolding(crate::specs::Leaving::run_left))]
+fn end_of(guest: &mut Guest<RunRam>, most: u64) -> Result<(CommandCause, u64), OutOfMemory>
+    requires fresh { guest.old.steps ≡ 0 }
+    requires some { 1 ≤ most }
+    requires few { most ≤ 2 ^ 48 }
+    ensures { IfOk result (λ end. run_left guest.old most ≡ record { cause = end.0; step = end.1; files = guest.new.world }) }
+{
+    match guest.run(most) {
+        RunEnd::Exited(status) => Ok((CommandCause::Status(status), guest.steps() + 1)),
+        RunEnd::Trapped(cause) => Ok((CommandCause::Trap(cause), guest.steps() + 1)),
+        RunEnd::UnknownCall(number) => Ok((CommandCause::Call(number), guest.steps() + 1)),
+        RunEnd::Spent => Ok((CommandCause::Spent, most)),
+        RunEnd::OutOfMemory => Err(OutOfMemory),
+    }
+}

@@ -1,0 +1,139 @@
+//! `kaem-left SCRIPT LIST STEPS COMMAND FILE OUT`: the commands of a script are run up to one of them, whatever that ends with, and what it left
+//! at one place is saved.
+
+ghost use Rattle.std.specs.Prelude.{◌≡◌, ◌-◌, ◌≤◌, map, slice_get, take};
+ghost use Rattle.kaem_script.specs.Kept.{AreCommands, IsCommand};
+ghost use Rattle.kaem_script.specs.Leaving.{left_of_command};
+ghost use Rattle.command_plan.specs.Performs.{Performs};
+ghost use Rattle.command_plan.specs.Words.{or_usage};
+ghost use Rattle.tool_commands.specs.Inside.Listing.{needs_unlisted_words};
+ghost use Rattle.tool_commands.specs.KaemLeft.{absent_status, kaem_left_files, kaem_left_plan, left_plan, left_status, saved_left};
+ghost use Rattle.tool_commands.specs.Scripts.{needs_files};
+
+use crate::guest_file::bytes_left_at;
+use crate::kaem::stopped;
+use crate::script_texts;
+use crate::scripts::{fetch_files, fetch_script, fetch_unlisted};
+use crate::words::KaemLeftWords;
+use command_plan::{Answer, Status, Stop, keep, usage};
+use ddc_base::Shelf;
+use kaem_script::{Command, CommandCause, CommandEnd, CommandLeft, Script};
+use std::alloc::Global;
+
+/// Performs the command on the words after its name.
+pub fn perform<S: Shelf>(alloc: Global, words: &[&str], shelf: &mut S) -> Result<Answer, Stop>
+    ensures { Performs (kaem_left_plan (map (λ w. w.now) words.now)) (S.state shelf.old) (S.state shelf.new) result }
+{
+    let Some(words) = KaemLeftWords::read(words) else {
+        return usage(alloc);
+    };
+    kaem_left(alloc, shelf, &words)
+}
+
+/// The command on its words.
+fn kaem_left<S: Shelf>(
+    alloc: Global,
+    shelf: &mut S,
+    words: &KaemLeftWords<'_>,
+) -> Result<Answer, Stop>
+    ensures { Performs (kaem_left_files words.now) (S.state shelf.old) (S.state shelf.new) result }
+{
+    let script = fetch_script(alloc, shelf, &words.script)?;
+    find(alloc, shelf, &script, words)
+}
+
+/// Looks for the command in a script, which its caller lets go.
+fn find<S: Shelf>(
+    alloc: Global,
+    shelf: &mut S,
+    script: &Script,
+    words: &KaemLeftWords<'_>,
+) -> Result<Answer, Stop>
+    ensures { Performs (or_usage (slice_get script.now.commands (words.now.command - 1)) (λ command.
+        needs_unlisted_words words.now.list words.now.wanted.out (λ names. needs_files names (λ listed.
+        left_plan words.now.command words.now.wanted.file words.now.wanted.out
+        (left_of_command words.now.steps listed.world (take (words.now.command - 1) script.now.commands) command)))))
+        (S.state shelf.old) (S.state shelf.new) result }
+{
+    let commands = script.commands();
+    let earlier = words.command.number() as usize - 1;
+    match commands.get(earlier) {
+        Some(command) => run(alloc, shelf, &commands[..earlier], command, words),
+        None => usage(alloc),
+    }
+}
+
+/// Runs the command after those before it over the listed files.
+fn run<S: Shelf>(
+    alloc: Global,
+    shelf: &mut S,
+    earlier: &[Command],
+    command: &Command,
+    words: &KaemLeftWords<'_>,
+) -> Result<Answer, Stop>
+    requires earlier { AreCommands earlier.now }
+    requires command { IsCommand command.now }
+    ensures { Performs (needs_unlisted_words words.now.list words.now.wanted.out (λ names. needs_files names (λ listed.
+        left_plan words.now.command words.now.wanted.file words.now.wanted.out (left_of_command words.now.steps listed.world earlier.now command.now))))
+        (S.state shelf.old) (S.state shelf.new) result }
+{
+    let names = fetch_unlisted(alloc, shelf, &words.list, &words.wanted.out)?;
+    let files = fetch_files(alloc, shelf, &names)?;
+    match kaem_script::left(alloc, earlier, command, &files, words.steps.count()) {
+        CommandEnd::Left(left) => save(alloc, shelf, &left, words),
+        CommandEnd::Failed {
+            command,
+            cause,
+            step,
+        } => stopped(alloc, command, cause, step),
+        CommandEnd::OutOfMemory { .. } => Err(Stop::OutOfMemory),
+    }
+}
+
+/// Saves what was left at FILE, and says how the run ended; where nothing was, it saves nothing.
+#[tactic(auto, unfolding(crate::specs::KaemLeft::saved_left))]
+fn save<S: Shelf>(
+    alloc: Global,
+    shelf: &mut S,
+    left: &CommandLeft,
+    words: &KaemLeftWords<'_>,
+) -> Result<Answer, Stop>
+    ensures { Performs (saved_left words.now.command words.now.wanted.file words.now.wanted.out left.now) (S.state shelf.old) (S.state shelf.new) result }
+{
+    let file = words.wanted.file.text();
+    let number = words.command.number();
+    let end = (left.cause, left.step);
+    match bytes_left_at(&left.files, &words.wanted.file) {
+        Some(content) => {
+            let answer = Answer {
+                status: left_status(left.cause),
+                text: script_texts::left(alloc, number, file, content.len() as u64, end)?,
+            };
+            keep(alloc, shelf, &words.wanted.out, content, answer)
+        }
+        None => Ok(Answer {
+            status: absent_status(left.cause),
+            text: script_texts::not_left(alloc, number, file, end)?,
+        }),
+    }
+}
+
+/// The status where FILE was left.
+fn left_status(cause: CommandCause) -> Status
+    ensures { result ≡ left_status cause }
+{
+    match cause {
+        CommandCause::Status(_) => Status::Yes,
+        _ => Status::RunFailed,
+    }
+}
+
+/// The status where it was not.
+fn absent_status(cause: CommandCause) -> Status
+    ensures { result ≡ absent_status cause }
+{
+    match cause {
+        CommandCause::Status(_) => Status::FileRefused,
+        _ => Status::RunFailed,
+    }
+}
