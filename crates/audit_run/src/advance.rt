@@ -1,4 +1,4 @@
-//! An advance, over the parts of an audit.
+//! An advance.
 
 ghost use Rattle.audit_run.specs.Advances.{Advances, WantsWithin, said_of_answer, said_of_comparisons};
 ghost use Rattle.audit_run.specs.Inside.Parts.{IsAtRest, IsSavedPlace, IsStarted, SaysOf, seen, stands};
@@ -7,7 +7,7 @@ ghost use Rattle.audit_rules.specs.Positions.{forward_from};
 ghost use Rattle.audit_rules.specs.Valid.{IsInputs};
 
 use crate::entering::enter;
-use crate::place::{AuditPlace, EndedGuest, Progress};
+use crate::place::{AuditPlace, Course, EndedGuest, Progress};
 use crate::stage::Done;
 use crate::stretch::advance_started;
 use audit_rules::{AuditAnswer, StageFault, all_equal};
@@ -21,22 +21,27 @@ pub(crate) fn advance_parts(
     alloc: Global,
     recipe: &Recipe,
     inputs: &[Bytes],
-    done: &mut Vec<Done>,
-    place: &mut AuditPlace,
+    course: &mut Course,
     most: u64,
 ) -> Progress
     requires some { 1 ≤ most }
-    requires rest { IsAtRest recipe.now inputs.now done.old.items place.old }
-    ensures answer { Advances (record { recipe = recipe.now; inputs = inputs.now; stands = seen done.old.items place.old }) most result
-        (seen done.new.items place.new) }
-    ensures rest { IsAtRest recipe.now inputs.now done.new.items place.new }
+    requires rest { IsAtRest recipe.now inputs.now course.old.done.items course.old.place }
+    ensures answer { Advances (record { recipe = recipe.now; inputs = inputs.now; stands = seen course.old.done.items course.old.place }) most result
+        (seen course.new.done.items course.new.place) }
+    ensures rest { IsAtRest recipe.now inputs.now course.new.done.items course.new.place }
 {
-    match begin(alloc, recipe, inputs, done.as_slice(), place) {
+    match begin(
+        alloc,
+        recipe,
+        inputs,
+        course.done.as_slice(),
+        &mut course.place,
+    ) {
         Ok(()) => {}
         Err(OutOfMemory) => return Progress::OutOfMemory,
     }
-    match advance_started(alloc, recipe, inputs, done, place, most, EndedGuest::Kept) {
-        Ok(()) => said_of(place),
+    match advance_started(alloc, recipe, inputs, course, most, EndedGuest::Kept) {
+        Ok(()) => said_of(&course.place),
         Err(OutOfMemory) => Progress::OutOfMemory,
     }
 }
@@ -46,26 +51,23 @@ pub(crate) fn take_piece(
     alloc: Global,
     recipe: &Recipe,
     inputs: &[Bytes],
-    done: &mut Vec<Done>,
-    place: &mut AuditPlace,
+    course: &mut Course,
     most: u64,
 ) -> Result<(), OutOfMemory>
-    requires rest { IsAtRest recipe.now inputs.now done.old.items place.old }
-    ensures ok { OnOk result (seen done.new.items place.new
-        ≡ Some (forward_from recipe.now inputs.now (stands recipe.now inputs.now done.old.items place.old) most)) }
-    ensures rest { OnOk result (IsAtRest recipe.now inputs.now done.new.items place.new) }
-    ensures err { OnErr result (WantsWithin (record { recipe = recipe.now; inputs = inputs.now; stands = seen done.old.items place.old }) most) }
+    requires rest { IsAtRest recipe.now inputs.now course.old.done.items course.old.place }
+    ensures ok { OnOk result (seen course.new.done.items course.new.place
+        ≡ Some (forward_from recipe.now inputs.now (stands recipe.now inputs.now course.old.done.items course.old.place) most)) }
+    ensures rest { OnOk result (IsAtRest recipe.now inputs.now course.new.done.items course.new.place) }
+    ensures err { OnErr result (WantsWithin (record { recipe = recipe.now; inputs = inputs.now; stands = seen course.old.done.items course.old.place }) most) }
 {
-    begin(alloc, recipe, inputs, done.as_slice(), place)?;
-    advance_started(
+    begin(
         alloc,
         recipe,
         inputs,
-        done,
-        place,
-        most,
-        EndedGuest::GivenUp,
-    )
+        course.done.as_slice(),
+        &mut course.place,
+    )?;
+    advance_started(alloc, recipe, inputs, course, most, EndedGuest::GivenUp)
 }
 
 /// Enters the first stage, where it was not entered yet. Want of memory leaves the audit as it was.

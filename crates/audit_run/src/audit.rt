@@ -16,10 +16,10 @@ ghost use Rattle.audit_rules.specs.Valid.{IsAuditAnswer, IsInputs, IsPosition};
 
 use crate::advance::{advance_parts, take_piece};
 use crate::delta::DeltaRefusal;
-use crate::place::{AuditPlace, Progress};
+use crate::place::{AuditPlace, Course, Progress};
 use crate::save::{Resumed, SaveRefusal};
 use crate::setting::setting_of;
-use crate::stage::Done;
+use crate::stage::SoFar;
 use audit_rules::AuditAnswer;
 use ddc_base::{Bytes, OutOfMemory};
 use guest_run::RunBox;
@@ -35,8 +35,7 @@ use std::marker::Model;
 pub struct Audit {
     recipe: Recipe,
     inputs: Inputs,
-    done: Vec<Done>,
-    place: AuditPlace,
+    course: Course,
     alloc: Global,
 }
 
@@ -49,9 +48,9 @@ impl Model for Audit {
 
     ghost coded = { audit_code };
 
-    ghost view = { λ a. record { recipe = a.recipe; inputs = a.inputs; stands = seen a.done.items a.place } };
+    ghost view = { λ a. record { recipe = a.recipe; inputs = a.inputs; stands = seen a.course.done.items a.course.place } };
 
-    ghost invariant = { λ a. IsAtRest a.recipe a.inputs a.done.items a.place };
+    ghost invariant = { λ a. IsAtRest a.recipe a.inputs a.course.done.items a.course.place };
 }
 
 impl Audit {
@@ -63,8 +62,10 @@ impl Audit {
         Audit {
             recipe,
             inputs,
-            done: Vec::new(alloc),
-            place: AuditPlace::Ready,
+            course: Course {
+                done: Vec::new(alloc),
+                place: AuditPlace::Ready,
+            },
             alloc,
         }
     }
@@ -84,8 +85,7 @@ impl Audit {
             self.alloc,
             &self.recipe,
             self.inputs.as_slice(),
-            &mut self.done,
-            &mut self.place,
+            &mut self.course,
             most,
         )
     }
@@ -99,23 +99,14 @@ impl Audit {
         let Audit {
             recipe,
             inputs,
-            mut done,
-            mut place,
+            mut course,
             alloc,
         } = self;
-        take_piece(
-            alloc,
-            &recipe,
-            inputs.as_slice(),
-            &mut done,
-            &mut place,
-            most,
-        )?;
+        take_piece(alloc, &recipe, inputs.as_slice(), &mut course, most)?;
         Ok(Audit {
             recipe,
             inputs,
-            done,
-            place,
+            course,
             alloc,
         })
     }
@@ -125,7 +116,7 @@ impl Audit {
         ensures answer { option_copied result ≡ finished_answer self.now.stands }
         ensures form { IfSome (option_copied result) IsAuditAnswer }
     {
-        match &self.place {
+        match &self.course.place {
             AuditPlace::Over(answer) => Some(answer),
             AuditPlace::Ready | AuditPlace::Running(_) => None,
         }
@@ -136,7 +127,7 @@ impl Audit {
         ensures report { option_copied result ≡ finished_report self.now.stands }
         ensures form { IfSome (option_copied result) IsReport }
     {
-        match &self.place {
+        match &self.course.place {
             AuditPlace::Over(AuditAnswer::Completes(report)) => Some(report),
             _ => None,
         }
@@ -147,10 +138,10 @@ impl Audit {
     pub fn place(&self) -> (u32, u64)
         ensures { result ≡ place_of self.now.stands }
     {
-        match &self.place {
+        match &self.course.place {
             AuditPlace::Ready => (1, 0),
             AuditPlace::Running(guest) => (
-                stage_after(&self.recipe, self.done.len()),
+                stage_after(&self.recipe, self.course.done.len()),
                 guest.steps(),
             ),
             AuditPlace::Over(_) => (0, 0),
@@ -162,14 +153,14 @@ impl Audit {
         ensures value { IfOk result (λ setting. option_map (λ s. (s.0.now, s.1)) setting ≡ present_setting self.now.recipe self.now.inputs self.now.stands) }
         ensures over { (answer : AuditAnswer) → self.now.stands ≡ Some (Over answer) → IsOk result }
     {
-        match &self.place {
+        match &self.course.place {
             AuditPlace::Over(_) => Ok(None),
             AuditPlace::Ready | AuditPlace::Running(_) => {
                 setting_of(
                     alloc,
                     &self.recipe,
                     self.inputs.as_slice(),
-                    self.done.as_slice(),
+                    self.course.done.as_slice(),
                 )
             }
         }
@@ -184,14 +175,14 @@ impl Audit {
         ensures base { IfOk result (λ text. (p : Position) × (self.now.stands ≡ Some (On p)) × IsBaseAt self.now.recipe self.now.inputs p text) }
     {
         let alloc = self.alloc;
-        match &self.place {
+        match &self.course.place {
             AuditPlace::Ready => unreachable!(),
             AuditPlace::Over(_) => unreachable!(),
             AuditPlace::Running(guest) => crate::save::write(
                 alloc,
                 &self.recipe,
                 self.inputs.as_slice(),
-                self.done.as_slice(),
+                self.course.done.as_slice(),
                 guest,
             ),
         }
@@ -242,17 +233,17 @@ impl Audit {
             → IsDeltaFrom self.now.recipe self.now.inputs b self.now.stands text) }
     {
         let alloc = self.alloc;
-        match &self.place {
+        match &self.course.place {
             AuditPlace::Ready => unreachable!(),
             AuditPlace::Over(_) => unreachable!(),
-            AuditPlace::Running(guest) => crate::delta::write(
-                alloc,
-                &self.recipe,
-                self.inputs.as_slice(),
-                self.done.as_slice(),
-                guest,
-                base,
-            ),
+            AuditPlace::Running(guest) => {
+                let so_far = SoFar {
+                    recipe: &self.recipe,
+                    inputs: self.inputs.as_slice(),
+                    done: self.course.done.as_slice(),
+                };
+                crate::delta::write(alloc, &so_far, guest, base)
+            }
         }
     }
 
@@ -292,8 +283,10 @@ impl Audit {
         Audit {
             recipe,
             inputs,
-            done,
-            place: AuditPlace::Running(guest),
+            course: Course {
+                done,
+                place: AuditPlace::Running(guest),
+            },
             alloc,
         }
     }

@@ -8,4 +8,4 @@ mod reading;
 mod writing;
 
 pub use reading::{DeltaRefusal, read};
-pub use writing::write;
+pub(crate) use writing::write;

@@ -10,7 +10,7 @@ ghost use Rattle.audit_rules.specs.Stages.{by_end, stage_result};
 ghost use Rattle.audit_rules.specs.Valid.{AreDone, IsAt, IsInputs};
 
 use crate::place::Moved;
-use crate::stage::{Done, start_stage};
+use crate::stage::{Done, SoFar, start_stage};
 use crate::stage_run::run_slice;
 use audit_rules::{RunCause, StageFault};
 use ddc_base::{Bytes, ListOf, OutOfMemory};
@@ -68,7 +68,14 @@ fn run_stage(
     ensures done { IfOk result (λ run. IfOk run (λ f. AreDone recipe.now (done.now ++ f ∷ []))) }
 {
     match start_stage(alloc, recipe, stage, inputs, done)? {
-        Ok(guest) => run_out(alloc, recipe, stage, inputs, done, guest),
+        Ok(guest) => {
+            let so_far = SoFar {
+                recipe,
+                inputs,
+                done,
+            };
+            run_out(alloc, &so_far, stage, guest)
+        }
         Err(cause) => Ok(Err(StageFault::Runs(RunCause::Start(cause), 0))),
     }
 }
@@ -76,20 +83,18 @@ fn run_stage(
 /// Takes all steps of a stage, up to the end of its run.
 fn run_out(
     alloc: Global,
-    recipe: &Recipe,
+    so_far: &SoFar<'_>,
     stage: &Stage,
-    inputs: &[Bytes],
-    done: &[Done],
     guest: Guest<RunRam>,
 ) -> Result<Result<Done, StageFault>, OutOfMemory>
-    requires kept { IsRecipe recipe.now }
-    requires given { IsInputs recipe.now inputs.now }
-    requires stands { IsAt recipe.now (at done.now guest) stage.now (later recipe.now done.now) }
-    ensures value { IfOk result (λ run. run ≡ by_end recipe.now inputs.now done.now stage.now (first_end guest (stage.now.steps - guest.steps))) }
-    ensures done { IfOk result (λ run. IfOk run (λ f. AreDone recipe.now (done.now ++ f ∷ []))) }
+    requires kept { IsRecipe so_far.now.recipe.now }
+    requires stands { IsAt so_far.now.recipe.now (at so_far.now.done.now guest) stage.now (later so_far.now.recipe.now so_far.now.done.now) }
+    ensures value { IfOk result (λ run. run ≡ by_end so_far.now.recipe.now so_far.now.inputs.now so_far.now.done.now stage.now
+        (first_end guest (stage.now.steps - guest.steps))) }
+    ensures done { IfOk result (λ run. IfOk run (λ f. AreDone so_far.now.recipe.now (so_far.now.done.now ++ f ∷ []))) }
 {
     let mut guest = guest;
-    match run_slice(alloc, recipe, stage, inputs, done, &mut guest, stage.steps)? {
+    match run_slice(alloc, so_far, stage, &mut guest, stage.steps)? {
         (_, Moved::Ended(run)) => Ok(run),
         (_, Moved::Goes) => unreachable!(),
     }

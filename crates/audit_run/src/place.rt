@@ -7,6 +7,13 @@ use audit_rules::source_check::CheckCause;
 use audit_rules::{AuditAnswer, RunCause, StageFault};
 use guest_run::{Guest, RunRam};
 
+/// How far an audit has come: the stages that are done, and where it stands.
+#[derive(Drop)]
+pub(crate) struct Course {
+    pub(crate) done: Vec<Done>,
+    pub(crate) place: AuditPlace,
+}
+
 /// Where an audit stands.
 #[derive(Drop)]
 pub(crate) enum AuditPlace {

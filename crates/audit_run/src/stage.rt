@@ -8,10 +8,12 @@ mod ending;
 mod given;
 mod left;
 mod reporting;
+mod so_far;
 mod sources;
 
 pub use contents::content;
 pub use done::Done;
-pub use ending::exited;
+pub(crate) use ending::exited;
 pub use given::{box_of, start_stage};
 pub use reporting::report_of;
+pub(crate) use so_far::SoFar;

@@ -7,35 +7,33 @@ ghost use Rattle.guest_run.specs.Run.{first_end};
 ghost use Rattle.std.specs.Prelude.{◌≡◌, ◌≤◌, ◌+◌, ◌-◌, IfOk};
 ghost use Rattle.audit_rules.specs.Positions.{at};
 ghost use Rattle.audit_rules.specs.Stages.{by_end};
-ghost use Rattle.audit_rules.specs.Valid.{IsAt, IsInputs};
+ghost use Rattle.audit_rules.specs.Valid.{IsAt};
 
 use crate::place::Moved;
-use crate::stage::{Done, exited};
+use crate::stage::{SoFar, exited};
 use audit_rules::{RunCause, StageFault};
-use ddc_base::{Bytes, OutOfMemory};
+use ddc_base::OutOfMemory;
 use guest_run::{Guest, RunEnd, RunRam};
-use recipe::{Recipe, Stage};
+use recipe::Stage;
 use std::alloc::Global;
 
 /// At most `most` steps of a stage, which end with the stage's run.
 pub(crate) fn run_slice(
     alloc: Global,
-    recipe: &Recipe,
+    so_far: &SoFar<'_>,
     stage: &Stage,
-    inputs: &[Bytes],
-    done: &[Done],
     guest: &mut Guest<RunRam>,
     most: u64,
 ) -> Result<(u64, Moved), OutOfMemory>
     requires some { 1 ≤ most }
-    requires recipe { IsRecipe recipe.now }
-    requires given { IsInputs recipe.now inputs.now }
-    requires stage { IsStageOf recipe.now stage.now }
-    requires stands { IsAt recipe.now (at done.now guest.old) stage.now (later recipe.now done.now) }
-    ensures slices { Slices recipe.now inputs.now done.now (later recipe.now done.now) guest.old most result guest.new }
+    requires recipe { IsRecipe so_far.now.recipe.now }
+    requires stage { IsStageOf so_far.now.recipe.now stage.now }
+    requires stands { IsAt so_far.now.recipe.now (at so_far.now.done.now guest.old) stage.now (later so_far.now.recipe.now so_far.now.done.now) }
+    ensures slices { Slices so_far.now.recipe.now so_far.now.inputs.now so_far.now.done.now (later so_far.now.recipe.now so_far.now.done.now)
+        guest.old most result guest.new }
     // With as many steps as the stage has left, its run ends.
     ensures whole { stage.now.steps ≤ guest.old.steps + most → IfOk result (λ step. step.1 ≡ Moved.Ended
-        (by_end recipe.now inputs.now done.now stage.now (first_end guest.old (stage.now.steps - guest.old.steps)))) }
+        (by_end so_far.now.recipe.now so_far.now.inputs.now so_far.now.done.now stage.now (first_end guest.old (stage.now.steps - guest.old.steps)))) }
 {
     let before = guest.steps();
     let slice = most.min(stage.steps - before);
@@ -61,16 +59,7 @@ pub(crate) fn run_slice(
         }
         RunEnd::Exited(status) => {
             let step = guest.steps() + 1;
-            let result = exited(
-                alloc,
-                recipe,
-                stage,
-                inputs,
-                done,
-                guest.files(),
-                status,
-                step,
-            )?;
+            let result = exited(alloc, so_far, stage, guest.files(), status, step)?;
             Ok((step - before, Moved::Ended(result)))
         }
     }

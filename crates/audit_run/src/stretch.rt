@@ -1,4 +1,4 @@
-//! An audit's steps, over its parts.
+//! An audit's steps.
 
 ghost use Rattle.audit_run.specs.Inside.Parts.{IsSavedPlace, IsStarted, KeepsPlace, later, Slices, stands, WantsAfter};
 ghost use Rattle.recipe.specs.Kept.{IsRecipe};
@@ -7,8 +7,8 @@ ghost use Rattle.audit_rules.specs.Positions.{at, stage_closed, forward_from, to
 ghost use Rattle.audit_rules.specs.Valid.{AreDone, IsInputs, IsPosition};
 
 use crate::entering::enter;
-use crate::place::{AuditPlace, EndedGuest, Moved};
-use crate::stage::Done;
+use crate::place::{AuditPlace, Course, EndedGuest, Moved};
+use crate::stage::{Done, SoFar};
 use crate::stage_run::run_slice;
 use audit_rules::AuditAnswer;
 use ddc_base::{Bytes, OutOfMemory};
@@ -31,29 +31,28 @@ fn close(
     alloc: Global,
     recipe: &Recipe,
     inputs: &[Bytes],
-    done: &mut Vec<Done>,
-    place: &mut AuditPlace,
+    course: &mut Course,
     finished: Done,
     ended: EndedGuest,
 ) -> Result<(), OutOfMemory>
     requires given { IsInputs recipe.now inputs.now }
-    requires done { AreDone recipe.now (done.old.items ++ finished ∷ []) }
-    requires left { todo recipe.now (done.old.items ++ finished ∷ []) ≡ later recipe.now done.old.items }
-    ensures ok { OnOk result (stands recipe.now inputs.now done.new.items place.new
-        ≡ stage_closed recipe.now inputs.now done.old.items (later recipe.now done.old.items) (Ok finished)) }
-    ensures started { OnOk result (IsStarted place.new) }
-    ensures place { OnErr result (KeepsPlace ended place.old place.new) }
-    ensures done { OnErr result (done.new.items ≡ done.old.items) }
+    requires done { AreDone recipe.now (course.old.done.items ++ finished ∷ []) }
+    requires left { todo recipe.now (course.old.done.items ++ finished ∷ []) ≡ later recipe.now course.old.done.items }
+    ensures ok { OnOk result (stands recipe.now inputs.now course.new.done.items course.new.place
+        ≡ stage_closed recipe.now inputs.now course.old.done.items (later recipe.now course.old.done.items) (Ok finished)) }
+    ensures started { OnOk result (IsStarted course.new.place) }
+    ensures place { OnErr result (KeepsPlace ended course.old.place course.new.place) }
+    ensures done { OnErr result (course.new.done.items ≡ course.old.done.items) }
 {
-    leave(place, ended);
-    done.push(finished)?;
-    match enter(alloc, recipe, inputs, done.as_slice()) {
+    leave(&mut course.place, ended);
+    course.done.push(finished)?;
+    match enter(alloc, recipe, inputs, course.done.as_slice()) {
         Ok(entered) => {
-            place.set(entered);
+            course.place.set(entered);
             Ok(())
         }
         Err(OutOfMemory) => {
-            done.pop();
+            course.done.pop();
             Err(OutOfMemory)
         }
     }
@@ -62,20 +61,18 @@ fn close(
 /// Steps of the present stage.
 fn run_present(
     alloc: Global,
-    recipe: &Recipe,
-    inputs: &[Bytes],
-    done: &[Done],
+    so_far: &SoFar<'_>,
     guest: &mut Guest<RunRam>,
     most: u64,
 ) -> Result<(u64, Moved), OutOfMemory>
     requires some { 1 ≤ most }
-    requires given { IsInputs recipe.now inputs.now }
-    requires stands { IsPosition recipe.now (at done.now guest.old) }
-    ensures kept { IsRecipe recipe.now }
-    ensures slices { Slices recipe.now inputs.now done.now (later recipe.now done.now) guest.old most result guest.new }
+    requires stands { IsPosition so_far.now.recipe.now (at so_far.now.done.now guest.old) }
+    ensures kept { IsRecipe so_far.now.recipe.now }
+    ensures slices { Slices so_far.now.recipe.now so_far.now.inputs.now so_far.now.done.now (later so_far.now.recipe.now so_far.now.done.now)
+        guest.old most result guest.new }
 {
-    let stage = &recipe.stages().as_slice()[done.len()];
-    run_slice(alloc, recipe, stage, inputs, done, guest, most)
+    let stage = &so_far.recipe.stages().as_slice()[so_far.done.len()];
+    run_slice(alloc, so_far, stage, guest, most)
 }
 
 /// At least one step, or none left to take: up to the end of the present stage's run.
@@ -83,43 +80,45 @@ fn stretch(
     alloc: Global,
     recipe: &Recipe,
     inputs: &[Bytes],
-    done: &mut Vec<Done>,
-    place: &mut AuditPlace,
+    course: &mut Course,
     most: u64,
     ended: EndedGuest,
 ) -> Result<u64, OutOfMemory>
     requires some { 1 ≤ most }
     requires given { IsInputs recipe.now inputs.now }
-    requires stands { IsSavedPlace recipe.now done.old.items place.old }
-    requires started { IsStarted place.old }
-    ensures ok { IfOk result (λ taken. stands recipe.now inputs.now done.new.items place.new
-        ≡ forward_from recipe.now inputs.now (stands recipe.now inputs.now done.old.items place.old) taken) }
+    requires stands { IsSavedPlace recipe.now course.old.done.items course.old.place }
+    requires started { IsStarted course.old.place }
+    ensures ok { IfOk result (λ taken. stands recipe.now inputs.now course.new.done.items course.new.place
+        ≡ forward_from recipe.now inputs.now (stands recipe.now inputs.now course.old.done.items course.old.place) taken) }
     ensures some { IfOk result (λ taken. 1 ≤ taken) }
     ensures most { IfOk result (λ taken. taken ≤ most) }
-    ensures started { OnOk result (IsStarted place.new) }
-    ensures stands { OnOk result (IsSavedPlace recipe.now done.new.items place.new) }
-    ensures err { OnErr result (WantsAfter ended recipe.now inputs.now (stands recipe.now inputs.now done.old.items place.old) most
-        done.new.items place.new) }
+    ensures started { OnOk result (IsStarted course.new.place) }
+    ensures stands { OnOk result (IsSavedPlace recipe.now course.new.done.items course.new.place) }
+    ensures err { OnErr result (WantsAfter ended recipe.now inputs.now (stands recipe.now inputs.now course.old.done.items course.old.place) most
+        course.new.done.items course.new.place) }
 {
-    let (taken, moved) = match place {
-        AuditPlace::Running(guest) => run_present(
-            alloc,
-            recipe,
-            inputs,
-            done.as_slice(),
-            guest,
-            most,
-        )?,
+    let (taken, moved) = match &mut course.place {
+        AuditPlace::Running(guest) => {
+            let so_far = SoFar {
+                recipe,
+                inputs,
+                done: course.done.as_slice(),
+            };
+            run_present(alloc, &so_far, guest, most)?
+        }
         AuditPlace::Ready | AuditPlace::Over(_) => return Ok(most),
     };
     match moved {
         Moved::Goes => Ok(taken),
         Moved::Ended(Ok(finished)) => {
-            close(alloc, recipe, inputs, done, place, finished, ended)?;
+            close(alloc, recipe, inputs, course, finished, ended)?;
             Ok(taken)
         }
         Moved::Ended(Err(fault)) => {
-            place.set(AuditPlace::Over(AuditAnswer::Fails(done.len() as u32 + 1, fault)));
+            let stage = course.done.len() as u32 + 1;
+            course
+                .place
+                .set(AuditPlace::Over(AuditAnswer::Fails(stage, fault)));
             Ok(taken)
         }
     }
@@ -130,24 +129,23 @@ pub(crate) fn advance_started(
     alloc: Global,
     recipe: &Recipe,
     inputs: &[Bytes],
-    done: &mut Vec<Done>,
-    place: &mut AuditPlace,
+    course: &mut Course,
     most: u64,
     ended: EndedGuest,
 ) -> Result<(), OutOfMemory>
     requires given { IsInputs recipe.now inputs.now }
-    requires stands { IsSavedPlace recipe.now done.old.items place.old }
-    requires started { IsStarted place.old }
-    ensures ok { OnOk result (stands recipe.now inputs.now done.new.items place.new
-        ≡ forward_from recipe.now inputs.now (stands recipe.now inputs.now done.old.items place.old) most) }
-    ensures started { OnOk result (IsStarted place.new) }
-    ensures stands { OnOk result (IsSavedPlace recipe.now done.new.items place.new) }
-    ensures err { OnErr result (WantsAfter ended recipe.now inputs.now (stands recipe.now inputs.now done.old.items place.old) most
-        done.new.items place.new) }
+    requires stands { IsSavedPlace recipe.now course.old.done.items course.old.place }
+    requires started { IsStarted course.old.place }
+    ensures ok { OnOk result (stands recipe.now inputs.now course.new.done.items course.new.place
+        ≡ forward_from recipe.now inputs.now (stands recipe.now inputs.now course.old.done.items course.old.place) most) }
+    ensures started { OnOk result (IsStarted course.new.place) }
+    ensures stands { OnOk result (IsSavedPlace recipe.now course.new.done.items course.new.place) }
+    ensures err { OnErr result (WantsAfter ended recipe.now inputs.now (stands recipe.now inputs.now course.old.done.items course.old.place) most
+        course.new.done.items course.new.place) }
 {
     let mut left = most;
     while left > 0 {
-        left -= stretch(alloc, recipe, inputs, done, place, left, ended)?;
+        left -= stretch(alloc, recipe, inputs, course, left, ended)?;
     }
     Ok(())
 }

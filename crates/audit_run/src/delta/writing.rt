@@ -9,38 +9,34 @@ ghost use Rattle.save_format.specs.DeltaText.Stages.{equal_stages, kept_stages, 
 ghost use Rattle.save_format.specs.Seen.{save_view, stage_view};
 ghost use Rattle.save_format.specs.Spelled.{IsSaveText, IsShortStage, IsTextOfSave};
 ghost use Rattle.audit_rules.specs.Positions.{Position, at};
-ghost use Rattle.audit_rules.specs.Valid.{IsInputs, IsPosition};
+ghost use Rattle.audit_rules.specs.Valid.{IsPosition};
 
 use crate::delta::base::{digest_of, known_of};
 use crate::save::put_done;
-use crate::stage::Done;
+use crate::stage::{Done, SoFar};
 use checkpoints::put_patch_of;
 use ddc_base::{Bytes, OutOfMemory};
 use guest_run::{Guest, RunRam};
-use recipe::Recipe;
 use save_format::byte_fields::put_u32;
 use save_format::delta_text::{MAGIC, is_same_stage};
 use save_format::{Parts, StagePart};
 use std::alloc::Global;
 
 /// The one delta of an audit that stands in a stage against a save of it, its base. The pages of the base are compared where they stand in its text.
-pub fn write(
+pub(crate) fn write(
     alloc: Global,
-    recipe: &Recipe,
-    inputs: &[Bytes],
-    done: &[Done],
+    so_far: &SoFar<'_>,
     guest: &Guest<RunRam>,
     base: &[u8],
 ) -> Result<Bytes, OutOfMemory>
-    requires given { IsInputs recipe.now inputs.now }
-    requires position { IsPosition recipe.now (at done.now guest.now) }
-    requires base { (b : Position) × IsBaseAt recipe.now inputs.now b base.now }
-    ensures { IfOk result (λ text. (b : Position) → IsBaseAt recipe.now inputs.now b base.now
-        → text ≡ delta_text_of recipe.now inputs.now b (at done.now guest.now)) }
+    requires position { IsPosition so_far.now.recipe.now (at so_far.now.done.now guest.now) }
+    requires base { (b : Position) × IsBaseAt so_far.now.recipe.now so_far.now.inputs.now b base.now }
+    ensures { IfOk result (λ text. (b : Position) → IsBaseAt so_far.now.recipe.now so_far.now.inputs.now b base.now
+        → text ≡ delta_text_of so_far.now.recipe.now so_far.now.inputs.now b (at so_far.now.done.now guest.now)) }
 {
-    recipe.show_rules();
+    so_far.recipe.show_rules();
     let known = known_of(alloc, base)?;
-    relative(alloc, &known, base, done, guest)
+    relative(alloc, &known, base, so_far.done, guest)
 }
 
 /// The delta against what a base says.

@@ -10,32 +10,32 @@ ghost use Rattle.audit_rules.specs.Stages.{artefact_bytes, exited_with, finished
 
 use crate::stage::done::Done;
 use crate::stage::left::{Known, left_lines};
+use crate::stage::so_far::SoFar;
 use crate::stage::sources::check_of;
 use audit_rules::{Finished, MAX_ARTEFACTS, RunCause, StageFault};
 use ddc_base::{Bytes, OutOfMemory};
 use mem_files::Files;
-use recipe::{Output, Recipe, Stage};
+use recipe::{Output, Stage};
 use report::Mark;
 use std::alloc::Global;
 
 /// What a stage's run comes to whose program exited with a status at a step, counted from 1.
 ///
 /// Want of memory comes only where an artefact was made, which is checked then and kept.
-pub fn exited(
+pub(crate) fn exited(
     alloc: Global,
-    recipe: &Recipe,
+    so_far: &SoFar<'_>,
     stage: &Stage,
-    inputs: &[Bytes],
-    done: &[Done],
     files: &Files,
     status: u8,
     step: u64,
 ) -> Result<Result<Done, StageFault>, OutOfMemory>
-    requires recipe { kept.IsRecipe recipe.now }
-    requires stage { IsStageOf recipe.now stage.now }
-    requires small { artefact_bytes done.now ≤ 1_073_741_824 }
-    ensures answer { IfOk result (λ r. r ≡ exited_with recipe.now inputs.now done.now stage.now status step files.now) }
-    ensures want { OnErr result (Makes stage.now done.now status files.now) }
+    requires recipe { kept.IsRecipe so_far.now.recipe.now }
+    requires stage { IsStageOf so_far.now.recipe.now stage.now }
+    requires small { artefact_bytes so_far.now.done.now ≤ 1_073_741_824 }
+    ensures answer { IfOk result (λ r. r
+        ≡ exited_with so_far.now.recipe.now so_far.now.inputs.now so_far.now.done.now stage.now status step files.now) }
+    ensures want { OnErr result (Makes stage.now so_far.now.done.now status files.now) }
 {
     if status != 0 {
         return Ok(Err(StageFault::Runs(RunCause::Status(status), step)));
@@ -43,10 +43,10 @@ pub fn exited(
     let Some(made) = made_by(stage, files) else {
         return Ok(Err(StageFault::Runs(RunCause::NoOutput, step)));
     };
-    if artefact_bytes(done) + made.len() as u64 > MAX_ARTEFACTS {
+    if artefact_bytes(so_far.done) + made.len() as u64 > MAX_ARTEFACTS {
         return Ok(Err(StageFault::Runs(RunCause::Crowded, step)));
     }
-    match check_of(alloc, recipe, stage, inputs, done, made)? {
+    match check_of(alloc, so_far, stage, made)? {
         Some(cause) => Ok(Err(StageFault::Checks(cause))),
         None => Ok(Ok(finish(alloc, stage, files, step, made)?)),
     }

@@ -8,7 +8,7 @@ ghost use Rattle.audit_rules.specs.Stages.{contents};
 
 use crate::check::check;
 use crate::stage::contents::content;
-use crate::stage::done::Done;
+use crate::stage::so_far::SoFar;
 use audit_rules::source_check::CheckCause;
 use ddc_base::languages::Language;
 use ddc_base::{Bytes, Name, OutOfMemory};
@@ -19,18 +19,16 @@ use std::alloc::Global;
 #[tactic(auto, unfolding(audit_rules::specs::Contents::check_of))]
 pub(crate) fn check_of(
     alloc: Global,
-    recipe: &Recipe,
+    so_far: &SoFar<'_>,
     stage: &Stage,
-    inputs: &[Bytes],
-    done: &[Done],
     made: &[u8],
 ) -> Result<Option<CheckCause>, OutOfMemory>
-    requires { kept.IsRecipe recipe.now }
-    ensures { IfOk result (λ cause. cause ≡ check_of recipe.now (contents inputs.now done.now) stage.now made.now) }
+    requires { kept.IsRecipe so_far.now.recipe.now }
+    ensures { IfOk result (λ cause. cause ≡ check_of so_far.now.recipe.now (contents so_far.now.inputs.now so_far.now.done.now) stage.now made.now) }
 {
-    match check_source(recipe, stage) {
+    match check_source(so_far.recipe, stage) {
         Some(source) => match defined(source.lang) {
-            Some(language) => check_text(alloc, recipe, source, language, inputs, done, made),
+            Some(language) => check_text(alloc, so_far, source, language, made),
             None => Ok(None),
         },
         None => Ok(None),
@@ -61,47 +59,41 @@ pub(crate) fn defined(language: SourceLanguage) -> Option<Language>
 #[tactic(auto, unfolding(audit_rules::specs::Contents::text_of))]
 fn check_text(
     alloc: Global,
-    recipe: &Recipe,
+    so_far: &SoFar<'_>,
     source: &Source,
     language: Language,
-    inputs: &[Bytes],
-    done: &[Done],
     made: &[u8],
 ) -> Result<Option<CheckCause>, OutOfMemory>
     requires { source.now.base ≤ 2 ^ 37 }
-    ensures { IfOk result (λ cause. cause ≡ text_check (text_of recipe.now (contents inputs.now done.now) source.now) (Some language) made.now) }
+    ensures { IfOk result (λ cause. cause
+        ≡ text_check (text_of so_far.now.recipe.now (contents so_far.now.inputs.now so_far.now.done.now) source.now) (Some language) made.now) }
 {
     match source.files.as_slice() {
         [name] => check(
             alloc,
             language,
             source.base,
-            content(recipe, inputs, done, name),
+            content(so_far.recipe, so_far.inputs, so_far.done, name),
             made,
         ),
         names => {
-            let text = joined(alloc, recipe, names, inputs, done)?;
+            let text = joined(alloc, so_far, names)?;
             check(alloc, language, source.base, text.as_slice(), made)
         }
     }
 }
 
 /// The contents of these names, with one LF between neighbours.
-fn joined(
-    alloc: Global,
-    recipe: &Recipe,
-    names: &[Name],
-    inputs: &[Bytes],
-    done: &[Done],
-) -> Result<Bytes, OutOfMemory>
-    ensures { IfOk result (λ text. text ≡ joined_files (map (content recipe.now (contents inputs.now done.now)) names.now)) }
+fn joined(alloc: Global, so_far: &SoFar<'_>, names: &[Name]) -> Result<Bytes, OutOfMemory>
+    ensures { IfOk result (λ text. text
+        ≡ joined_files (map (content so_far.now.recipe.now (contents so_far.now.inputs.now so_far.now.done.now)) names.now)) }
 {
     let mut text = Bytes::new(alloc);
     for (index, name) in names.iter().enumerate() {
         if index > 0 {
             text.push(b'\n')?;
         }
-        text.extend(content(recipe, inputs, done, name))?;
+        text.extend(content(so_far.recipe, so_far.inputs, so_far.done, name))?;
     }
     Ok(text)
 }

@@ -5,8 +5,8 @@ use Rattle.audit_run.proofs.stretch.advance_started.Given as goal
 
 abbrev pub invariant-loop-left : goal.invariant-loop-left
 invariant-loop-left l = (l.left ≤ l.fn.most)
-    × IsStarted l.place × IsSavedPlace l.recipe l.done.items l.place
-    × (stands l.recipe l.inputs l.done.items l.place ≡ forward_from l.recipe l.inputs (stands l.recipe l.inputs l.fn.done.items l.fn.place) (l.fn.most - l.left))
+    × IsStarted l.course.place × IsSavedPlace l.recipe l.course.done.items l.course.place
+    × (stands l.recipe l.inputs l.course.done.items l.course.place ≡ forward_from l.recipe l.inputs (stands l.recipe l.inputs l.fn.course.done.items l.fn.course.place) (l.fn.most - l.left))
 
 abbrev pub decreases-loop-left : goal.decreases-loop-left
 decreases-loop-left l = l.left

@@ -5,19 +5,19 @@ use Rattle.audit_run.proofs.DeltaLemmas.Writing.{deltas_are, few_pages, few_stag
 use Rattle.audit_run.proofs.delta.writing.write.Goals as goal
 
 pub known_of-requires : goal.known_of-requires
-known_of-requires c = is_read c.args.recipe.now c.args.inputs.now c.args.base.now c.show_rules.ensures c.requires.given c.requires.base.0 c.requires.base.1
+known_of-requires c = is_read c.args.so_far.now.recipe.now c.args.so_far.now.inputs.now c.args.base.now c.show_rules.ensures c.args.so_far.now.given c.requires.base.0 c.requires.base.1
 
 pub relative-requires-clause-pages : goal.relative-requires-clause-pages
 relative-requires-clause-pages c =
-    few_pages c.args.recipe.now c.args.inputs.now c.args.base.now c.show_rules.ensures c.requires.given c.requires.base.0 c.requires.base.1 (save_view c.in_ok-known.known) c.in_ok-known.ensures.said
+    few_pages c.args.so_far.now.recipe.now c.args.so_far.now.inputs.now c.args.base.now c.show_rules.ensures c.args.so_far.now.given c.requires.base.0 c.requires.base.1 (save_view c.in_ok-known.known) c.in_ok-known.ensures.said
 
 pub relative-requires-clause-few : goal.relative-requires-clause-few
-relative-requires-clause-few c = few_stages c.args.recipe.now (at c.args.done.now c.args.guest.now) c.show_rules.ensures c.requires.position
+relative-requires-clause-few c = few_stages c.args.so_far.now.recipe.now (at c.args.so_far.now.done.now c.args.guest.now) c.show_rules.ensures c.requires.position
 
 pub relative-requires-clause-short : goal.relative-requires-clause-short
-relative-requires-clause-short c = short_done c.args.recipe.now (at c.args.done.now c.args.guest.now) c.show_rules.ensures c.requires.position
+relative-requires-clause-short c = short_done c.args.so_far.now.recipe.now (at c.args.so_far.now.done.now c.args.guest.now) c.show_rules.ensures c.requires.position
 
 pub returns : goal.returns
 returns c =
-    deltas_are c.args.recipe.now c.args.inputs.now c.args.base.now (save_view c.in_ok-known.known) (at c.args.done.now c.args.guest.now) c.relative.result c.show_rules.ensures c.requires.given
+    deltas_are c.args.so_far.now.recipe.now c.args.so_far.now.inputs.now c.args.base.now (save_view c.in_ok-known.known) (at c.args.so_far.now.done.now c.args.guest.now) c.relative.result c.show_rules.ensures c.args.so_far.now.given
     c.in_ok-known.ensures.said c.relative.ensures

@@ -12,12 +12,12 @@ loop-index-preserved c =
           c.in_ok-extend.ensures.ok
           ∙ ap (λ text. text ++ c.content.result.now) (w.text-is ∙ w.in_ok-push.ensures.ok)
           ∙ (λ i. (c.loop-index.invariant i ++ 10 ∷ []) ++ c.content.ensures i)
-          ∙ sym (joined-more (content c.args.recipe.now (contents c.args.inputs.now c.args.done.now)) c.args.names.now c.loop-index.index c.index-names-index.result
+          ∙ sym (joined-more (content c.args.so_far.now.recipe.now (contents c.args.so_far.now.inputs.now c.args.so_far.now.done.now)) c.args.names.now c.loop-index.index c.index-names-index.result
           (omega (arith, w.if-index-gt0.true)) c.loop-index-test.true c.index-names-index.is)
       | else-index-gt0 w ↦
           c.in_ok-extend.ensures.ok
           ∙ ap (λ text. text ++ c.content.result.now) w.text-is
           ∙ (λ i. c.loop-index.invariant i ++ c.content.ensures i)
-          ∙ sym (joined-first (content c.args.recipe.now (contents c.args.inputs.now c.args.done.now)) c.args.names.now c.loop-index.index c.index-names-index.result
+          ∙ sym (joined-first (content c.args.so_far.now.recipe.now (contents c.args.so_far.now.inputs.now c.args.so_far.now.done.now)) c.args.names.now c.loop-index.index c.index-names-index.result
           (omega (arith, w.if-index-gt0.false)) c.loop-index-test.true c.index-names-index.is)
     ]
