@@ -1,6 +1,6 @@
 -- The delta of a position against the save of another one, its base, and what becomes of a text beside a base. docs/reference/delta.md says the
 -- same for people.
-use Rattle.std.specs.Prelude.{◌≡◌, ◌≢◌, ℕ, IsTrue, List, map, Result, Ok, Err}
+use Rattle.std.specs.Prelude.{◌≡◌, ◌≢◌, ℕ, IsOk, IsTrue, List, map, Result, Ok, Err}
 use Rattle.ddc_base.specs.declared.digests.Digest.{Digest}
 use Rattle.recipe.specs.declared.contents.RecipeContents.{RecipeContents}
 use Rattle.checkpoints.specs.Checkpoint.{state_of}
@@ -47,7 +47,8 @@ NamesAnotherBase base text = IsTrue (is_of_other_base (base_digest base) text)
 abbrev pub save_relative : SaveText → DeltaText → SaveText
 save_relative base delta = record { recipe = base.recipe; inputs = base.inputs; stages = delta.stages; state = delta.state }
 
--- what becomes of a text beside the save of its base: first whether it names another base, then its form, then whether it is a place
+-- what becomes of a text beside the save of its base: first whether it names another base, then its form, then whether it is a place. Memory may be
+-- wanting only where it names this base and has the form
 abbrev pub GoesOnRelative : RecipeContents → SaveText → List ℕ → Result Position DeltaRefusal → Type 0
 GoesOnRelative recipe base text (Ok p) =
     ¬ (NamesAnotherBase base text)
@@ -56,7 +57,7 @@ GoesOnRelative recipe base text (Err OtherBase) = NamesAnotherBase base text
 GoesOnRelative recipe base text (Err (Form offset)) = ¬ (NamesAnotherBase base text) × (parsed_delta base text ≡ Err offset)
 GoesOnRelative recipe base text (Err State) =
     ¬ (NamesAnotherBase base text) × (delta : DeltaText) × (parsed_delta base text ≡ Ok delta) × ¬ (IsSavedPlace recipe (save_relative base delta))
-GoesOnRelative recipe base text (Err OutOfMemory) = Unit {0}
+GoesOnRelative recipe base text (Err OutOfMemory) = ¬ (NamesAnotherBase base text) × IsOk (parsed_delta base text)
 GoesOnRelative recipe base text (Err (Base refusal)) = ⊥
 
 -- what becomes of a base and a text: the base is judged first and whole, as a save is; it is never refused for want of memory, which comes only

@@ -1,18 +1,19 @@
 //! The place in an audit that a text says beside its base.
 
 ghost use Rattle.std.specs.Prelude.{◌≡◌, IfOk, Ok};
-ghost use Rattle.audit_run.specs.Delta.Deltas.{GoesOnRelative, HasDelta, IsBaseAt, IsResumedRelativeAs, ResumesRelative, delta_refusal_number, delta_text_of};
+ghost use Rattle.audit_run.specs.Delta.Deltas.{base_digest, GoesOnRelative, HasDelta, IsBaseAt, IsResumedRelativeAs, ResumesRelative, delta_refusal_number, delta_text_of};
 ghost use Rattle.audit_run.specs.Delta.Inside.Judging.{JudgesBase};
 ghost use Rattle.audit_run.specs.Save.Saves.{Resumes};
 ghost use Rattle.guest_run.specs.Valid.{IsValid};
 ghost use Rattle.recipe.specs.Kept.{IsRecipe};
 ghost use Rattle.save_format.specs.Seen.{save_view};
-ghost use Rattle.save_format.specs.Spelled.{IsSaveText, IsTextOfSave};
+ghost use Rattle.save_format.specs.Spelled.{IsSaveText};
 ghost use Rattle.audit_rules.specs.Positions.{Position};
 ghost use Rattle.audit_rules.specs.Valid.{IsInputs, IsPosition};
 
 use crate::delta::base::{digest_of, known_of};
 use crate::save::{Resumed, SaveRefusal, place_of};
+use ddc_base::digests::Digest;
 use ddc_base::{Bytes, OutOfMemory};
 use recipe::Recipe;
 use save_format::Parts;
@@ -96,7 +97,8 @@ fn judged(
     recipe.show_rules();
     judge_base(alloc, recipe, inputs, base)?;
     let known = known_of(alloc, base)?;
-    relative(alloc, recipe, known, base, text)
+    let digest = digest_of(alloc, &known, base)?;
+    relative(alloc, recipe, known, &digest, text)
 }
 
 /// Judges the base as a save is judged. The guest that is made of it is let go before another is made.
@@ -118,21 +120,20 @@ fn judge_base(
     }
 }
 
-/// The place that a text says beside what a base says.
+/// The place that a text says beside what a base of this digest says. Want of memory hides neither that it names another base, nor its form.
 fn relative<'a>(
     alloc: Global,
     recipe: &Recipe,
     known: Parts<'a>,
-    base: &'a [u8],
+    base: &Digest,
     text: &'a [u8],
 ) -> Result<Resumed, DeltaRefusal>
     requires text { IsSaveText (save_view known) }
-    requires spelled { IsTextOfSave (save_view known) base.now }
+    requires named { base.now ≡ base_digest (save_view known) }
     ensures goes { GoesOnRelative recipe.now (save_view known.entry) text.now result }
     ensures valid { IfOk result (λ p. IsValid p.at) }
 {
-    let digest = digest_of(alloc, &known, base)?;
-    if names_other_base(&digest, text) {
+    if names_other_base(base, text) {
         return Err(DeltaRefusal::OtherBase);
     }
     let parts = match delta_text::read(alloc, known, text) {

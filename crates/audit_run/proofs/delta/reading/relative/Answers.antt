@@ -11,7 +11,7 @@ pub returns-in-Ok-place_of-clause-goes : goal.returns-in-Ok-place_of-clause-goes
 returns-in-Ok-place_of-clause-goes c =
     let stands = c.in-Ok-place_of.ensures.stands c.args.known.recipe (map input_view c.args.known.inputs.items) in (
       λ other.
-          let none : false ≡ true = c.if-names_other_base.ensures ∙ ap (λ (digest : Digest). is_of_other_base digest c.args.text.now) c.in_ok-digest.ensures ∙ other in
+          let none : false ≡ true = c.if-names_other_base.ensures ∙ ap (λ (digest : Digest). is_of_other_base digest c.args.text.now) c.requires.named ∙ other in
           absurd cc,
       delta_view c.in-Ok.parts,
       c.in-Ok.ensures.exact,
@@ -32,7 +32,7 @@ unreachable-requires-in-Err-OtherRecipe c =
 pub returns-in-Err-State-clause-goes : goal.returns-in-Err-State-clause-goes
 returns-in-Err-State-clause-goes c = (
   λ other.
-      let none : false ≡ true = c.if-names_other_base.ensures ∙ ap (λ (digest : Digest). is_of_other_base digest c.args.text.now) c.in_ok-digest.ensures ∙ other in
+      let none : false ≡ true = c.if-names_other_base.ensures ∙ ap (λ (digest : Digest). is_of_other_base digest c.args.text.now) c.requires.named ∙ other in
       absurd cc,
   delta_view c.in-Ok.parts,
   c.in-Ok.ensures.exact,
