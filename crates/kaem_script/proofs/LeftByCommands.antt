@@ -12,7 +12,7 @@ use Rattle.kaem_script.specs.declared.cause.CommandCause.{CommandCause}
 use Rattle.kaem_script.specs.declared.cause.CommandCause.TheVariants as cause
 use Rattle.kaem_script.specs.declared.leaving.CommandLeft.{CommandLeft}
 use Rattle.kaem_script.specs.Fold.{CommandResult, Folded, Ran, RanAll, Stopped, after_command, by_first_end, by_program, by_started, by_status, command, command_box, fold_from, folded, program_name}
-use Rattle.kaem_script.specs.Leaving.{IsLast, LeftResult, StopsThere, command_left, left_after, left_by_program, left_by_start, left_of_command, result_by_cause, result_of, run_left, run_left_by}
+use Rattle.kaem_script.specs.Leaving.{IsLast, LeftResult, StopsThere, command_left, after_earlier, left_by_program, left_by_start, left_of_command, result_by_cause, result_of, end_of_run, end_of_run_by}
 use Rattle.std.specs.Prelude.{IfOk}
 use Rattle.kaem_script.specs.Inside.Commands.{Finishes, LeavesOver}
 use Rattle.kaem_script.specs.Wants.{FirstHasProgram, HasProgram, WantsAt}
@@ -21,14 +21,14 @@ use Rattle.kaem_script.proofs.Folding.{further, length-ran}
 
 -- ---- one command
 
-by_end : (most : ℕ) (guest : GuestState) (end : Option (End × GuestState)) → by_first_end most end ≡ result_of (Ok (run_left_by guest most end))
+by_end : (most : ℕ) (guest : GuestState) (end : Option (End × GuestState)) → by_first_end most end ≡ result_of (Ok (end_of_run_by guest most end))
 by_end most guest None = refl
 by_end most guest (Some (Exited status, last)) = refl
 by_end most guest (Some (Trapped why, last)) = refl
 by_end most guest (Some (UnknownCall number, last)) = refl
 
 by_start : (most number : ℕ) (start : Result GuestState Refusal) → by_started most start ≡ result_of (left_by_start most number start)
-unfolding run_left
+unfolding end_of_run
 by_start most number (Err (Elf refusal)) = refl
 by_start most number (Err ArgsTooLong) = refl
 by_start most number (Err BoxTooLarge) = refl
@@ -61,7 +61,7 @@ refused most number world words stop is = refused_by_program most number world w
 pub stopped_before : (most : ℕ) (world : World) (earlier : List (List (List ℕ))) (words : List (List ℕ)) (number : ℕ) (why : CommandCause) (step : ℕ)
     → folded most world earlier ≡ Stopped number why step → left_of_command most world earlier words ≡ Err (number, why, step)
 unfolding left_of_command
-stopped_before most world earlier words number why step is = ap (left_after most (length earlier + 1) words) is
+stopped_before most world earlier words number why step is = ap (after_earlier most (length earlier + 1) words) is
 
 -- commands that stop stay stopped, whatever follows them, and at one of them
 kept_one : (number least : ℕ) (found : CommandResult) (former latter : Ran → Folded) (at : ℕ) (why : CommandCause) (step : ℕ) → number ≤ least
@@ -190,7 +190,7 @@ module _ (most : ℕ) (world : World) (earlier : List (List (List ℕ))) (words 
   unfolding left_of_command
   stopped_here others why step is = by (folded most world earlier) refl
     where
-      by : (front : Folded) → folded most world earlier ≡ front → StopsThere (length earlier + 1) why step (left_after most (length earlier + 1) words front)
+      by : (front : Folded) → folded most world earlier ≡ front → StopsThere (length earlier + 1) why step (after_earlier most (length earlier + 1) words front)
       by (Stopped at cause before) same =
           let stays = kept_whole most world earlier (words ∷ others) at cause before same in
           let one = same_number at (length earlier + 1) cause why before step (sym stays.0 ∙ is) in
@@ -207,7 +207,7 @@ module _ (most : ℕ) (world : World) (earlier : List (List (List ℕ))) (words 
   unfolding left_of_command
   all_ran ran left is = by (folded most world earlier) refl
     where
-      by : (front : Folded) → folded most world earlier ≡ front → IsLast (left_after most (length earlier + 1) words front) ran left
+      by : (front : Folded) → folded most world earlier ≡ front → IsLast (after_earlier most (length earlier + 1) words front) ran left
       by (Stopped at cause before) same =
           let stays = kept_whole most world earlier (words ∷ []) at cause before same in
           not_both at cause before ran left (sym stays.0 ∙ is)
@@ -219,7 +219,7 @@ module _ (most : ℕ) (world : World) (earlier : List (List (List ℕ))) (words 
 pub left_here : (most : ℕ) (world left : World) (earlier : List (List (List ℕ))) (words : List (List ℕ)) (lines : List CommandLine)
     → Finishes (folded most world earlier) lines left → left_of_command most world earlier words ≡ command_left most (length earlier + 1) left words
 unfolding left_of_command
-left_here most world left earlier words lines finished = ap (left_after most (length earlier + 1) words) finished.is
+left_here most world left earlier words lines finished = ap (after_earlier most (length earlier + 1) words) finished.is
 
 pub ran_over : {E : Type 0} (meant : LeftResult) (number : ℕ) (left : CommandLeft) (result : Result (Result CommandLeft CommandCause) E) → meant ≡ Ok left
     → IfOk result (λ found. found ≡ Ok left) → IfOk result (LeavesOver meant number)

@@ -28,7 +28,7 @@ use Rattle.kaem_script.specs.declared.cause.CommandCause.TheVariants as cause
 use Rattle.kaem_script.specs.Fold.{command_box, by_first_end, by_program, by_started, command, program_name}
 use Rattle.kaem_script.specs.Inside.Commands.{renewed, texts_of}
 use Rattle.kaem_script.specs.Kept.{IsCommand, IsWord}
-use Rattle.kaem_script.specs.Leaving.{command_left, left_by_program, left_by_start, run_left}
+use Rattle.kaem_script.specs.Leaving.{command_left, left_by_program, left_by_start, end_of_run}
 use Rattle.kaem_script.specs.Wants.{HasProgram}
 
 -- ---- the texts of a command fit
@@ -176,7 +176,7 @@ command-without most w words none = ap (by_program most w words) none
 
 pub left-starts : (most number : ℕ) (w : World) (words : List (List ℕ)) (program : List ℕ) (guest : GuestState) → IsSound w → IsCommand words
     → content_at w (program_name words) ≡ Some program → start_of program (texts_of words) ≡ Ok guest
-    → command_left most number w words ≡ Ok (run_left (record guest { world = renewed w }) most)
+    → command_left most number w words ≡ Ok (end_of_run (record guest { world = renewed w }) most)
 unfolding command_left
 left-starts most number w words program guest sound is there without =
     ap (left_by_program most number w words) there ∙ ap (left_by_start most number) (starts program w words guest sound is without)

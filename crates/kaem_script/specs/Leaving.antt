@@ -20,12 +20,12 @@ end_cause (Trapped why) = cause.Trap why
 end_cause (UnknownCall number) = cause.Call number
 
 -- the first end within so many steps, which comes in the step that follows the state; else the steps are spent, and what stands after them
-abbrev pub run_left_by : GuestState → ℕ → Option (End × GuestState) → CommandLeft
-run_left_by start most (Some (end, guest)) = record { cause = end_cause end; step = guest.steps + 1; files = guest.world }
-run_left_by start most None = record { cause = cause.Spent; step = most; files = (unwrap_or (after start most) start).world }
+abbrev pub end_of_run_by : GuestState → ℕ → Option (End × GuestState) → CommandLeft
+end_of_run_by start most (Some (end, guest)) = record { cause = end_cause end; step = guest.steps + 1; files = guest.world }
+end_of_run_by start most None = record { cause = cause.Spent; step = most; files = (unwrap_or (after start most) start).world }
 
-unfoldable pub run_left : GuestState → ℕ → CommandLeft
-run_left start most = run_left_by start most (first_end start most)
+unfoldable pub end_of_run : GuestState → ℕ → CommandLeft
+end_of_run start most = end_of_run_by start most (first_end start most)
 
 -- what a command comes to: what it left; or the command of this number, from 1, which stops the script for a cause, at a step
 abbrev pub LeftResult : Type 0
@@ -34,7 +34,7 @@ LeftResult = Result CommandLeft (ℕ × CommandCause × ℕ)
 -- a program that does not start leaves nothing: its command, of this number, stops the script at step 0
 abbrev pub left_by_start : ℕ → ℕ → Result GuestState Refusal → LeftResult
 left_by_start most number (Err refusal) = Err (number, refused_start refusal, 0)
-left_by_start most number (Ok guest) = Ok (run_left guest most)
+left_by_start most number (Ok guest) = Ok (end_of_run guest most)
 
 abbrev pub left_by_program : ℕ → ℕ → World → List (List ℕ) → Option (List ℕ) → LeftResult
 left_by_program most number world words None = Err (number, cause.NoProgram, 0)
@@ -45,19 +45,19 @@ unfoldable pub command_left : ℕ → ℕ → World → List (List ℕ) → Left
 command_left most number world words = left_by_program most number world words (content_at world (program_name words))
 
 -- the command after those before it, one of which may stop the script
-abbrev pub left_after : ℕ → ℕ → List (List ℕ) → Folded → LeftResult
-left_after most number words (RanAll ran world) = command_left most number world words
-left_after most number words (Stopped earlier why step) = Err (earlier, why, step)
+abbrev pub after_earlier : ℕ → ℕ → List (List ℕ) → Folded → LeftResult
+after_earlier most number words (RanAll ran world) = command_left most number world words
+after_earlier most number words (Stopped earlier why step) = Err (earlier, why, step)
 
 -- the command that follows these, the first of which is given these files
 unfoldable pub left_of_command : ℕ → World → List (List (List ℕ)) → List (List ℕ) → LeftResult
-left_of_command most world earlier words = left_after most (length earlier + 1) words (folded most world earlier)
+left_of_command most world earlier words = after_earlier most (length earlier + 1) words (folded most world earlier)
 
 -- what a call answered: what the command comes to, or memory was wanting
-abbrev pub Leaves : LeftResult → CommandEnd → Type 0
-Leaves meant (Left left) = meant ≡ Ok left
-Leaves meant (Failed number why step) = meant ≡ Err (number, why, step)
-Leaves meant (OutOfMemory number) = Unit {0}
+abbrev pub SaysLeft : LeftResult → CommandEnd → Type 0
+SaysLeft meant (Left left) = meant ≡ Ok left
+SaysLeft meant (Failed number why step) = meant ≡ Err (number, why, step)
+SaysLeft meant (OutOfMemory number) = Unit {0}
 
 -- a fact on the number at which memory was wanting
 abbrev pub OnCommandWant : CommandEnd → (ℕ → Type 0) → Type 0

@@ -3,7 +3,7 @@
 ghost use Rattle.guest_run.specs.Run.{first_end};
 ghost use Rattle.kaem_script.specs.Inside.Commands.{LeavesOver, UnlessStopped, renewed, world_in};
 ghost use Rattle.kaem_script.specs.Kept.{AreCommands, IsCommand};
-ghost use Rattle.kaem_script.specs.Leaving.{Leaves, OnCommandWant, command_left, left_of_command, run_left};
+ghost use Rattle.kaem_script.specs.Leaving.{SaysLeft, OnCommandWant, command_left, left_of_command, end_of_run};
 ghost use Rattle.kaem_script.specs.Wants.{HasProgram, WantsAt};
 ghost use Rattle.std.specs.Prelude.{◌≡◌, ◌∷◌, ◌++◌, ◌≤◌, ◌^◌, [], ℕ, IfOk, length};
 
@@ -57,7 +57,7 @@ pub fn left(
     requires few { most ≤ 2 ^ 48 }
     requires earlier { AreCommands earlier.now }
     requires command { IsCommand command.now }
-    ensures answer { Leaves (left_of_command most files.now.world earlier.now command.now) result }
+    ensures answer { SaysLeft (left_of_command most files.now.world earlier.now command.now) result }
     ensures memory { OnCommandWant result (WantsAt most files.now.world (earlier.now ++ command.now ∷ [])) }
 {
     match fold(alloc, earlier, files.files(), most) {
@@ -111,7 +111,7 @@ fn run_over(
     requires fresh { guest.steps ≡ 0 }
     requires some { 1 ≤ most }
     requires few { most ≤ 2 ^ 48 }
-    ensures { IfOk result (λ left. left ≡ Ok (run_left (record guest { world = renewed (world_in present.entry) }) most)) }
+    ensures { IfOk result (λ left. left ≡ Ok (end_of_run (record guest { world = renewed (world_in present.entry) }) most)) }
 {
     let files = renewed(alloc, present)?;
     let left = run_out(guest.with_files(files), most)?;
@@ -123,7 +123,7 @@ fn run_out(guest: Guest<RunRam>, most: u64) -> Result<CommandLeft, OutOfMemory>
     requires fresh { guest.steps ≡ 0 }
     requires some { 1 ≤ most }
     requires few { most ≤ 2 ^ 48 }
-    ensures { IfOk result (λ left. left ≡ run_left guest most) }
+    ensures { IfOk result (λ left. left ≡ end_of_run guest most) }
 {
     let mut guest = guest;
     let (cause, step) = end_of(&mut guest, most)?;
@@ -135,12 +135,12 @@ fn run_out(guest: Guest<RunRam>, most: u64) -> Result<CommandLeft, OutOfMemory>
 }
 
 /// How a run of at most so many steps ends: the cause and the step.
-#[tactic(auto, unfolding(crate::specs::Leaving::run_left))]
+#[tactic(auto, unfolding(crate::specs::Leaving::end_of_run))]
 fn end_of(guest: &mut Guest<RunRam>, most: u64) -> Result<(CommandCause, u64), OutOfMemory>
     requires fresh { guest.old.steps ≡ 0 }
     requires some { 1 ≤ most }
     requires few { most ≤ 2 ^ 48 }
-    ensures { IfOk result (λ end. run_left guest.old most ≡ record { cause = end.0; step = end.1; files = guest.new.world }) }
+    ensures { IfOk result (λ end. end_of_run guest.old most ≡ record { cause = end.0; step = end.1; files = guest.new.world }) }
 {
     match guest.run(most) {
         RunEnd::Exited(status) => Ok((CommandCause::Status(status), guest.steps() + 1)),

@@ -21,13 +21,13 @@ use Rattle.tool_commands.specs.declared.words.KaemLeftWords.{KaemLeftWords}
 -- ---- what is answered
 
 -- an exit answers the question with any status, and no other end does
-abbrev pub left_status : CommandCause → Status
-left_status (cause.Status status) = Yes
-left_status _ = RunFailed
+abbrev pub command_left_status : CommandCause → Status
+command_left_status (cause.Status status) = Yes
+command_left_status _ = RunFailed
 
-abbrev pub absent_status : CommandCause → Status
-absent_status (cause.Status status) = FileRefused
-absent_status _ = RunFailed
+abbrev pub command_absent_status : CommandCause → Status
+command_absent_status (cause.Status status) = FileRefused
+command_absent_status _ = RunFailed
 
 -- how the run of the command of this number ended, after what it left, or did not leave
 unfoldable pub command_left_line : ℕ → List ℕ → ℕ → CommandCause → ℕ → List ℕ
@@ -41,16 +41,16 @@ command_none_left_line number file why step =
 -- what stands there is saved, and then the end is said; where nothing does, nothing is saved
 abbrev pub saved_by : ℕ → List ℕ → List ℕ → CommandLeft → Option (List ℕ) → Plan
 saved_by number file out left (Some content) =
-    sets out content (answers (left_status left.cause) (command_left_line number file (length content) left.cause left.step))
-saved_by number file out left None = answers (absent_status left.cause) (command_none_left_line number file left.cause left.step)
+    sets out content (answers (command_left_status left.cause) (command_left_line number file (length content) left.cause left.step))
+saved_by number file out left None = answers (command_absent_status left.cause) (command_none_left_line number file left.cause left.step)
 
-unfoldable pub saved_left : ℕ → List ℕ → List ℕ → CommandLeft → Plan
-saved_left number file out left = saved_by number file out left (bytes_left_at left.files file)
+unfoldable pub command_saved_left : ℕ → List ℕ → List ℕ → CommandLeft → Plan
+command_saved_left number file out left = saved_by number file out left (bytes_left_at left.files file)
 
 -- the command left something, or a command stopped the script: an earlier one, or this one, whose program does not start
-abbrev pub left_plan : ℕ → List ℕ → List ℕ → LeftResult → Plan
-left_plan number file out (Ok left) = saved_left number file out left
-left_plan number file out (Err stop) = answers RunFailed (command_failed_line stop.0 stop.1 stop.2)
+abbrev pub command_left_plan : ℕ → List ℕ → List ℕ → LeftResult → Plan
+command_left_plan number file out (Ok left) = command_saved_left number file out left
+command_left_plan number file out (Err stop) = answers RunFailed (command_failed_line stop.0 stop.1 stop.2)
 
 -- ---- the words
 
@@ -81,7 +81,7 @@ kaem_left_files words =
     needs_list file_line 4_096 words.list (λ names.
     needs_unlisted names words.wanted.out (λ _.
     needs_files names (λ listed.
-    left_plan words.command words.wanted.file words.wanted.out
+    command_left_plan words.command words.wanted.file words.wanted.out
     (left_of_command words.steps listed.world (take (words.command - 1) said.commands) command))))))
 
 -- the words after `kaem-left`

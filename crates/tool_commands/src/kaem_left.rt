@@ -7,7 +7,7 @@ ghost use Rattle.kaem_script.specs.Leaving.{left_of_command};
 ghost use Rattle.command_plan.specs.Performs.{Performs};
 ghost use Rattle.command_plan.specs.Words.{or_usage};
 ghost use Rattle.tool_commands.specs.Inside.Listing.{needs_unlisted_words};
-ghost use Rattle.tool_commands.specs.KaemLeft.{absent_status, kaem_left_files, kaem_left_plan, left_plan, left_status, saved_left};
+ghost use Rattle.tool_commands.specs.KaemLeft.{command_absent_status, kaem_left_files, kaem_left_plan, command_left_plan, command_left_status, command_saved_left};
 ghost use Rattle.tool_commands.specs.Scripts.{needs_files};
 
 use crate::guest_file::bytes_left_at;
@@ -51,7 +51,7 @@ fn find<S: Shelf>(
 ) -> Result<Answer, Stop>
     ensures { Performs (or_usage (slice_get script.now.commands (words.now.command - 1)) (λ command.
         needs_unlisted_words words.now.list words.now.wanted.out (λ names. needs_files names (λ listed.
-        left_plan words.now.command words.now.wanted.file words.now.wanted.out
+        command_left_plan words.now.command words.now.wanted.file words.now.wanted.out
         (left_of_command words.now.steps listed.world (take (words.now.command - 1) script.now.commands) command)))))
         (S.state shelf.old) (S.state shelf.new) result }
 {
@@ -74,7 +74,7 @@ fn run<S: Shelf>(
     requires earlier { AreCommands earlier.now }
     requires command { IsCommand command.now }
     ensures { Performs (needs_unlisted_words words.now.list words.now.wanted.out (λ names. needs_files names (λ listed.
-        left_plan words.now.command words.now.wanted.file words.now.wanted.out (left_of_command words.now.steps listed.world earlier.now command.now))))
+        command_left_plan words.now.command words.now.wanted.file words.now.wanted.out (left_of_command words.now.steps listed.world earlier.now command.now))))
         (S.state shelf.old) (S.state shelf.new) result }
 {
     let names = fetch_unlisted(alloc, shelf, &words.list, &words.wanted.out)?;
@@ -91,14 +91,14 @@ fn run<S: Shelf>(
 }
 
 /// Saves what was left at FILE, and says how the run ended; where nothing was, it saves nothing.
-#[tactic(auto, unfolding(crate::specs::KaemLeft::saved_left))]
+#[tactic(auto, unfolding(crate::specs::KaemLeft::command_saved_left))]
 fn save<S: Shelf>(
     alloc: Global,
     shelf: &mut S,
     left: &CommandLeft,
     words: &KaemLeftWords<'_>,
 ) -> Result<Answer, Stop>
-    ensures { Performs (saved_left words.now.command words.now.wanted.file words.now.wanted.out left.now) (S.state shelf.old) (S.state shelf.new) result }
+    ensures { Performs (command_saved_left words.now.command words.now.wanted.file words.now.wanted.out left.now) (S.state shelf.old) (S.state shelf.new) result }
 {
     let file = words.wanted.file.text();
     let number = words.command.number();
@@ -106,21 +106,21 @@ fn save<S: Shelf>(
     match bytes_left_at(&left.files, &words.wanted.file) {
         Some(content) => {
             let answer = Answer {
-                status: left_status(left.cause),
+                status: command_left_status(left.cause),
                 text: script_texts::left(alloc, number, file, content.len() as u64, end)?,
             };
             keep(alloc, shelf, &words.wanted.out, content, answer)
         }
         None => Ok(Answer {
-            status: absent_status(left.cause),
+            status: command_absent_status(left.cause),
             text: script_texts::not_left(alloc, number, file, end)?,
         }),
     }
 }
 
 /// The status where FILE was left.
-fn left_status(cause: CommandCause) -> Status
-    ensures { result ≡ left_status cause }
+fn command_left_status(cause: CommandCause) -> Status
+    ensures { result ≡ command_left_status cause }
 {
     match cause {
         CommandCause::Status(_) => Status::Yes,
@@ -129,8 +129,8 @@ fn left_status(cause: CommandCause) -> Status
 }
 
 /// The status where it was not.
-fn absent_status(cause: CommandCause) -> Status
-    ensures { result ≡ absent_status cause }
+fn command_absent_status(cause: CommandCause) -> Status
+    ensures { result ≡ command_absent_status cause }
 {
     match cause {
         CommandCause::Status(_) => Status::FileRefused,

@@ -17,7 +17,7 @@ use Rattle.kaem_script.specs.declared.present.Present.TheVariants.{Given, Left}
 use Rattle.kaem_script.specs.declared.fold.Folding.{Folding}
 use Rattle.kaem_script.specs.declared.fold.Folding.TheVariants as fold
 use Rattle.kaem_script.specs.Fold.{CommandResult, RanAll, Folded, Ran, Stopped, by_first_end, command}
-use Rattle.kaem_script.specs.Leaving.{LeftResult, command_left, run_left}
+use Rattle.kaem_script.specs.Leaving.{LeftResult, command_left, end_of_run}
 use Rattle.kaem_script.specs.Reported.{command_line}
 use Rattle.kaem_script.specs.declared.leaving.CommandLeft.{CommandLeft}
 
@@ -41,7 +41,7 @@ Begins world words most (Err why) = command most world words ≡ Err (why, 0)
 
 -- what a command leaves, by the guest that its program starts as, without files, or why that does not start
 abbrev pub BeginsLeft : World → List (List ℕ) → ℕ → ℕ → Result GuestState CommandCause → Type 0
-BeginsLeft world words most number (Ok guest) = command_left most number world words ≡ Ok (run_left (record guest { world = renewed world }) most)
+BeginsLeft world words most number (Ok guest) = command_left most number world words ≡ Ok (end_of_run (record guest { world = renewed world }) most)
 BeginsLeft world words most number (Err why) = command_left most number world words ≡ Err (number, why, 0)
 
 abbrev pub LeavesOver : LeftResult → ℕ → Result CommandLeft CommandCause → Type 0
