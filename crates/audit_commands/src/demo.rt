@@ -35,8 +35,8 @@ const MOST_BYTES: u64 = 16_777_216;
 #[tactic(auto, using(command_plan::proofs::Performing::performing))]
 pub fn perform<M: Meaning, S: Shelf>(
     alloc: Global,
-    words: &[&str],
     shelf: &mut S,
+    words: &[&str],
 ) -> Result<Answer, Stop>
     ensures { Performs (demo_plan (map (λ w. w.now) words.now)) (S.state shelf.old) (S.state shelf.new) result }
 {

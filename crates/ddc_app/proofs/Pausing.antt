@@ -64,10 +64,10 @@ module _ (next : ℕ → NamedFiles → Outcome) (Stands : ℕ → Outcome → T
   further goes (steps ∷ counts) are total piece stands = elim (goes total piece stands) [
     | inl over ↦ subst (Stands (fold (λ a x. a + x) (total + steps) counts)) (sym (stays_over next piece (steps ∷ counts) over.0)) (over.1 (fold (λ a x. a + x) (total + steps) counts))
     | inr on ↦ (
-      let later = next steps piece.files in
-      subst (λ (s : Status). Stands (fold (λ a x. a + x) (total + steps) counts) (cond (is_paused s) (in_turn next later counts) piece)) (sym on.0)
-      (further goes counts (All-tail IsStepCount steps counts are) (total + steps) later (on.1 steps (All-head IsStepCount steps counts are)))
-    )
+        let later = next steps piece.files in
+        subst (λ (s : Status). Stands (fold (λ a x. a + x) (total + steps) counts) (cond (is_paused s) (in_turn next later counts) piece)) (sym on.0)
+        (further goes counts (All-tail IsStepCount steps counts are) (total + steps) later (on.1 steps (All-head IsStepCount steps counts are)))
+        )
   ]
 
 module _ (recipe save report : List ℕ) (c : Case recipe save report) (first : NamedFiles) (given : IsInputs c.said c.inputs) where
@@ -79,10 +79,13 @@ module _ (recipe save report : List ℕ) (c : Case recipe save report) (first : 
 
   goes_on : (total : ℕ) (piece : Outcome) → Stood total piece → GoesOn (resume recipe save report) Stood total piece
   goes_on total piece (inr e) = inl (e.not_paused, λ n. inr e)
-  goes_on total piece (inl p) = inr (p.status, λ steps counted.
-      let comes = resumes_at recipe save report c piece.files given p.holds total p.place p.stands p.kept_held steps counted in
-      subst (Stood (total + steps)) (sym comes)
-      (settles recipe save report c first piece.files p.holds p.same_report kept (total + steps) (position c.said c.inputs (total + steps)) refl))
+  goes_on total piece (inl p) = inr (
+    p.status,
+    λ steps counted.
+        let comes = resumes_at recipe save report c piece.files given p.holds total p.place p.stands p.kept_held steps counted in
+        subst (Stood (total + steps)) (sym comes)
+        (settles recipe save report c first piece.files p.holds p.same_report kept (total + steps) (position c.said c.inputs (total + steps)) refl),
+  )
 
 all_settle : (recipe save report : List ℕ) (steps : ℕ) (counts : List ℕ) (files : NamedFiles) (piece whole : Outcome) → All IsStepCount (steps ∷ counts)
     → (b : Begun recipe save report files steps piece whole) → IsInputs b.c.said b.c.inputs

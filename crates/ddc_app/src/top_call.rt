@@ -123,16 +123,16 @@ pub fn run<M: Meaning, S: Shelf, K: Sink, P: Prompt>(
 {
     verified::<M>();
     chained::<M>();
-    act::<M, S, K, P>(alloc, words, shelf, out, prompt)
+    act::<M, S, K, P>(alloc, shelf, out, prompt, words)
 }
 
 /// Hands over to `step`, which may begin a session, or to a command that says one text.
 fn act<M: Meaning, S: Shelf, K: Sink, P: Prompt>(
     alloc: Global,
-    words: &[&str],
     shelf: &mut S,
     out: &mut K,
     prompt: &mut P,
+    words: &[&str],
 ) -> Status
     ensures { Leaves (is_step (map (λ word. word.now) words.now)) (plan_for words.now)
         (outside (S.state shelf.old) (K.state out.old) (P.state prompt.old))
@@ -140,11 +140,11 @@ fn act<M: Meaning, S: Shelf, K: Sink, P: Prompt>(
 {
     match after_step(words) {
         Some(words) => {
-            let ended = step::perform(alloc, words, shelf, out, prompt);
+            let ended = step::perform(alloc, shelf, out, prompt, words);
             close(out, ended)
         }
         None => {
-            let ending = perform::<M, S>(alloc, words, shelf);
+            let ending = perform::<M, S>(alloc, shelf, words);
             conclude(out, ending)
         }
     }
@@ -166,8 +166,8 @@ fn after_step<'a, 'w>(words: &'a [&'w str]) -> Option<&'a [&'w str]>
 #[tactic(auto, using(command_plan::proofs::Performing::performing))]
 fn perform<M: Meaning, S: Shelf>(
     alloc: Global,
-    words: &[&str],
     shelf: &mut S,
+    words: &[&str],
 ) -> Result<Answer, Stop>
     ensures { Performs (text_plan (map (λ word. word.now) words.now)) (S.state shelf.old) (S.state shelf.new) result }
 {
@@ -175,28 +175,28 @@ fn perform<M: Meaning, S: Shelf>(
         return usage(alloc);
     };
     match *first {
-        "hex0" => hex0::perform(alloc, words, shelf),
-        "asm" => asm::perform(alloc, words, shelf),
-        "list" => list::perform(alloc, words, shelf),
-        "run" => run::perform(alloc, words, shelf),
-        "audit" => audit::perform(alloc, words, shelf),
-        "part" => part::perform(alloc, words, shelf),
-        "resume" => resume::perform(alloc, words, shelf),
-        "delta-start" => delta_start::perform(alloc, words, shelf),
-        "delta-resume" => delta_resume::perform(alloc, words, shelf),
-        "show" => show::perform(alloc, words, shelf),
-        "verify" => verify::perform::<M, S>(alloc, words, shelf),
-        "demo" => demo::perform::<M, S>(alloc, words, shelf),
-        "left" => left::perform(alloc, words, shelf),
-        "cut" => cut::perform(alloc, words, shelf),
-        "segment" => segment::perform(alloc, words, shelf),
-        "ends" => ends::perform(alloc, words, shelf),
-        "chain" => chain::perform(alloc, words, shelf),
-        "kaem" => kaem::perform(alloc, words, shelf),
-        "kaem-verify" => kaem_verify::perform(alloc, words, shelf),
-        "kaem-left" => kaem_left::perform(alloc, words, shelf),
-        "rests" => rests::perform(alloc, words, shelf),
-        "where" => refusal_place::perform(alloc, words, shelf),
+        "hex0" => hex0::perform(alloc, shelf, words),
+        "asm" => asm::perform(alloc, shelf, words),
+        "list" => list::perform(alloc, shelf, words),
+        "run" => run::perform(alloc, shelf, words),
+        "audit" => audit::perform(alloc, shelf, words),
+        "part" => part::perform(alloc, shelf, words),
+        "resume" => resume::perform(alloc, shelf, words),
+        "delta-start" => delta_start::perform(alloc, shelf, words),
+        "delta-resume" => delta_resume::perform(alloc, shelf, words),
+        "show" => show::perform(alloc, shelf, words),
+        "verify" => verify::perform::<M, S>(alloc, shelf, words),
+        "demo" => demo::perform::<M, S>(alloc, shelf, words),
+        "left" => left::perform(alloc, shelf, words),
+        "cut" => cut::perform(alloc, shelf, words),
+        "segment" => segment::perform(alloc, shelf, words),
+        "ends" => ends::perform(alloc, shelf, words),
+        "chain" => chain::perform(alloc, shelf, words),
+        "kaem" => kaem::perform(alloc, shelf, words),
+        "kaem-verify" => kaem_verify::perform(alloc, shelf, words),
+        "kaem-left" => kaem_left::perform(alloc, shelf, words),
+        "rests" => rests::perform(alloc, shelf, words),
+        "where" => refusal_place::perform(alloc, shelf, words),
         "help" => help::perform(alloc, words),
         "--help" => help::perform(alloc, words),
         "version" => version::perform(alloc, words),

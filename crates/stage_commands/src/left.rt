@@ -29,7 +29,7 @@ use std::alloc::Global;
 use tool_commands::guest_file::{Wanted, bytes_left_at};
 
 /// Performs the command on the words after its name.
-pub fn perform<S: Shelf>(alloc: Global, words: &[&str], shelf: &mut S) -> Result<Answer, Stop>
+pub fn perform<S: Shelf>(alloc: Global, shelf: &mut S, words: &[&str]) -> Result<Answer, Stop>
     ensures { Performs (left_plan (map (λ w. w.now) words.now)) (S.state shelf.old) (S.state shelf.new) result }
 {
     let Some(words) = LeftWords::read(words) else {

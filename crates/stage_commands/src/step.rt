@@ -39,10 +39,10 @@ const MOST_LINES: u32 = 65_536;
 /// Performs the command on the words after its name: the lines of the prompt are answered, unless the command ends before.
 pub fn perform<S: Shelf, K: Sink, P: Prompt>(
     alloc: Global,
-    words: &[&str],
     shelf: &mut S,
     out: &mut K,
     prompt: &mut P,
+    words: &[&str],
 ) -> Result<Result<(), PutFail>, Stop>
     ensures { PerformsTalk (step_plan (map (λ w. w.now) words.now)) (outside (S.state shelf.old) (K.state out.old) (P.state prompt.old))
         (outside (S.state shelf.new) (K.state out.new) (P.state prompt.new)) result }

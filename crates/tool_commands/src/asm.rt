@@ -19,7 +19,7 @@ use m1_lang::{M1Refusal, expand, write_items};
 use std::alloc::Global;
 
 /// Performs the command on the words after its name.
-pub fn perform<S: Shelf>(alloc: Global, words: &[&str], shelf: &mut S) -> Result<Answer, Stop>
+pub fn perform<S: Shelf>(alloc: Global, shelf: &mut S, words: &[&str]) -> Result<Answer, Stop>
     ensures { Performs (asm_plan (map (λ w. w.now) words.now)) (S.state shelf.old) (S.state shelf.new) result }
 {
     let Some(words) = AsmWords::read(words) else {

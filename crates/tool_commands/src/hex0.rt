@@ -13,7 +13,7 @@ use ddc_base::{Shelf, first_difference};
 use std::alloc::Global;
 
 /// Performs the command on the words after its name.
-pub fn perform<S: Shelf>(alloc: Global, words: &[&str], shelf: &mut S) -> Result<Answer, Stop>
+pub fn perform<S: Shelf>(alloc: Global, shelf: &mut S, words: &[&str]) -> Result<Answer, Stop>
     ensures { Performs (hex0_plan (map (λ w. w.now) words.now)) (S.state shelf.old) (S.state shelf.new) result }
 {
     let Some(words) = Hex0Words::read(words) else {

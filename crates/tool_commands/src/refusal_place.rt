@@ -61,7 +61,7 @@ fn number_of(word: &str) -> Option<u64>
 }
 
 /// Performs the command on the words after its name.
-pub fn perform<S: Shelf>(alloc: Global, words: &[&str], shelf: &mut S) -> Result<Answer, Stop>
+pub fn perform<S: Shelf>(alloc: Global, shelf: &mut S, words: &[&str]) -> Result<Answer, Stop>
     ensures { Performs (where_plan (map (λ w. w.now) words.now)) (S.state shelf.old) (S.state shelf.new) result }
 {
     let Some(words) = WhereWords::read(words) else {

@@ -20,7 +20,7 @@ use std::alloc::Global;
 const HEAP: u64 = 536_870_912;
 
 /// Performs the command on the words after its name.
-pub fn perform<S: Shelf>(alloc: Global, words: &[&str], shelf: &mut S) -> Result<Answer, Stop>
+pub fn perform<S: Shelf>(alloc: Global, shelf: &mut S, words: &[&str]) -> Result<Answer, Stop>
     ensures { Performs (run_plan (map (λ w. w.now) words.now)) (S.state shelf.old) (S.state shelf.new) result }
 {
     let Some(words) = RunWords::read(words) else {

@@ -24,8 +24,8 @@ use wheeler::Meaning;
 /// Performs the command on the words after its name. It does the same whatever sources mean.
 pub fn perform<M: Meaning, S: Shelf>(
     alloc: Global,
-    words: &[&str],
     shelf: &mut S,
+    words: &[&str],
 ) -> Result<Answer, Stop>
     ensures { Performs (verify_plan (map (λ w. w.now) words.now)) (S.state shelf.old) (S.state shelf.new) result }
 {
