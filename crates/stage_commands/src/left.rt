@@ -1,6 +1,6 @@
 //! `left RECIPE STAGE FILE OUT`: a stage's program is run, whatever it ends with, and what it left at one place is saved.
 
-ghost use Rattle.std.specs.Prelude.{◌≡◌, ◌+◌, ◌≤◌, ◌^◌, ℕ, IfOk, IfSome, List, Some, length, map, slice_get};
+ghost use Rattle.std.specs.Prelude.{◌≡◌, ◌+◌, ◌≤◌, ◌^◌, ℕ, IfOk, List, Some, length, map, slice_get};
 ghost use Rattle.recipe.specs.Kept.{IsRecipe};
 ghost use Rattle.audit_rules.specs.Stages.{contents, start_stage};
 ghost use Rattle.audit_rules.specs.Valid.{AreDone, IsInputs};
@@ -128,25 +128,25 @@ fn run_out<S: Shelf>(
 {
     let mut guest = guest;
     match end_of(&mut guest, stage.steps) {
-        Some(end) => save_left(alloc, shelf, &stage.name, guest.files(), end, wanted),
-        None => Err(Stop::OutOfMemory),
+        Ok(end) => save_left(alloc, shelf, &stage.name, guest.files(), end, wanted),
+        Err(OutOfMemory) => Err(Stop::OutOfMemory),
     }
 }
 
-/// How a run of at most so many steps ends: the cause and the step; `None` where memory is wanting.
+/// How a run of at most so many steps ends: the cause and the step.
 #[tactic(auto, unfolding(crate::specs::Left::run_left))]
-fn end_of(guest: &mut Guest<RunRam>, most: u64) -> Option<(RunCause, u64)>
+fn end_of(guest: &mut Guest<RunRam>, most: u64) -> Result<(RunCause, u64), OutOfMemory>
     requires fresh { guest.old.steps ≡ 0 }
     requires some { 1 ≤ most }
     requires few { most ≤ 2 ^ 48 }
-    ensures { IfSome result (λ end. run_left guest.old most ≡ record { cause = end.0; step = end.1; files = guest.new.world }) }
+    ensures { IfOk result (λ end. run_left guest.old most ≡ record { cause = end.0; step = end.1; files = guest.new.world }) }
 {
     match guest.run(most) {
-        RunEnd::Exited(status) => Some((RunCause::Status(status), guest.steps() + 1)),
-        RunEnd::Trapped(cause) => Some((RunCause::Trap(cause), guest.steps() + 1)),
-        RunEnd::UnknownCall(number) => Some((RunCause::Call(number), guest.steps() + 1)),
-        RunEnd::Spent => Some((RunCause::Spent, most)),
-        RunEnd::OutOfMemory => None,
+        RunEnd::Exited(status) => Ok((RunCause::Status(status), guest.steps() + 1)),
+        RunEnd::Trapped(cause) => Ok((RunCause::Trap(cause), guest.steps() + 1)),
+        RunEnd::UnknownCall(number) => Ok((RunCause::Call(number), guest.steps() + 1)),
+        RunEnd::Spent => Ok((RunCause::Spent, most)),
+        RunEnd::OutOfMemory => Err(OutOfMemory),
     }
 }
 
