@@ -1,12 +1,11 @@
-"""What the documents cite: paths, links with their headings, crates, and names of definitions beside a crate or a file."""
+"""What the documents cite: paths, links with their headings, crates, names of definitions beside a crate or a file, and clauses after their function."""
 import re
 from functools import cache
 
 from architecture import stands_on
 
-# What a benchmark makes and git ignores, and crates that are to come.
+# What a benchmark makes and git ignores.
 MADE = {"bench/work/"}
-PLANNED = {"kaem_script", "audit_chain"}
 ROOTED = re.compile(r"(?<![\w./*-])((?:crates|docs|tests|examples|bench|build|\.ci)/[\w./*-]*[\w*/])")
 FILE = re.compile(r"`((?:specs|src|proofs)/[\w/]+\.\w+|\w+\.(?:antt|rt))`")
 LINK = re.compile(r"\]\(([^)\s]+)\)")
@@ -14,6 +13,8 @@ QUOTED = r"`[\w-]+`"
 OF_CRATE = re.compile(rf"((?:{QUOTED}(?:, and |, | and | or ))*`[\w/.-]+`) of `([\w:]+)`")
 MEASURED = re.compile(r"^\|.*\| [\d.]+ \|")
 DAY = re.compile(r"\b20\d\d-\d\d-\d\d\b")
+CLAUSED = re.compile(r"`((?:\w+::)*\w+)` \(((?:`\w+`(?:, )?)+)\)")
+OF_ROW = re.compile(r"^\| \[(\w+)\]\(docs/PROMISES\.md#")
 IN_FILE = re.compile(rf"`(crates/[\w/]+\.(?:antt|rt))`((?:, {QUOTED}| and {QUOTED})+)")
 DEFINED = [
     r"\b(?:fn|struct|enum|trait|const|static|mod|type|macro_rules!|record|data|ensures|requires|ghost)\s+([\w-]+)",
@@ -126,7 +127,7 @@ def words(root):
     """Every word of the crates' sources and of what tests, examples and benchmarks are made of, and the names of their files."""
     files = [path for crate in stands_on(root) for path in sources(root, crate)]
     files += [path for folder in ("tests", "examples", "bench") for path in (root / folder).rglob("*")]
-    held = set(stands_on(root)) | PLANNED
+    held = set(stands_on(root))
     for path in files:
         if path.is_file() and path.suffix != ".md":
             held |= {path.stem, path.parent.name, *re.findall(r"\w+", path.read_text(errors="ignore"))}
@@ -140,6 +141,30 @@ def check_words(root, paragraph):
     for name in re.findall(r"`([a-z]\w*_\w+)`", paragraph):
         if name not in words(root):
             yield f"{name}: no such name anywhere"
+
+
+@cache
+def clauses(root, crate):
+    """The named clauses of a crate's functions, by the function's name."""
+    found = {}
+    for path in sorted((root / "crates" / crate / "src").rglob("*.rt")):
+        _, *functions = re.split(r"\bfn (?=\w)", path.read_text())
+        for function in functions:
+            name = re.match(r"\w+", function)[0]
+            found.setdefault(name, set()).update(re.findall(r"^\s+(?:ensures|requires) (\w+) \{", function, re.M))
+    return found
+
+
+def check_clauses(root, piece, crates):
+    """The clauses after a function: `crate::function` (`clause`, ..). In a row of README's table of crates the crate is the row's."""
+    row = OF_ROW.match(piece)
+    for cited, named in CLAUSED.findall(piece):
+        *path, function = cited.split("::")
+        crate = row.group(1) if row else path[0] if path else ""
+        held = clauses(root, crate).get(function) if crate in crates else None
+        for clause in re.findall(r"\w+", named) if row or held is not None else []:
+            if clause not in (held or ()):
+                yield f"{clause}: no such clause of {cited}"
 
 
 def check_headings(text, crates, root):
@@ -170,6 +195,7 @@ def faults(root):
         for piece in paragraphs(text):
             found += [*check_paths(root, piece), *check_files(root, piece, crates)]
             found += [*check_qualified(root, piece, crates)]
+            found += [] if is_log else [*check_clauses(root, piece, crates)]
             found += [] if is_of_tests or is_log else [*check_beside(root, piece, crates, is_proving)]
             found += [] if is_proving or is_of_tests or is_log else [*check_words(root, piece)]
         found += [*check_headings(text, crates, root)] if is_proving else []
