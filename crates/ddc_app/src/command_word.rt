@@ -161,26 +161,23 @@ impl CommandWord {
                 "saves under OUT the value of SOURCE in LANG (hex0, hex1, hex2) at the address BASE, of m1 the text of its items",
             CommandWord::Where =>
                 "says at which line, column and word of SOURCE a refusal of asm stands, by its number and its place",
-            CommandWord::List =>
-                "lists the words of BINARY, each with its value and its instruction",
+            CommandWord::List => "lists the words of BINARY with their values and instructions",
             CommandWord::Run =>
                 "runs PROGRAM within STEPS steps, and says how it ended and what it left",
             CommandWord::Audit => "makes the audit of RECIPE, and saves its report under REPORT",
             CommandWord::Part =>
                 "begins the audit of RECIPE by at most STEPS steps: its save is kept under SAVE, or its report under REPORT",
             CommandWord::Resume => "goes on with the audit from where SAVE stands",
-            CommandWord::DeltaStart =>
-                "goes on from the save BASE, and keeps under PATCH what differs from it",
+            CommandWord::DeltaStart => "goes on from BASE, and keeps under PATCH what differs",
             CommandWord::DeltaResume => "goes on from where BASE and PATCH stand",
             CommandWord::Show => "prints the report in REPORT, or says at which line it is none",
-            CommandWord::Verify =>
-                "replays the stages of RECIPE, and says whether every word of REPORT is true",
+            CommandWord::Verify => "replays the stages of RECIPE, and says whether REPORT is true",
             CommandWord::Chain =>
                 "replays the audits that LIST names, and says what remains to be believed of them together",
             CommandWord::Rests =>
                 "says what the artefact of STAGE rests on: texts, runs, and what has to be believed",
             CommandWord::Step =>
-                "answers lines from standard input on what the program of STAGE does",
+                "answers lines of standard input on what the program of STAGE does",
             CommandWord::Left => "runs STAGE, and saves under OUT what it left at FILE",
             CommandWord::Cut =>
                 "runs STAGE, and saves its state after every EVERY steps as PREFIX.0, PREFIX.1 and so on",
@@ -189,16 +186,14 @@ impl CommandWord {
                 "says whether PREFIX.0 is the start of STAGE, and how the run after the last of COUNT states ends",
             CommandWord::Kaem =>
                 "runs the commands of SCRIPT over the files that LIST names, and saves their report under REPORT",
-            CommandWord::KaemVerify =>
-                "replays these commands, and says whether every word of REPORT is true",
+            CommandWord::KaemVerify => "replays these commands, and says whether REPORT is true",
             CommandWord::KaemLeft =>
                 "runs these commands up to that of the number COMMAND, and saves under OUT what it left at FILE",
             CommandWord::Demo =>
                 "makes and verifies an audit of N bytes with copy.elf and copy.hex0, and saves nothing",
             CommandWord::Help =>
                 "lists the commands, or says of COMMAND what it answers, and with which statuses",
-            CommandWord::Version =>
-                "names this release of ddc, and the logic in which it is proved",
+            CommandWord::Version => "names this release of ddc, and the logic that proves it",
         }
     }
 
