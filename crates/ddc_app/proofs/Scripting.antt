@@ -1,8 +1,8 @@
 -- What the commands on scripts come to.
-use Rattle.std.proofs.Common.{◌≡◌, ℕ, ◌≤◌, ◌^◌, ◌↔◌, ◌&&◌, Bool, true, false, cond, IsTrue, Option, Some, None, Result, Ok, List, [], ◌∷◌, length, decimal, codes, refl, sym, ap, ◌∙◌, subst, arith, All, ◌<◌}
+use Rattle.std.proofs.Common.{◌≡◌, ◌≢◌, ℕ, ◌-◌, ◌≤◌, ◌^◌, ◌↔◌, ◌&&◌, Bool, true, false, cond, IsTrue, Option, Some, None, Result, Ok, Err, List, [], ◌∷◌, length, decimal, codes, refl, sym, ap, ◌∙◌, subst, arith, All, ◌<◌}
 use Rattle.std.specs.FinMap as finite
 use Rattle.std.specs.List.{list_any}
-use Rattle.std.specs.Prelude.{nat_le}
+use Rattle.std.specs.Prelude.{nat_le, slice_get, take}
 use Rattle.std.proofs.lemmas.Bool.{and_parts, leb-true}
 use Rattle.std.proofs.lemmas.List.{map-id}
 use Rattle.ddc_base.specs.Decimals.{as_decimal}
@@ -19,11 +19,15 @@ use Rattle.report.proofs.ScriptLemmas.Lengths.{short}
 use Rattle.report.proofs.LineByLine.Readings.{is_reading, read_its_text}
 use Rattle.report.proofs.ScriptLemmas.Readings.{script_rules}
 use Rattle.kaem_script.specs.declared.auditing.ScriptEnd.TheVariants.{Done}
+use Rattle.kaem_script.specs.declared.cause.CommandCause.{CommandCause}
+use Rattle.kaem_script.specs.declared.cause.CommandCause.TheVariants as cause
+use Rattle.kaem_script.specs.declared.leaving.CommandLeft.{CommandLeft}
 use Rattle.kaem_script.specs.declared.refusal.ScriptFault.{ScriptFault}
 use Rattle.kaem_script.specs.declared.verdict.ScriptPart.{ScriptPart}
 use Rattle.kaem_script.specs.Faults.{first_script_fault}
 use Rattle.kaem_script.specs.FilesListed.{FilesListed, IsList, no_files}
 use Rattle.kaem_script.specs.Fold.{Folded, Ran, RanAll, Stopped, folded}
+use Rattle.kaem_script.specs.Leaving.{LeftResult, left_of_command}
 use Rattle.kaem_script.specs.Reported.{script_ended, script_report}
 use Rattle.kaem_script.specs.Script.{ScriptContents}
 use Rattle.kaem_script.proofs.DoneReports.{done-report}
@@ -34,7 +38,9 @@ use Rattle.command_plan.specs.Lists.{list_of, needs_list}
 use Rattle.command_plan.specs.Plan.{LoadsBytes, Outcome, Plan, answers, needs, outcome, unless_refused}
 use Rattle.command_plan.specs.Texts.{list_line, report_line, usage_line}
 use Rattle.command_plan.specs.Words.{are_three_files, as_steps, is_one_file, or_usage, usage, within_steps}
+use Rattle.tool_commands.specs.GuestFiles.{as_guest_file, bytes_left_at}
 use Rattle.tool_commands.specs.Kaem.{folded_plan, kaem_files}
+use Rattle.tool_commands.specs.KaemLeft.{as_command_number, command_absent_status, command_left_plan, command_left_status, command_none_left_line, command_saved_left, kaem_left_files, kaem_left_of, kaem_left_words, saved_by}
 use Rattle.tool_commands.specs.KaemVerify.{kaem_verify_files, needs_script_report, script_verdict_plan}
 use Rattle.tool_commands.specs.Scripts.{and_files, file_line, needs_files, needs_script, needs_script_and_list, needs_unlisted, script_of}
 use Rattle.tool_commands.specs.ScriptTexts.{command_failed_line, commands_true_line, script_line}
@@ -44,7 +50,7 @@ use Rattle.ddc_app.specs.Accepting.{is_compared}
 use Rattle.ddc_app.specs.Commands.{plan_of}
 use Rattle.ddc_app.specs.Holding.{AreHeld}
 use Rattle.ddc_app.specs.Pausing.{IsStepCount}
-use Rattle.ddc_app.specs.Scripted.{ChangesReportAlone, HoldsScript, IsScriptTrue, ScriptReported, ScriptVerified, kaem, kaem_ended, kaem_verify}
+use Rattle.ddc_app.specs.Scripted.{ChangesOutAlone, ChangesReportAlone, HoldsScript, IsScriptTrue, ScriptReported, ScriptVerified, kaem, kaem_ended, kaem_left, kaem_verify}
 use Rattle.ddc_app.proofs.Beginnings.{three_apart}
 use Rattle.ddc_app.proofs.CountWords.{count-again}
 use Rattle.ddc_app.proofs.Loads.{as_many, follow_all, follows, found_again, held_small, is_loaded, loaded_contents, loads_bytes, other_held, set_held, within}
@@ -182,6 +188,40 @@ module _ (script list report : List ℕ) (files : NamedFiles) (P : Outcome → T
           report_keeps (loads said words) (λ text made held reads.
           files_keep are said words o (last said made) (λ listed holds. keeps said listed text made holds held reads)))
 
+  -- `kaem-left`, whose OUT stands for the report
+  abbrev Ends : Type 0
+  Ends = (number : ℕ) (place : List ℕ) (left : LeftResult) → Keeps (command_left_plan number place report left)
+
+  abbrev at_command : ℕ → ℕ → List ℕ → ScriptContents → List (List ℕ) → Plan
+  at_command most number place said words =
+      needs_list file_line 4_096 list (λ names. needs_unlisted names report (λ _. needs_files names (λ listed.
+      command_left_plan number place report (left_of_command most listed.world (take (number - 1) said.commands) words))))
+
+  command_keeps : Ends → (most number : ℕ) (place : List ℕ) (said : ScriptContents) (found : Option (List (List ℕ))) → Keeps (or_usage found (at_command most number place said))
+  unfolding needs_files
+  command_keeps keeps most number place said None = refused status.Usage usage_line (refl, refl)
+  command_keeps keeps most number place said (Some words) =
+      let found : FilesListed → LeftResult = λ listed. left_of_command most listed.world (take (number - 1) said.commands) words in
+      let last : FilesListed → Plan = λ listed. command_left_plan number place report (found listed) in
+      list_keeps (λ names. needs_unlisted names report (λ _. needs_files names last)) (λ text names held reads.
+      unlisted_keeps names (λ _. needs_files names last) (λ apart.
+      both_need_all First files refused 268_435_456 536_870_912 names (λ contents. last (and_files no_files names contents)) (λ contents. last (and_files no_files names contents))
+      (λ contents loads. keeps number place (found (and_files no_files names contents)))))
+
+  pub kaem_left_keeps : (steps command file : List ℕ) → Ends → Keeps (plan_of (codes "kaem-left" ∷ script ∷ list ∷ steps ∷ command ∷ file ∷ report ∷ []))
+  unfolding kaem_left_words
+  kaem_left_keeps steps command file keeps = by (are_three_files script list report) (as_steps steps) (as_command_number command) (as_guest_file file)
+    where
+      by : (three : Bool) (most number : Option ℕ) (place : Option (List ℕ))
+          → Keeps (or_usage (kaem_left_of (cond {A = Option (List ℕ × List ℕ × List ℕ)} three (Some (script, list, report)) None) most number place) kaem_left_files)
+      by true (Some most) (Some number) (Some place) =
+          script_keeps (λ said. or_usage (slice_get said.commands (number - 1)) (at_command most number place said))
+          (λ bytes said held reads. command_keeps keeps most number place said (slice_get said.commands (number - 1)))
+      by true (Some most) (Some number) None = refused status.Usage usage_line (refl, refl)
+      by true (Some most) None place = refused status.Usage usage_line (refl, refl)
+      by true None number place = refused status.Usage usage_line (refl, refl)
+      by false most number place = refused status.Usage usage_line (refl, refl)
+
 -- ---- what they leave
 
 module _ (script list report : List ℕ) (files : NamedFiles) where
@@ -211,6 +251,35 @@ module _ (script list report : List ℕ) (files : NamedFiles) where
   kaem_verify_leaves =
       kaem_verify_keeps script list report files (λ o. o.files ≡ files) (λ given text _. refl)
       (λ said listed text made holds held reads. by_verdict (length said.commands) (first_script_fault said listed made))
+
+  abbrev OutAlone : Outcome → Type 0
+  OutAlone = ChangesOutAlone report files
+
+  out_as_before : (given : Status) (text : List ℕ) → OutAlone (told files given text)
+  out_as_before given text = record { others = λ name other. refl; unless_left = λ no_yes no_failure. refl }
+
+  no_third : (why : CommandCause) → command_left_status why ≢ status.Yes → command_left_status why ≢ status.RunFailed → ⊥
+  no_third (cause.Status number) no_yes no_failure = no_yes refl
+  no_third cause.NoProgram no_yes no_failure = no_failure refl
+  no_third (cause.Elf refusal) no_yes no_failure = no_failure refl
+  no_third (cause.Trap trap) no_yes no_failure = no_failure refl
+  no_third (cause.Call call) no_yes no_failure = no_failure refl
+  no_third cause.Spent no_yes no_failure = no_failure refl
+
+  by_place : (number : ℕ) (place : List ℕ) (left : CommandLeft) (found : Option (List ℕ)) → OutAlone (outcome (saved_by number place report left found) files)
+  by_place number place left None = out_as_before (command_absent_status left.cause) (command_none_left_line number place left.cause left.step)
+  by_place number place left (Some content) = record {
+    others = λ name other. (others-insert files report content).others name other;
+    unless_left = λ no_yes no_failure. absurd (no_third left.cause no_yes no_failure);
+  }
+
+  by_left : (number : ℕ) (place : List ℕ) (left : LeftResult) → OutAlone (outcome (command_left_plan number place report left) files)
+  unfolding command_saved_left
+  by_left number place (Ok left) = by_place number place left (bytes_left_at left.files place)
+  by_left number place (Err stop) = out_as_before status.RunFailed (command_failed_line stop.0 stop.1 stop.2)
+
+  pub kaem_left_leaves : (steps command file : List ℕ) → ChangesOutAlone report files (kaem_left script list steps command file report files)
+  kaem_left_leaves steps command file = kaem_left_keeps script list report files OutAlone (λ given text _. out_as_before given text) steps command file by_left
 
 -- ---- where they come to a yes
 

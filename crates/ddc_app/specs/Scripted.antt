@@ -27,6 +27,10 @@ kaem script list report most files = outcome (plan_of (codes "kaem" ∷ script �
 abbrev pub kaem_verify : List ℕ → List ℕ → List ℕ → NamedFiles → Outcome
 kaem_verify script list report files = outcome (plan_of (codes "kaem-verify" ∷ script ∷ list ∷ report ∷ [])) files
 
+-- and `kaem-left`, of any words
+abbrev pub kaem_left : List ℕ → List ℕ → List ℕ → List ℕ → List ℕ → List ℕ → NamedFiles → Outcome
+kaem_left script list steps command file out files = outcome (plan_of (codes "kaem-left" ∷ script ∷ list ∷ steps ∷ command ∷ file ∷ out ∷ [])) files
+
 -- ---- what is asked of words and files
 
 -- three words for three files. The files hold a script that reads, a list that reads, none of whose words stands for the report's file, and
@@ -89,3 +93,8 @@ pub record ScriptReported (script list report steps : List ℕ) (files : NamedFi
 pub record ChangesReportAlone (report : List ℕ) (files : NamedFiles) (answer : Outcome) : Type 0 where
   pub others : (name : List ℕ) → name ≢ report → map.get answer.files name ≡ map.get files name
   pub unless_yes : answer.status ≢ Yes → answer.files ≡ files
+
+-- `kaem-left` leaves every name as it was but OUT, and that too unless it comes to a yes, or to a run that failed
+pub record ChangesOutAlone (out : List ℕ) (files : NamedFiles) (answer : Outcome) : Type 0 where
+  pub others : (name : List ℕ) → name ≢ out → map.get answer.files name ≡ map.get files name
+  pub unless_left : answer.status ≢ Yes → answer.status ≢ RunFailed → answer.files ≡ files

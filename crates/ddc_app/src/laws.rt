@@ -9,7 +9,7 @@ ghost use Rattle.ddc_app.specs.Commands.{plan_of};
 ghost use Rattle.ddc_app.specs.Differences.{AreDeltaWords, DeltaPieces, Differences, IsSavedRelative, LeavesAllBut, delta_resume, delta_start, in_differences};
 ghost use Rattle.ddc_app.specs.Judged.{HoldsReport};
 ghost use Rattle.ddc_app.specs.Pausing.{AreWords, IsStepCount, LeavesOthers, LeavesUnwritten, Pieces, IsSavedAt, in_pieces, part, resume};
-ghost use Rattle.ddc_app.specs.Scripted.{ChangesReportAlone, HoldsScript, IsScriptTrue, ScriptReported, ScriptVerified, kaem, kaem_ended, kaem_verify};
+ghost use Rattle.ddc_app.specs.Scripted.{ChangesOutAlone, ChangesReportAlone, HoldsScript, IsScriptTrue, ScriptReported, ScriptVerified, kaem, kaem_ended, kaem_left, kaem_verify};
 ghost use Rattle.ddc_app.specs.Verified.{Verified};
 ghost use Rattle.command_plan.specs.Plan.{LoadsBytes};
 ghost use Rattle.command_plan.specs.declared.status.Status.TheVariants.{Differs, Paused, Refuted, Yes};
@@ -226,10 +226,12 @@ pub fn scripts_accepted()
         → (kaem_verify script list report (kaem script list report steps files).files).text ≡ commands_true_line (length said.commands) }
 {}
 
-/// `kaem` changes no name but REPORT, and that only where it comes to 0; `kaem-verify` changes nothing. This holds whatever the files hold.
+/// `kaem` changes no name but REPORT, and that only where it comes to 0; `kaem-verify` changes nothing; `kaem-left` changes no name but OUT, and
+/// that only where it comes to 0 or says that a run failed. This holds whatever the files hold.
 pub fn scripts_leave_others()
     ensures report { (script list report : List ℕ) (steps : ℕ) (files : NamedFiles) → ChangesReportAlone report files (kaem script list report steps files) }
     ensures none { (script list report : List ℕ) (files : NamedFiles) → (kaem_verify script list report files).files ≡ files }
+    ensures out { (script list steps command file out : List ℕ) (files : NamedFiles) → ChangesOutAlone out files (kaem_left script list steps command file out files) }
 {}
 
 /// What `run` prints of a stream or of a file that is left is the line of a report, with the mark of its content.

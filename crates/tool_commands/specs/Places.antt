@@ -1,6 +1,6 @@
 -- Where the places of refusals stand in a source: its line, its column, its word; and where the item of a number is. docs/reference/command-line.md says
 -- the same for people.
-use Rattle.std.specs.Prelude.{◌≡◌, ℕ, ◌+◌, ◌==◌, nat_lt, if◌then◌else◌, Option, None, Some, Result, Ok, Err, List, length, take, drop}
+use Rattle.std.specs.Prelude.{◌≡◌, ℕ, ◌+◌, ◌==◌, nat_lt, if◌then◌else◌, Option, None, Some, Result, Ok, Err, List, length, take}
 use Rattle.std.specs.List.{fold, position_or_len}
 use Rattle.hex_langs.specs.declared.items.token.Dialect.{Dialect}
 use Rattle.hex_langs.specs.declared.items.token.TokenFault.{TokenFault}

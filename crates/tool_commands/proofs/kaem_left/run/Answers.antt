@@ -1,9 +1,6 @@
-use Rattle.std.proofs.Common.{sym, subst}
-use Rattle.command_plan.specs.Performs.{Performs}
 use Rattle.command_plan.proofs.Obtaining.{ends_before, ends_with, goes_on_with}
 use Rattle.command_plan.proofs.Performing.{says, wants_memory}
-use Rattle.kaem_script.specs.Leaving.{LeftResult}
-use Rattle.tool_commands.specs.KaemLeft.{command_left_plan}
+use Rattle.tool_commands.proofs.ScriptPlaces.{as_found}
 use Rattle.tool_commands.proofs.kaem_left.run.Goals as goal
 
 pub returns-in_err-names : goal.returns-in_err-names
@@ -14,17 +11,12 @@ returns-in_err-files g c = ends_with c.from_residual-in_err-files.ensures.1 (goe
 
 pub returns-in-Left : goal.returns-in-Left
 returns-in-Left g c =
-    let words = c.args.words.now in
-    goes_on_with c.in_ok-names.ensures.obtained (goes_on_with c.in_ok-files.ensures
-    (subst (λ (found : LeftResult). Performs (command_left_plan words.command words.wanted.file words.wanted.out found) _ _ c.save.result)
-    (sym (rw c.count.ensures.value at c.in-Left.ensures.answer)) c.save.ensures))
+    goes_on_with c.in_ok-names.ensures.obtained (goes_on_with c.in_ok-files.ensures (as_found _ _ _ (rw c.count.ensures.value at c.in-Left.ensures.answer) c.save.ensures))
 
 pub returns-in-Failed : goal.returns-in-Failed
 returns-in-Failed g c =
-    let words = c.args.words.now in
     goes_on_with c.in_ok-names.ensures.obtained (goes_on_with c.in_ok-files.ensures
-    (subst (λ (found : LeftResult). Performs (command_left_plan words.command words.wanted.file words.wanted.out found) _ _ c.stopped.result)
-    (sym (rw c.count.ensures.value at c.in-Failed.ensures.answer)) (says _ _ _ c.stopped.ensures)))
+    (as_found _ _ _ (rw c.count.ensures.value at c.in-Failed.ensures.answer) (says _ _ _ c.stopped.ensures)))
 
 pub returns : goal.returns
 returns g c = goes_on_with c.in_ok-names.ensures.obtained (goes_on_with c.in_ok-files.ensures (wants_memory _ _))

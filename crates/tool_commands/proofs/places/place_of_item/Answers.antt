@@ -1,4 +1,4 @@
-use Rattle.std.proofs.Common.{arith, ◌≡◌, ◌+◌, ◌≤◌, length, drop, get_or, Some, Ok, Err, IfOk, refl, sym, subst, ap, ◌∙◌, length-append}
+use Rattle.std.proofs.Common.{arith, ◌≡◌, ◌+◌, length, drop, get_or, Some, Ok, Err, IfOk, refl, sym, subst, ap, ◌∙◌, length-append}
 use Rattle.std.proofs.lemmas.List.{at_drop_all, length-drop}
 use Rattle.hex_langs.specs.Items.Reading.{reading}
 use Rattle.hex_langs.specs.Items.Tokens.{gap_length, token_at}
