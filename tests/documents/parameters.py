@@ -1,12 +1,12 @@
 """How many parameters functions have, and how often the condition on a file's name is written.
 
-The ceilings are what the code has: they fall with it, towards 25 functions, six parameters and ten conditions, and never rise.
+The ceilings are what the code has: they fall with it and never rise.
 """
 import re
 
 # so many functions of src have more than five parameters, none has more than so many, and so many conditions ask for a file's name where a
 # type could
-WITH_SIX, MOST, NAMED = 32, 8, 8
+WITH_SIX, MOST, NAMED = 21, 6, 8
 
 FUNCTION = re.compile(r"^[ \t]*(?:pub(?:\(\w+\))? )?(?:const )?fn (\w+)", re.M)
 CONDITION = re.compile(r"^\s*requires\b[^\n]*\bIsFileName\b", re.M)

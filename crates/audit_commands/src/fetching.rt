@@ -7,7 +7,7 @@ ghost use Rattle.command_plan.specs.Plan.{Plan, needs};
 ghost use Rattle.command_plan.specs.Steps.{Obtains};
 ghost use Rattle.recipe_plan.specs.Recipes.{needs_apart, needs_inputs, needs_recipe};
 
-use crate::words::RelativeWords;
+use crate::words::{PieceWords, RelativeWords};
 use command_plan::{FileName, Stop, fetch};
 use ddc_base::{Bytes, Shelf};
 use recipe::{Inputs, Recipe};
@@ -21,15 +21,14 @@ pub(crate) const SAVE_LIMIT: u64 = 4_294_967_296;
 pub(crate) fn fetch_apart<S: Shelf>(
     alloc: Global,
     shelf: &mut S,
-    recipe: &FileName<'_>,
-    report: &FileName<'_>,
-    save: &FileName<'_>,
+    words: &PieceWords<'_>,
 ) -> Result<Recipe, Stop>
-    ensures { Obtains (λ next. needs_recipe recipe.now (λ said. needs_apart said report.now (λ _. needs_apart said save.now (λ _. next said))))
+    ensures { Obtains (λ next. needs_recipe words.now.recipe (λ said. needs_apart said words.now.piece.report (λ _.
+        needs_apart said words.now.piece.save (λ _. next said))))
         (S.state shelf.old) (S.state shelf.new) result }
 {
-    let recipe = fetch_recipe(alloc, shelf, recipe)?;
-    both_apart(alloc, &recipe, report, save)?;
+    let recipe = fetch_recipe(alloc, shelf, &words.recipe)?;
+    both_apart(alloc, &recipe, &words.piece.report, &words.piece.save)?;
     Ok(recipe)
 }
 
@@ -56,13 +55,8 @@ pub(crate) fn fetch_relative<S: Shelf>(
         needs_apart said words.now.piece.save (λ _. next said)))))
         (S.state shelf.old) (S.state shelf.new) result }
 {
-    let recipe = fetch_apart(
-        alloc,
-        shelf,
-        &words.recipe,
-        &words.piece.report,
-        &words.base,
-    )?;
+    let recipe = fetch_recipe(alloc, shelf, &words.recipe)?;
+    both_apart(alloc, &recipe, &words.piece.report, &words.base)?;
     apart(alloc, &recipe, &words.piece.save)?;
     Ok(recipe)
 }

@@ -28,13 +28,7 @@ fn part<S: Shelf>(alloc: Global, shelf: &mut S, words: &PieceWords<'_>) -> Resul
     ensures { Performs (part_files words.now.recipe words.now.piece.save words.now.piece.report words.now.piece.steps)
         (S.state shelf.old) (S.state shelf.new) result }
 {
-    let recipe = fetch_apart(
-        alloc,
-        shelf,
-        &words.recipe,
-        &words.piece.report,
-        &words.piece.save,
-    )?;
+    let recipe = fetch_apart(alloc, shelf, words)?;
     let inputs = fetch_inputs(alloc, shelf, &recipe)?;
     let audit = Audit::new(alloc, recipe, inputs);
     go_on(alloc, shelf, audit, Kept::Whole, &words.piece)

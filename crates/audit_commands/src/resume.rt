@@ -37,13 +37,7 @@ fn resume<S: Shelf>(alloc: Global, shelf: &mut S, words: &PieceWords<'_>) -> Res
     ensures { Performs (resume_files words.now.recipe words.now.piece.save words.now.piece.report words.now.piece.steps)
         (S.state shelf.old) (S.state shelf.new) result }
 {
-    let recipe = fetch_apart(
-        alloc,
-        shelf,
-        &words.recipe,
-        &words.piece.report,
-        &words.piece.save,
-    )?;
+    let recipe = fetch_apart(alloc, shelf, words)?;
     let (text, inputs) = fetch_save(alloc, shelf, &recipe, &words.piece.save)?;
     let audit = audit_at(alloc, Supplied { recipe, inputs }, text)?;
     go_on(alloc, shelf, audit, Kept::Whole, &words.piece)

@@ -11,7 +11,7 @@ use crate::words::StageWord;
 use audit_run::run_earlier;
 use audit_run::stage::Done;
 use command_plan::{Stop, usage};
-use ddc_base::{Bytes, ListOf};
+use ddc_base::ListOf;
 use recipe::{Inputs, Recipe};
 use recipe_plan::unfinished;
 use std::alloc::Global;
@@ -56,22 +56,7 @@ pub(crate) fn run_before(
     ensures obtained { (shelf : ShelfState) → Obtains (needs_earlier recipe.now inputs.now count) shelf shelf result }
     ensures done { IfOk result (AreDone recipe.now) }
 {
-    run_over(alloc, recipe, inputs.as_slice(), count)
-}
-
-/// The same, over inputs that are borrowed.
-fn run_over(
-    alloc: Global,
-    recipe: &Recipe,
-    inputs: &[Bytes],
-    count: usize,
-) -> Result<ListOf<Done>, Stop>
-    requires given { IsInputs recipe.now inputs.now }
-    requires count { count < length recipe.now.stages }
-    ensures obtained { (shelf : ShelfState) → Obtains (needs_earlier recipe.now inputs.now count) shelf shelf result }
-    ensures done { IfOk result (AreDone recipe.now) }
-{
-    match run_earlier(alloc, recipe, inputs, count)? {
+    match run_earlier(alloc, recipe, inputs.as_slice(), count)? {
         Ok(done) => Ok(done),
         Err(not_done) => {
             let answer = unfinished(alloc, recipe, not_done.stage, not_done.fault)?;
