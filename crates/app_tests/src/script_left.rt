@@ -12,7 +12,7 @@ use std::process::Abort;
 use std::test::Fail;
 
 /// Programs and texts, all of them listed.
-const ALL: &[u8] = b"copy.elf\nin\nexit.elf\ncall.elf\ntrap.elf\nsays.elf\n./text\nfails.elf\n";
+const ALL: &[u8] = b"copy.elf\nin\nexit.elf\ncall.elf\ntrap.elf\nsays.elf\ntext\nfails.elf\n";
 
 /// A script, its words STEPS, COMMAND and FILE, the status and the text, and what is saved then.
 type Row = (
