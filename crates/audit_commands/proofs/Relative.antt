@@ -50,7 +50,7 @@ same_place recipe inputs audit p q first second =
     cc
 
 module _ (recipe : RecipeContents) (inputs : List (List ℕ)) (base : Bor (List ℕ)) (patch report : List ℕ) (steps : ℕ) where
-  -- an audit that was resumed goes on, with what is kept beside the base
+  -- an audit that was resumed goes on, with what is kept relative to the base
   abbrev GoesOn : AuditState → ShelfState → ShelfState → Result Answer Stop → Type 0
   GoesOn audit old new result = (text : Position → List ℕ) → Keeps audit.recipe audit.inputs (Relative base) text
       → Performs (came_to audit.recipe text patch report (forward_from audit.recipe audit.inputs (standing audit) steps)) old new result

@@ -80,7 +80,7 @@ fn go_from<S: Shelf>(
     }
 }
 
-/// Reads a delta beside its base, and lets its text go.
+/// Reads a delta relative to its base, and lets its text go.
 fn read(alloc: Global, supplied: Supplied, save: &[u8], delta: Bytes) -> Result<Audit, DeltaRefusal>
     ensures exact { ResumesAuditRelative supplied.recipe supplied.inputs save.now delta result }
     ensures found { IfOk result (λ audit. IsResumedRelative supplied.recipe supplied.inputs save.now delta audit) }

@@ -19,26 +19,26 @@ use Rattle.audit_run.specs.declared.place.AuditPlace.{AuditPlace}
 use Rattle.audit_run.specs.declared.place.AuditPlace.TheVariants as place
 use Rattle.audit_run.specs.Advances.{StopsAt, WantsWithin}
 use Rattle.audit_run.specs.Seen.{standing}
-use Rattle.audit_run.specs.Inside.Parts.{IsSavedPlace, IsStarted, KeepsPlace, later, seen, SlicesBy, stands, StopsIn, WantsAfter}
+use Rattle.audit_run.specs.Inside.Parts.{IsPlaceAfter, IsStarted, KeepsPlace, later, seen, SlicesBy, stands, StopsIn, WantsAfter}
 use Rattle.audit_run.proofs.Present.{stays}
 
 -- where an audit stands that has started
 pub place-of : (recipe : RecipeContents) (inputs : List (List ℕ)) (done : List Finished) (where_it_is : AuditPlace) → IsStarted where_it_is → IsStanding recipe (stands recipe inputs done where_it_is)
-    → IsSavedPlace recipe done where_it_is
+    → IsPlaceAfter recipe done where_it_is
 place-of recipe inputs done place.Ready started ok = absurd started
 place-of recipe inputs done (place.Running guest) started ok = ok
 place-of recipe inputs done (place.Over answer) started ok = ok
 
 pub entered-place : (recipe : RecipeContents) (inputs : List (List ℕ)) (done : List Finished) (entered : AuditPlace) → kept.IsRecipe recipe → IsInputs recipe inputs → AreDone recipe done
-    → IsStarted entered → stands recipe inputs done entered ≡ enter recipe inputs done (todo recipe done) → IsSavedPlace recipe done entered
+    → IsStarted entered → stands recipe inputs done entered ≡ enter recipe inputs done (todo recipe done) → IsPlaceAfter recipe done entered
 entered-place recipe inputs done entered is given are started stood =
     place-of recipe inputs done entered started
     (subst (IsStanding recipe) (sym stood) (enter-standing recipe (rules recipe is) inputs given done (todo recipe done) are refl))
 
 -- before the first advance nothing is done
-pub ready-done : (recipe : RecipeContents) (done : List Finished) (where_it_is : AuditPlace) → where_it_is ≡ place.Ready → IsSavedPlace recipe done where_it_is → AreDone recipe done
+pub ready-done : (recipe : RecipeContents) (done : List Finished) (where_it_is : AuditPlace) → where_it_is ≡ place.Ready → IsPlaceAfter recipe done where_it_is → AreDone recipe done
 ready-done recipe done where_it_is ready ok =
-    let none : done ≡ [] = subst (IsSavedPlace recipe done) ready ok in
+    let none : done ≡ [] = subst (IsPlaceAfter recipe done) ready ok in
     subst (AreDone recipe) (sym none) (record { each = tt; small = omega arith })
 
 -- want of memory after some steps more
@@ -76,9 +76,9 @@ wants-within recipe inputs done shown where_it_is entered most (Err error) same 
       by_place (place.Over answer) = refl
 
 module _ (recipe : RecipeContents) (inputs : List (List ℕ)) (is : kept.IsRecipe recipe) (given : IsInputs recipe inputs) (done shown : List Finished) (same : shown ≡ done)
-    (where_it_is : AuditPlace) (guest new : GuestState) (at_place : where_it_is ≡ place.Running guest) (ok : IsSavedPlace recipe done where_it_is) where
+    (where_it_is : AuditPlace) (guest new : GuestState) (at_place : where_it_is ≡ place.Running guest) (ok : IsPlaceAfter recipe done where_it_is) where
   here : IsPosition recipe (at done guest)
-  here = subst (IsSavedPlace recipe done) at_place ok
+  here = subst (IsPlaceAfter recipe done) at_place ok
 
   pub goes-stands : (taken : ℕ) (step : Moved) → step ≡ moved.Goes → SlicesBy recipe inputs shown (later recipe shown) guest taken step new → IsPosition recipe (at done new)
   goes-stands taken step goes slices =
@@ -94,7 +94,7 @@ module _ (recipe : RecipeContents) (inputs : List (List ℕ)) (is : kept.IsRecip
 
   pub closed-stands : (taken : ℕ) (step : Moved) (r : Result Finished StageFault) (f : Finished) (done' : List Finished) (place' : AuditPlace) → step ≡ moved.Ended r → r ≡ Ok f
       → SlicesBy recipe inputs shown (later recipe shown) guest taken step new
-      → stands recipe inputs done' place' ≡ stage_closed recipe inputs done (later recipe done) (Ok f) → IsStarted place' → IsSavedPlace recipe done' place'
+      → stands recipe inputs done' place' ≡ stage_closed recipe inputs done (later recipe done) (Ok f) → IsStarted place' → IsPlaceAfter recipe done' place'
   closed-stands taken step r f done' place' ends good slices stood started =
       let by = ended-by taken step r f ends good slices in
       place-of recipe inputs done' place' started

@@ -1,7 +1,7 @@
 //! An advance.
 
 ghost use Rattle.audit_run.specs.Advances.{Advances, WantsWithin, said_of_answer, said_of_comparisons};
-ghost use Rattle.audit_run.specs.Inside.Parts.{IsAtRest, IsSavedPlace, IsStarted, SaysOf, seen, stands};
+ghost use Rattle.audit_run.specs.Inside.Parts.{IsAtRest, IsPlaceAfter, IsStarted, SaysOf, seen, stands};
 ghost use Rattle.std.specs.Prelude.{◌≡◌, ◌≤◌, None, OnErr, OnOk, Some};
 ghost use Rattle.audit_rules.specs.Positions.{forward_from};
 ghost use Rattle.audit_rules.specs.Valid.{IsInputs};
@@ -79,10 +79,10 @@ fn begin(
     place: &mut AuditPlace,
 ) -> Result<(), OutOfMemory>
     requires given { IsInputs recipe.now inputs.now }
-    requires place { IsSavedPlace recipe.now done.now place.old }
+    requires place { IsPlaceAfter recipe.now done.now place.old }
     ensures ok { OnOk result (stands recipe.now inputs.now done.now place.new ≡ stands recipe.now inputs.now done.now place.old) }
     ensures started { OnOk result (IsStarted place.new) }
-    ensures stands { IsSavedPlace recipe.now done.now place.new }
+    ensures stands { IsPlaceAfter recipe.now done.now place.new }
     ensures err { OnErr result (place.new ≡ place.old) }
     ensures ready { OnErr result (seen done.now place.old ≡ None) }
 {

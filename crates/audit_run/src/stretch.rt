@@ -1,6 +1,6 @@
 //! An audit's steps.
 
-ghost use Rattle.audit_run.specs.Inside.Parts.{IsSavedPlace, IsStarted, KeepsPlace, later, Slices, stands, WantsAfter};
+ghost use Rattle.audit_run.specs.Inside.Parts.{IsPlaceAfter, IsStarted, KeepsPlace, later, Slices, stands, WantsAfter};
 ghost use Rattle.recipe.specs.Kept.{IsRecipe};
 ghost use Rattle.std.specs.Prelude.{◌≡◌, ◌++◌, ◌∷◌, [], ◌≤◌, IfOk, OnErr, OnOk, Ok};
 ghost use Rattle.audit_rules.specs.Positions.{at, stage_closed, forward_from, todo};
@@ -86,14 +86,14 @@ fn stretch(
 ) -> Result<u64, OutOfMemory>
     requires some { 1 ≤ most }
     requires given { IsInputs recipe.now inputs.now }
-    requires stands { IsSavedPlace recipe.now course.old.done.items course.old.place }
+    requires stands { IsPlaceAfter recipe.now course.old.done.items course.old.place }
     requires started { IsStarted course.old.place }
     ensures ok { IfOk result (λ taken. stands recipe.now inputs.now course.new.done.items course.new.place
         ≡ forward_from recipe.now inputs.now (stands recipe.now inputs.now course.old.done.items course.old.place) taken) }
     ensures some { IfOk result (λ taken. 1 ≤ taken) }
     ensures most { IfOk result (λ taken. taken ≤ most) }
     ensures started { OnOk result (IsStarted course.new.place) }
-    ensures stands { OnOk result (IsSavedPlace recipe.now course.new.done.items course.new.place) }
+    ensures stands { OnOk result (IsPlaceAfter recipe.now course.new.done.items course.new.place) }
     ensures err { OnErr result (WantsAfter ended recipe.now inputs.now (stands recipe.now inputs.now course.old.done.items course.old.place) most
         course.new.done.items course.new.place) }
 {
@@ -134,12 +134,12 @@ pub(crate) fn advance_started(
     ended: EndedGuest,
 ) -> Result<(), OutOfMemory>
     requires given { IsInputs recipe.now inputs.now }
-    requires stands { IsSavedPlace recipe.now course.old.done.items course.old.place }
+    requires stands { IsPlaceAfter recipe.now course.old.done.items course.old.place }
     requires started { IsStarted course.old.place }
     ensures ok { OnOk result (stands recipe.now inputs.now course.new.done.items course.new.place
         ≡ forward_from recipe.now inputs.now (stands recipe.now inputs.now course.old.done.items course.old.place) most) }
     ensures started { OnOk result (IsStarted course.new.place) }
-    ensures stands { OnOk result (IsSavedPlace recipe.now course.new.done.items course.new.place) }
+    ensures stands { OnOk result (IsPlaceAfter recipe.now course.new.done.items course.new.place) }
     ensures err { OnErr result (WantsAfter ended recipe.now inputs.now (stands recipe.now inputs.now course.old.done.items course.old.place) most
         course.new.done.items course.new.place) }
 {

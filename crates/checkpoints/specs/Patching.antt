@@ -7,7 +7,7 @@ use Rattle.checkpoints.specs.Checkpoint.{IsInRange, IsJoined, MayBeMade, guest_o
 use Rattle.checkpoints.specs.declared.reading.StateRefusal.{StateRefusal}
 use Rattle.checkpoints.specs.declared.reading.StateRefusal.TheVariants as state
 
--- its form is judged first beside the base, then counts and ranges of the state that it says, then references. Want of memory comes only where the
+-- its form is judged first relative to the base, then counts and ranges of the state that it says, then references. Want of memory comes only where the
 -- form holds, and memory is taken for that state
 abbrev pub AppliesPatch : StateText → List ℕ → Result GuestState StateRefusal → Type 0
 AppliesPatch base text (Ok guest) = (s : StateText) × (parsed_patch base text ≡ Ok s) × IsInRange s × IsJoined s × (guest ≡ guest_of s)

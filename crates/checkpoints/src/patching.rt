@@ -1,4 +1,4 @@
-//! A guest's state beside another one's, its base, as a patch, and back.
+//! A guest's state relative to another one's, its base, as a patch, and back.
 
 ghost use Rattle.std.specs.Prelude.{◌≡◌, ◌<◌, ◌≤◌, ◌^◌, ◌↔◌, ◌++◌, Err, IfOk, IsOk, IsTrue, OnErr, OnOk, length};
 ghost use Rattle.guest_run.specs.State.{GuestState};
@@ -61,7 +61,7 @@ pub fn put_patch_of<R: Ram>(
     put_patch(alloc, out, base, &parts)
 }
 
-/// The guest whose state a patch says beside the base's. What the base says is listed first, for which memory may be wanting whatever the patch is.
+/// The guest whose state a patch says relative to the base's. What the base says is listed first, for which memory may be wanting whatever the patch is.
 pub fn apply_patch<R: Ram>(
     alloc: Global,
     base: &Guest<R>,
@@ -80,7 +80,7 @@ pub fn apply_patch<R: Ram>(
     }
 }
 
-/// The guest whose state a patch says beside what a base says.
+/// The guest whose state a patch says relative to what a base says.
 pub fn guest_relative<'a, R: Ram>(
     alloc: Global,
     base: &StateParts<'a>,
@@ -139,7 +139,7 @@ fn are_countable(parts: &StateParts<'_>) -> bool
     (parts.pages.as_slice().len() as u64) < 1 << 32
 }
 
-/// The guest that a patch says beside some base: `Range` and `FileRef` as of a state's text.
+/// The guest that a patch says relative to some base: `Range` and `FileRef` as of a state's text.
 pub fn patched_guest_of<R: Ram>(
     alloc: Global,
     parts: &StateParts<'_>,

@@ -39,7 +39,7 @@ use Rattle.ddc_app.proofs.Resuming.{audit_opens, goes_on, is_place, reads_again}
 
 -- ---- the delta
 
--- the delta of a position is read as it beside its base
+-- the delta of a position is read as that position, relative to its base
 module _ (said : RecipeContents) (inputs : List (List ℕ)) (base p : Position) (is : IsRecipe said) (given : IsInputs said inputs) (base_place : IsPosition said base) (place : IsPosition said p) where
   abbrev whole : List ℕ
   whole = text_of_save (save_of said inputs base)

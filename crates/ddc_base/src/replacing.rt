@@ -13,7 +13,7 @@ use std::{fs, io};
 
 /// What stands under a path.
 #[derive(Drop)]
-enum Standing {
+enum PathKind {
     Nothing,
     /// A plain file that may be written.
     PlainFile(Permissions),
@@ -22,38 +22,38 @@ enum Standing {
 }
 
 /// What stands under a path; that a plain file may not be written is an error.
-fn look_at<R: Files>(rt: &R, path: &str) -> io::Result<Standing> {
+fn look_at<R: Files>(rt: &R, path: &str) -> io::Result<PathKind> {
     match fs::symlink_metadata(rt, path) {
         Ok(metadata) if metadata.is_file() => {
             OpenOptions::new().write(true).open(rt, path)?;
-            Ok(Standing::PlainFile(metadata.permissions()))
+            Ok(PathKind::PlainFile(metadata.permissions()))
         }
-        Ok(_) => Ok(Standing::Other),
-        Err(error) if error.kind() == ErrorKind::NotFound => Ok(Standing::Nothing),
+        Ok(_) => Ok(PathKind::Other),
+        Err(error) if error.kind() == ErrorKind::NotFound => Ok(PathKind::Nothing),
         Err(error) => Err(error),
     }
 }
 
 /// A path with `.ddc-` and a number after it, which is in most cases 0.
-fn path_relative(path: &str, number: u32) -> io::Result<ArrayString<270>> {
+fn temporary_path(path: &str, number: u32) -> io::Result<ArrayString<270>> {
     let mut digits = Buffer::new();
-    let mut relative = ArrayString::new();
-    let fits = relative.try_push_str(path).is_ok()
-        && relative.try_push_str(".ddc-").is_ok()
-        && relative.try_push_str(digits.format(number)).is_ok();
+    let mut temporary = ArrayString::new();
+    let fits = temporary.try_push_str(path).is_ok()
+        && temporary.try_push_str(".ddc-").is_ok()
+        && temporary.try_push_str(digits.format(number)).is_ok();
     if fits {
-        Ok(relative)
+        Ok(temporary)
     } else {
         Err(io::Error::from(ErrorKind::InvalidFilename))
     }
 }
 
 /// Makes a file beside the one of a path, under the first name that was not there, which is given back with it.
-fn make_relative<R: Files>(rt: &R, path: &str) -> io::Result<(ArrayString<270>, R::File)> {
+fn make_temporary<R: Files>(rt: &R, path: &str) -> io::Result<(ArrayString<270>, R::File)> {
     for number in 0..=u32::MAX {
-        let relative = path_relative(path, number)?;
-        match File::create_new(rt, relative.as_str()) {
-            Ok(file) => return Ok((relative, file)),
+        let temporary = temporary_path(path, number)?;
+        match File::create_new(rt, temporary.as_str()) {
+            Ok(file) => return Ok((temporary, file)),
             Err(error) if error.kind() == ErrorKind::AlreadyExists => {}
             Err(error) => return Err(error),
         }
@@ -87,13 +87,13 @@ fn replace_file<R: Files>(
 ) -> io::Result<()>
     ensures { OnOk result (TakesAll R.File.contents content.now) }
 {
-    let (relative, file) = make_relative(rt, path)?;
+    let (temporary, file) = make_temporary(rt, path)?;
     let filled = fill(file, permissions, content);
-    match filled.and_then(|()| fs::rename(rt, relative.as_str(), path)) {
+    match filled.and_then(|()| fs::rename(rt, temporary.as_str(), path)) {
         Ok(()) => Ok(()),
         Err(error) => {
             // The first error is told, whether the file beside can be removed or not.
-            fs::remove_file(rt, relative.as_str()).ok();
+            fs::remove_file(rt, temporary.as_str()).ok();
             Err(error)
         }
     }
@@ -128,9 +128,9 @@ pub(crate) fn set_file<R: Files>(rt: &R, path: &str, content: &[u8]) -> io::Resu
     ensures { OnOk result (TakesAll R.File.contents content.now) }
 {
     let permissions = match look_at(rt, path)? {
-        Standing::Nothing => None,
-        Standing::PlainFile(permissions) => Some(permissions),
-        Standing::Other => return write_in_place(rt, path, content),
+        PathKind::Nothing => None,
+        PathKind::PlainFile(permissions) => Some(permissions),
+        PathKind::Other => return write_in_place(rt, path, content),
     };
     match replace_file(rt, path, permissions, content) {
         Ok(()) => Ok(()),

@@ -151,7 +151,7 @@ fn write(files: &mut Files, fd: u32, bytes: &[u8]) -> i64
     }
 }
 
-/// Reads, and moves the cursor.
+/// Reads, and moves the file offset.
 fn read(files: &mut Files, fd: u32, count: u64, want: &[u8]) -> i64 {
     let count = match files.ready(fd, count) {
         Ok(bytes) if bytes == want => bytes.len() as u64,

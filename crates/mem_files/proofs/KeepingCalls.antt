@@ -127,7 +127,7 @@ with_descriptor-kept w number flags s held few =
       low_numbers = s.low_numbers;
     }
 
--- a cursor moves
+-- a file offset moves
 pub set_file_offset-kept : (w : World) (fd number file_offset : ℕ) (access : Access) (to : ℕ) → IsKept w → fin.get w.open_files fd ≡ Some (File number file_offset access) → to < 2 ^ 63 → IsKept (record w { open_files = fin.insert w.open_files fd (File number to access) })
 set_file_offset-kept w fd number file_offset access to s at small =
     let new : OpenFile = File number to access in
@@ -294,7 +294,7 @@ sought-kept w fd offset whence s = at_open_file (fin.get w.open_files fd) refl
     at_open_file (Some Stream2) e = s
     at_open_file (Some (File number file_offset access)) e = at_file_offset number file_offset access e _ (from_base (seek_base whence file_offset (length (content_of w number))))
 
--- a cursor that rises by what was read
+-- a file offset that rises by what was read
 skip_small : (content : List ℕ) (file_offset count : ℕ) → length (take count (drop file_offset content)) ≡ count → length content ≤ most_content → file_offset < 2 ^ 63 → file_offset + count < 2 ^ 63
 skip_small content file_offset count read few small = omega (arith, length-take count (drop file_offset content), length-drop file_offset content)
 

@@ -25,7 +25,7 @@ read_back old place bytes =
     ap (λ l. take (length bytes) (drop place l)) (let parts : front ++ bytes ++ rest ≡ front ++ (bytes ++ rest) = simp append_assoc in parts) ∙ ap (λ n. take (length bytes) (drop n (front ++ (bytes ++ rest)))) long
     ∙ ap (take (length bytes)) (drop-append_seam front (bytes ++ rest)) ∙ take-append_seam bytes rest
 
--- a cursor is set
+-- a file offset is set
 set_back : (w : World) (fd number now : ℕ) (access : Access) (file_offset : ℕ) → fin.get w.open_files fd ≡ Some (File number now access) → file_offset < 2 ^ 63
     → (sought w fd (pos file_offset) seek_set).1 ≡ record w { open_files = fin.insert w.open_files fd (File number file_offset access) }
 set_back w fd number now access file_offset at small =

@@ -94,7 +94,7 @@ mode_of access = if access == o_rdonly then Read else (if access == o_wronly the
 abbrev pub access_of : ℕ → Access
 access_of flags = record { mode = mode_of (bit_and flags o_accmode); appends = has flags o_append }
 
--- the lowest unused descriptor stands for the file, with its cursor at the start
+-- the lowest unused descriptor stands for the file, with its file offset at the start
 abbrev pub with_descriptor : World → ℕ → ℕ → Result ℕ ℕ × World
 with_descriptor w number flags =
     (Ok (lowest_unused w.open_files), record w { open_files = map.insert w.open_files (lowest_unused w.open_files) (File number 0 (access_of flags)) })
@@ -120,7 +120,7 @@ opened w name flags =
     else (if nat_le most_descriptors (map.len w.open_files) then (Err emfile, w)
     else opened_at w name flags (map.get w.names name))
 
--- the number that an offset counts from: 0, the cursor or the length
+-- the number that an offset counts from: 0, the file offset or the length
 abbrev pub seek_base : ℕ → ℕ → ℕ → Option ℕ
 seek_base whence file_offset len =
     if whence == seek_set then Some 0
@@ -128,12 +128,12 @@ seek_base whence file_offset len =
     else (if whence == seek_end then Some len
     else None))
 
--- a cursor is from 0 to 2^63 - 1
+-- a file offset is from 0 to 2^63 - 1
 abbrev pub as_file_offset : ℤ → Option ℕ
 as_file_offset (pos n) = if nat_lt n (2 ^ 63) then Some n else None
 as_file_offset (negsuc n) = None
 
--- `seek`, by where the cursor goes
+-- `seek`, by where the file offset goes
 abbrev pub with_file_offset : World → ℕ → ℕ → Access → Option ℕ → Result ℕ ℕ × World
 with_file_offset w fd number access None = (Err einval, w)
 with_file_offset w fd number access (Some file_offset) = (Ok file_offset, record w { open_files = map.insert w.open_files fd (File number file_offset access) })
@@ -151,7 +151,7 @@ sought_at w fd offset whence (Some (File number file_offset access)) =
 abbrev pub sought : World → ℕ → ℤ → ℕ → Result ℕ ℕ × World
 sought w fd offset whence = sought_at w fd offset whence (map.get w.open_files fd)
 
--- `ready`, by what stands at the descriptor: at most `count` bytes from the cursor on
+-- `ready`, by what stands at the descriptor: at most `count` bytes from the file offset on
 abbrev pub ready_at : World → ℕ → Option OpenFile → Result (List ℕ) ℕ
 ready_at w count None = Err ebadf
 ready_at w count (Some Input) = Ok []
@@ -164,7 +164,7 @@ ready_at w count (Some (File number file_offset access)) =
 abbrev pub ready : World → ℕ → ℕ → Result (List ℕ) ℕ
 ready w fd count = ready_at w count (map.get w.open_files fd)
 
--- `skip`, by what stands at the descriptor: the cursor rises by `count`
+-- `skip`, by what stands at the descriptor: the file offset rises by `count`
 abbrev pub skipped_at : World → ℕ → ℕ → Option OpenFile → World
 skipped_at w fd count None = w
 skipped_at w fd count (Some Input) = w
@@ -177,7 +177,7 @@ skipped_at w fd count (Some (File number file_offset access)) =
 abbrev pub skipped : World → ℕ → ℕ → World
 skipped w fd count = skipped_at w fd count (map.get w.open_files fd)
 
--- a write goes to the end of a file that appends, else to the cursor
+-- a write goes to the end of a file that appends, else to the file offset
 abbrev pub write_file_offset : Access → ℕ → ℕ → ℕ
 write_file_offset access end file_offset = if access.appends then end else file_offset
 
@@ -209,7 +209,7 @@ fits w fd count = fits_at w count (write_place w (map.get w.open_files fd))
 abbrev pub written_over : List ℕ → ℕ → List ℕ → List ℕ
 written_over old place bytes = take place old ++ replicate (place - length old) 0 ++ bytes ++ drop (place + length bytes) old
 
--- a file after a write at a place, with the cursor at its end
+-- a file after a write at a place, with the file offset at its end
 abbrev pub with_content : World → ℕ → ℕ → Access → List ℕ → ℕ → World
 with_content w fd number access bytes place = record w {
   files = map.insert w.files number (written_over (content_of w number) place bytes);

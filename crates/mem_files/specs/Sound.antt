@@ -10,7 +10,7 @@ use Rattle.mem_files.specs.Limits.{most_content, most_total, most_descriptors, m
 use Rattle.mem_files.specs.Names.{is_stripped_name}
 use Rattle.mem_files.specs.World.{World, total, is_named, is_open}
 
--- what may stand at a descriptor: the input and the streams have numbers of their own, and a cursor is below 2^63
+-- what may stand at a descriptor: the input and the streams have numbers of their own, and a file offset is below 2^63
 abbrev pub IsOpenFileAt : ℕ → OpenFile → Type 0
 IsOpenFileAt fd Input = fd ≡ 0
 IsOpenFileAt fd Stream1 = fd ≡ 1

@@ -50,7 +50,7 @@ fn seek_base(whence: u32, file_offset: u64, len: u64) -> Option<u64>
     }
 }
 
-/// A cursor after an offset, from 0 to 2^63 - 1.
+/// A file offset after an offset, from 0 to 2^63 - 1.
 fn moved_file_offset(base: u64, offset: i64) -> Option<u64>
     requires { base < 2 ^ 63 }
     ensures { result ≡ as_file_offset (pos base +ℤ offset) }
@@ -408,14 +408,14 @@ impl FileTable {
     }
 }
 
-/// The place of a write: the end of a file that appends, else the cursor.
+/// The place of a write: the end of a file that appends, else the file offset.
 fn write_file_offset(access: Access, end: u64, file_offset: u64) -> u64
     ensures { result ≡ write_file_offset access end file_offset }
 {
     if access.appends { end } else { file_offset }
 }
 
-/// At most `count` bytes past a cursor.
+/// At most `count` bytes past a file offset.
 fn part(content: &[u8], file_offset: u64, count: u64) -> &[u8]
     ensures { result.now ≡ take count (drop file_offset content.now) }
 {

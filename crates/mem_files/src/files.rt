@@ -88,7 +88,7 @@ impl Files {
         self.table.close(fd)
     }
 
-    /// Moves a cursor, as lseek(2) does; answers where it is now. Errors: `EBADF`, `ESPIPE`, `EINVAL`.
+    /// Moves a file offset, as lseek(2) does; answers where it is now. Errors: `EBADF`, `ESPIPE`, `EINVAL`.
     pub fn seek(&mut self, fd: u32, offset: i64, whence: u32) -> Result<u64, u16>
         ensures { sought self.old fd offset whence ≡ (result, self.new) }
     {
@@ -104,7 +104,7 @@ impl Files {
         self.table.ready(fd, count)
     }
 
-    /// Ends a read of `count` bytes: the cursor rises by `count`.
+    /// Ends a read of `count` bytes: the file offset rises by `count`.
     pub fn skip(&mut self, fd: u32, count: u64)
         requires { IsOkAnd (ready self.old fd count) (λ bytes. length bytes ≡ count) }
         ensures { self.new ≡ skipped self.old fd count }
@@ -126,7 +126,7 @@ impl Files {
         self.table.fits(fd, count)
     }
 
-    /// Writes bytes that fit: at the cursor, at the end of a file that appends, or at the end of a stream.
+    /// Writes bytes that fit: at the file offset, at the end of a file that appends, or at the end of a stream.
     pub fn write(&mut self, fd: u32, bytes: &[u8]) -> Result<(), OutOfMemory>
         requires { fits self.old fd (length bytes.now) ≡ Ok tt }
         ensures ok { OnOk result (written self.old fd bytes.now ≡ (Ok tt, self.new)) }

@@ -36,7 +36,7 @@ pub const EMFILE: u16 = 24;
 pub const EFBIG: u16 = 27;
 /// No more room.
 pub const ENOSPC: u16 = 28;
-/// A descriptor that has no cursor.
+/// A descriptor that has no file offset.
 pub const ESPIPE: u16 = 29;
 
 /// The bits of the flags that say how a file is opened (Linux, asm-generic/fcntl.h, as the other flags).
@@ -58,7 +58,7 @@ pub const O_APPEND: u32 = 1024;
 
 /// An offset counts from the start (Linux, lseek(2), as the other two).
 pub const SEEK_SET: u32 = 0;
-/// An offset counts from the cursor.
+/// An offset counts from the file offset.
 pub const SEEK_CUR: u32 = 1;
 /// An offset counts from the end.
 pub const SEEK_END: u32 = 2;

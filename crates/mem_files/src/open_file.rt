@@ -16,7 +16,7 @@ pub enum OpenFile {
     Stream1,
     /// The second collected stream; only descriptor 2.
     Stream2,
-    /// An open file: its number, its cursor in bytes (below 2^63), and how it is used.
+    /// An open file: its number, its file offset in bytes (below 2^63), and how it is used.
     File {
         number: u32,
         file_offset: u64,

@@ -72,7 +72,7 @@ fn bytes_taken(left: &[u8]) -> usize
 }
 
 /// Whether the call with this number is one of those that are to fail.
-fn is_due(number: u64, failing: &[u64]) -> bool
+fn is_failing(number: u64, failing: &[u64]) -> bool
     ensures { result ≡ list_any (λ k. k == number) failing.now }
 {
     failing.contains(&number)
@@ -126,7 +126,7 @@ impl Prompt for MemPrompt {
     {
         let number = self.lines.saturating_add(1);
         let size = bytes_taken(self.left());
-        if is_due(number, &self.failing_lines) {
+        if is_failing(number, &self.failing_lines) {
             self.take(size / 2);
             self.lines = number;
             self.faults = self.faults.saturating_add(1);

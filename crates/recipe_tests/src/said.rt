@@ -160,7 +160,7 @@ fn put_recipe(alloc: Global, lines: &mut String, recipe: &Recipe) -> Result<(), 
 }
 
 /// Whether a recipe's lines are these.
-fn is_told(alloc: Global, recipe: &Recipe, wanted: &str) -> Result<bool, OutOfMemory> {
+fn has_lines(alloc: Global, recipe: &Recipe, wanted: &str) -> Result<bool, OutOfMemory> {
     let mut lines = String::new(alloc);
     put_recipe(alloc, &mut lines, recipe)?;
     Ok(lines.as_str() == wanted)
@@ -169,7 +169,7 @@ fn is_told(alloc: Global, recipe: &Recipe, wanted: &str) -> Result<bool, OutOfMe
 /// Whether a text is a recipe that says this.
 fn says(alloc: Global, recipe: &str, wanted: &str) -> Result<bool, OutOfMemory> {
     match read(alloc, recipe.as_bytes()) {
-        Ok(recipe) => is_told(alloc, &recipe, wanted),
+        Ok(recipe) => has_lines(alloc, &recipe, wanted),
         Err(_) => Ok(false),
     }
 }

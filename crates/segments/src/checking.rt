@@ -8,7 +8,7 @@ ghost use Rattle.segments.specs.Inside.Recorded.{Records};
 ghost use Rattle.segments.specs.Segments.{ChecksPiece, IsStateOf, StartChecks, second_text};
 
 use crate::answers::{SegmentAnswer, SegmentFault, StartAnswer, StartFault};
-use crate::reading::{Unread, guest_of, told_by};
+use crate::reading::{Unread, guest_of, recorded_by};
 use checkpoints::write_state;
 use ddc_base::{OutOfMemory, first_difference};
 use guest_run::{Guest, RunBox, RunEnd, RunRam, StartRefusal};
@@ -32,7 +32,7 @@ fn check_from(alloc: Global, guest: &mut Guest<RunRam>, from: &[u8], to: &[u8]) 
     requires { IsStateOf from.now guest.old }
     ensures { ChecksPiece from.now to.now result }
 {
-    match told_by(alloc, to) {
+    match recorded_by(alloc, to) {
         Ok((steps, own)) => check_to(alloc, guest, steps, from, to, own.as_slice()),
         Err(Unread::Fault(why)) => SegmentAnswer::No(SegmentFault::To(why)),
         Err(Unread::OutOfMemory) => SegmentAnswer::OutOfMemory,
@@ -108,7 +108,7 @@ fn check_first(
     requires { start_of program.now setting.now ≡ Ok guest.now }
     ensures { StartChecks program.now setting.now first.now result }
 {
-    match told_by(alloc, first) {
+    match recorded_by(alloc, first) {
         Ok((_, own)) => compare(alloc, guest, program, setting, first, own.as_slice()),
         Err(Unread::Fault(why)) => StartAnswer::NotState(why),
         Err(Unread::OutOfMemory) => StartAnswer::OutOfMemory,

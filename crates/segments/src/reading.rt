@@ -30,7 +30,7 @@ pub(crate) fn guest_of(alloc: Global, text: &[u8]) -> Result<Guest<RunRam>, Unre
 }
 
 /// The steps of the state that a text says, and that state's text of the second form. Its guest is not kept.
-pub(crate) fn told_by(alloc: Global, text: &[u8]) -> Result<(u64, Bytes), Unread>
+pub(crate) fn recorded_by(alloc: Global, text: &[u8]) -> Result<(u64, Bytes), Unread>
     ensures { RecordedBy text.now result }
 {
     match guest_of(alloc, text) {

@@ -175,7 +175,7 @@ module _ (recipe : RecipeContents) (inputs : List (List ℕ)) (text : List ℕ) 
 
 module _ (recipe : RecipeContents) (inputs : List (List ℕ)) (base text : List ℕ) (is : kept.IsRecipe recipe) (given : IsInputs recipe inputs) (b p : Position) (at : IsBaseAt recipe inputs b base)
     (place : IsPosition recipe p) (e : text ≡ delta_text_of recipe inputs b p) where
-  -- beside the base's own position
+  -- relative to the base's own position
   from : (c : Position) (result : Result Position DeltaRefusal) → Resumes recipe inputs base (Ok c) → GoesOnRelative recipe (save_of recipe inputs c) text result → IsResumedRelativeAs p result
   from c result r goes_on =
       let same : c ≡ b = saves.is_only recipe inputs base (Ok c) is given r b at.0 at.1 in

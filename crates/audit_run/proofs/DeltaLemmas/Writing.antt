@@ -1,4 +1,4 @@
--- What is written beside a base is the delta against its position.
+-- What is written relative to a base is the delta against its position.
 use Rattle.std.proofs.Common.{◌≡◌, ℕ, zero, suc, ◌-◌, ◌^◌, ◌<◌, ◌≤◌, Some, List, [], ◌∷◌, ◌++◌, length, map, take, drop, All, IsOk, Result, Ok, Err, inl, refl, sym, ap, subst, ◌∙◌, arith, append_assoc}
 use Rattle.std.specs.Prelude.{IfOk, OnOk}
 use Rattle.std.specs.Int.{w32}
@@ -20,7 +20,7 @@ use Rattle.audit_rules.specs.declared.answer.Finished.{Finished}
 use Rattle.audit_rules.specs.Positions.{Position, On, at}
 use Rattle.audit_rules.specs.Valid.{IsInputs, IsPosition}
 use Rattle.audit_rules.proofs.Rules.{rules}
-use Rattle.audit_run.specs.Inside.Parts.{IsSavedPlace, seen}
+use Rattle.audit_run.specs.Inside.Parts.{IsPlaceAfter, seen}
 use Rattle.audit_run.specs.Seen.{AuditState}
 use Rattle.audit_run.specs.declared.place.AuditPlace.{AuditPlace}
 use Rattle.audit_run.specs.declared.place.AuditPlace.TheVariants.{Running}
@@ -59,12 +59,12 @@ deltas_are recipe inputs base known p (Err error) is given said e = tt
 
 -- what an audit saves is a base at its position
 pub base_saved : (audit : AuditState) (recipe : RecipeContents) (inputs given : List (List ℕ)) (done so_far : List Finished) (where_it_is : AuditPlace) (guest : GuestState) (result : Result (List ℕ) OutOfMemory)
-    → audit ≡ record { recipe = recipe; inputs = inputs; stands = seen done where_it_is } → where_it_is ≡ Running guest → IsSavedPlace recipe done where_it_is → given ≡ inputs → so_far ≡ done
+    → audit ≡ record { recipe = recipe; inputs = inputs; stands = seen done where_it_is } → where_it_is ≡ Running guest → IsPlaceAfter recipe done where_it_is → given ≡ inputs → so_far ≡ done
     → IfOk result (λ text. text ≡ text_of_save (save_of recipe given (at so_far guest)))
     → IfOk result (λ text. (p : Position) × (audit.stands ≡ Some (On p)) × IsBaseAt audit.recipe audit.inputs p text)
 base_saved audit recipe inputs given done so_far where_it_is guest (Ok text) view is placed given_is done_is e =
     subst (λ (a : AuditState). (p : Position) × (a.stands ≡ Some (On p)) × IsBaseAt a.recipe a.inputs p text) (sym view)
-    (at done guest, ap (seen done) is, (subst (IsSavedPlace recipe done) is placed, inl (e ∙ (λ i. text_of_save (save_of recipe (given_is i) (at (done_is i) guest))))))
+    (at done guest, ap (seen done) is, (subst (IsPlaceAfter recipe done) is placed, inl (e ∙ (λ i. text_of_save (save_of recipe (given_is i) (at (done_is i) guest))))))
 base_saved audit recipe inputs given done so_far where_it_is guest (Err error) view is placed given_is done_is e = tt
 
 -- ---- stages

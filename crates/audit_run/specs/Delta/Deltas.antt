@@ -1,4 +1,4 @@
--- The delta of a position against the save of another one, its base, and what becomes of a text beside a base. docs/reference/delta.md says the
+-- The delta of a position against the save of another one, its base, and what becomes of a text relative to a base. docs/reference/delta.md says the
 -- same for people.
 use Rattle.std.specs.Prelude.{◌≡◌, ◌≢◌, ℕ, IsOk, IsTrue, List, map, Result, Ok, Err}
 use Rattle.ddc_base.specs.declared.digests.Digest.{Digest}
@@ -78,7 +78,7 @@ pub record DeltaAnswer (recipe : RecipeContents) (inputs : List (List ℕ)) (bas
 abbrev pub HasDelta : RecipeContents → List (List ℕ) → List ℕ → List ℕ → Position → Type 0
 HasDelta recipe inputs base text p = (b : Position) × IsBaseAt recipe inputs b base × (text ≡ delta_text_of recipe inputs b p)
 
--- a text is resumed beside its base as this position
+-- a text is resumed relative to its base as this position
 abbrev pub IsResumedRelativeAs : Position → Result Position DeltaRefusal → Type 0
 IsResumedRelativeAs p (Ok found) = found ≡ p
 IsResumedRelativeAs p (Err OutOfMemory) = Unit {0}

@@ -13,7 +13,7 @@ use Rattle.audit_run.specs.declared.delta.reading.DeltaRefusal.{DeltaRefusal}
 use Rattle.audit_run.specs.declared.delta.reading.DeltaRefusal.TheVariants.{Base, Form, OtherBase, State}
 use Rattle.audit_run.specs.declared.save.reading.SaveRefusal.{SaveRefusal}
 
--- what is said beside a base: a place in the audit, or none
+-- what is said relative to a base: a place in the audit, or none
 abbrev pub placed_relative : RecipeContents → SaveText → Result DeltaText ℕ → Result Position DeltaRefusal
 placed_relative recipe base (Err offset) = Err (Form offset)
 placed_relative recipe base (Ok delta) = if is_place recipe (save_relative base delta) then Ok (position_of (save_relative base delta)) else Err State

@@ -46,14 +46,14 @@ Slices recipe inputs done stages old most (Ok step) new =
 Slices recipe inputs done stages old most (Err error) new = StopsAt recipe inputs (On (at done old)) most (at done new)
 
 -- what holds of the parts between two calls: before the first advance no stage is done
-abbrev pub IsSavedPlace : RecipeContents → List Finished → AuditPlace → Type 0
-IsSavedPlace recipe done place.Ready = done ≡ []
-IsSavedPlace recipe done (place.Running guest) = IsStanding recipe (On (at done guest))
-IsSavedPlace recipe done (place.Over answer) = IsStanding recipe (Over answer)
+abbrev pub IsPlaceAfter : RecipeContents → List Finished → AuditPlace → Type 0
+IsPlaceAfter recipe done place.Ready = done ≡ []
+IsPlaceAfter recipe done (place.Running guest) = IsStanding recipe (On (at done guest))
+IsPlaceAfter recipe done (place.Over answer) = IsStanding recipe (Over answer)
 
 pub record IsAtRest (recipe : RecipeContents) (inputs : List (List ℕ)) (done : List Finished) (where_it_is : AuditPlace) : Type 0 where
   pub given : IsInputs recipe inputs
-  pub place : IsSavedPlace recipe done where_it_is
+  pub place : IsPlaceAfter recipe done where_it_is
 
 -- an audit whose first stage has started, or was refused
 abbrev pub IsStarted : AuditPlace → Type 0
@@ -74,7 +74,7 @@ StopsIn recipe inputs from most (Over answer) = ⊥
 -- what want of memory leaves after fewer steps than were asked for: an audit that stopped there, where guests are kept
 abbrev pub WantsAfter : EndedGuest → RecipeContents → List (List ℕ) → Standing → ℕ → List Finished → AuditPlace → Type 0
 WantsAfter Kept recipe inputs from most done where_it_is =
-    IsStarted where_it_is × IsSavedPlace recipe done where_it_is × StopsIn recipe inputs from most (stands recipe inputs done where_it_is)
+    IsStarted where_it_is × IsPlaceAfter recipe done where_it_is × StopsIn recipe inputs from most (stands recipe inputs done where_it_is)
 WantsAfter GivenUp recipe inputs from most done where_it_is = (p : Position) × StopsAt recipe inputs from most p
 
 -- what is said of an audit that stands here

@@ -1,4 +1,4 @@
-//! The place in an audit that a text says beside its base.
+//! The place in an audit that a text says relative to its base.
 
 ghost use Rattle.std.specs.Prelude.{◌≡◌, IfOk, Ok};
 ghost use Rattle.audit_run.specs.Delta.Deltas.{base_digest, GoesOnRelative, HasDelta, IsBaseAt, IsResumedRelativeAs, ResumesRelative, delta_refusal_number, delta_text_of};

@@ -1,4 +1,4 @@
-//! The text of an audit that stands in a stage, beside its base.
+//! The text of an audit that stands in a stage, relative to its base.
 
 ghost use Rattle.std.specs.Prelude.{◌≡◌, ◌<◌, ◌≤◌, ◌^◌, ◌++◌, All, IfOk, OnOk, length, map};
 ghost use Rattle.audit_run.specs.Delta.Deltas.{IsBaseAt, base_digest, delta_text_of};

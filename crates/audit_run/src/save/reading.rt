@@ -201,7 +201,7 @@ pub(crate) fn is_digest_of(part: &InputPart, input: &Bytes) -> bool
     part.digest == digest(input.as_slice())
 }
 
-/// The place in a recipe's audit that a save says, by the stages that are done and the present guest's state, which may stand beside a base's.
+/// The place in a recipe's audit that a save says, by the stages that are done and the present guest's state, which may stand relative to a base's.
 pub(crate) fn place_of(
     alloc: Global,
     recipe: &Recipe,

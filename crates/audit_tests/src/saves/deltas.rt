@@ -27,7 +27,7 @@ fn resumed(alloc: Global, base: &[u8], delta: &[u8]) -> Result<Bytes, DeltaRefus
     }
 }
 
-/// Whether a delta says beside its base what a whole save says.
+/// Whether a delta says relative to its base what a whole save says.
 fn says(alloc: Global, base: &[u8], delta: &[u8], save: &[u8]) -> bool {
     match resumed(alloc, base, delta) {
         Ok(text) => text.as_slice() == save,
@@ -135,7 +135,7 @@ fn is_delta(alloc: Global, base: &[u8], wanted: &[u8]) -> bool {
     }
 }
 
-/// Whether a delta says beside its base what the save after so many steps says.
+/// Whether a delta says relative to its base what the save after so many steps says.
 fn says_at(alloc: Global, base: &[u8], delta: &[u8], steps: u64) -> bool {
     match save_at(alloc, steps) {
         Ok(save) => says(alloc, base, delta, save.as_slice()),
@@ -161,7 +161,7 @@ fn old_has_the_delta(alloc: Global, first: u64) -> bool {
     }
 }
 
-/// A base of the first form has the deltas of the second, and they come back beside either.
+/// A base of the first form has the deltas of the second, and they come back relative to either.
 #[test]
 fn an_old_base_has_the_same_deltas(rt: HostRuntime) {
     for first in [1, 31, 32, 40] {
@@ -177,7 +177,7 @@ fn delta_against_itself(alloc: Global, save: &[u8]) -> Result<Bytes, OutOfMemory
     }
 }
 
-/// Whether a save comes back beside itself.
+/// Whether a save comes back relative to itself.
 fn says_itself(alloc: Global, save: &[u8]) -> bool {
     match delta_against_itself(alloc, save) {
         Ok(delta) => says(alloc, save, delta.as_slice(), save),
@@ -288,7 +288,7 @@ fn worked_texts(alloc: Global) -> Result<Texts, OutOfMemory> {
     }
 }
 
-/// Whether this is why a delta is refused beside a base after these edits.
+/// Whether this is why a delta is refused relative to a base after these edits.
 fn is_refused_relative(
     alloc: Global,
     base: &[u8],

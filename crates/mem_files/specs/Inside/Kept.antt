@@ -15,7 +15,7 @@ HasFile w Stream1 = Unit {0}
 HasFile w Stream2 = Unit {0}
 HasFile w (File number file_offset access) = IsSome (map.get w.files number)
 
--- what stands at a descriptor: the input and the streams have their own, and an open file is there, with its cursor below 2^63
+-- what stands at a descriptor: the input and the streams have their own, and an open file is there, with its file offset below 2^63
 abbrev pub IsHeldOpenFile : World → ℕ → OpenFile → Type 0
 IsHeldOpenFile w fd Input = fd ≡ 0
 IsHeldOpenFile w fd Stream1 = fd ≡ 1

@@ -34,7 +34,7 @@ delta_at base = do
   state ← patch_at base.state
   done (record { base = digest; stages = stages; state = state })
 
--- what a text says beside its base, or the offset of its first wrong field: nothing follows the patch
+-- what a text says relative to its base, or the offset of its first wrong field: nothing follows the patch
 unfoldable pub parsed_delta : SaveText → List ℕ → Result DeltaText ℕ
 parsed_delta base text = whole (delta_at base) text
 

@@ -145,6 +145,6 @@ patch_at base = do
   start ← begun patch_magic
   patch_body_at base
 
--- the state that a text says beside its base, or the offset of its first wrong field: nothing follows the patch
+-- the state that a text says relative to its base, or the offset of its first wrong field: nothing follows the patch
 unfoldable pub parsed_patch : StateText → List ℕ → Result StateText ℕ
 parsed_patch base text = whole (patch_at base) text

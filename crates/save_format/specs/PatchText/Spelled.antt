@@ -1,4 +1,4 @@
--- How a state is spelled beside a base, and which have a text there.
+-- How a state is spelled relative to a base, and which have a text there.
 use Rattle.std.specs.Prelude.{◌≡◌, ℕ, ◌+◌, ◌*◌, ◌^◌, ◌<◌, ◌==◌, if◌then◌else◌, Option, None, Some, List, [], ◌∷◌, ◌++◌, length}
 use Rattle.std.specs.Int.{w16, w32, w64}
 use Rattle.save_format.specs.ByteFields.Spelling.{Alike, Counted, InTurn, IsBlob, blob_text, list_text, number_text}

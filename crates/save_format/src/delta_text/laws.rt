@@ -1,4 +1,4 @@
-//! A position is read beside its base as it is spelled there. Each law is the contract of a function that does nothing.
+//! A position is read relative to its base as it is spelled there. Each law is the contract of a function that does nothing.
 
 ghost use Rattle.save_format.specs.ByteFields.Law.{IsReadAsSpelled};
 ghost use Rattle.save_format.specs.DeltaText.DeltaText.{IsDelta, delta_at, text_of_delta};

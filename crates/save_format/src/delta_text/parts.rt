@@ -1,7 +1,7 @@
 use crate::parts::StagePart;
 use ddc_base::digests::Digest;
 
-/// What the text of a delta says beside its base. The contents of its state are borrowed: what stays the base's is the base's.
+/// What the text of a delta says relative to its base. The contents of its state are borrowed: what stays the base's is the base's.
 #[derive(Drop)]
 pub struct DeltaParts<'a> {
     /// The digest of the base's text, of the second form.

@@ -1,4 +1,4 @@
-//! A position read of a delta, beside its base.
+//! A position read of a delta, relative to its base.
 
 ghost use Rattle.std.specs.Prelude.{◌≡◌, ◌++◌, IfOk, Ok, map, option_map, take};
 ghost use Rattle.std.specs.Option.{option_copied};
@@ -129,7 +129,7 @@ fn delta_of<'a>(
     after_digest(alloc, cursor, digest, base)
 }
 
-/// What a delta says beside its base. Each field is judged given those before it and the base, so an offset is that of the first wrong one; a
+/// What a delta says relative to its base. Each field is judged given those before it and the base, so an offset is that of the first wrong one; a
 /// wrong field of the patch has its place in the delta. The form is judged first, which takes no memory.
 pub fn read<'a>(
     alloc: Global,
@@ -137,9 +137,9 @@ pub fn read<'a>(
     text: &'a [u8],
 ) -> Result<DeltaParts<'a>, TextRefusal>
     requires { IsSaveText (save_view base) }
-    // What is read is spelled so beside the base.
+    // What is read is spelled so relative to the base.
     ensures found { IfOk result (λ p. IsDelta (save_view base.entry) (delta_view p) × (text.now ≡ text_of_delta (save_view base.entry) (delta_view p))) }
-    // What is spelled so beside the base is read, unless memory runs out.
+    // What is spelled so relative to the base is read, unless memory runs out.
     ensures only { (d : DeltaText) → IsDelta (save_view base.entry) d → text.now ≡ text_of_delta (save_view base.entry) d → ReadsDeltaText result (Ok d) }
     // Which field is the first wrong one.
     ensures exact { ReadsDeltaText result (parsed_delta (save_view base.entry) text.now) }

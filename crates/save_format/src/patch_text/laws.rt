@@ -1,4 +1,4 @@
-//! A state is read beside its base as it is spelled there. Each law is the contract of a function that does nothing.
+//! A state is read relative to its base as it is spelled there. Each law is the contract of a function that does nothing.
 
 ghost use Rattle.std.specs.Prelude.{◌≡◌, List};
 ghost use Rattle.save_format.specs.ByteFields.Law.{IsReadAsSpelled};

@@ -20,7 +20,7 @@ fn patch_front(cursor: &mut Cursor<'_>, base: &StateParts<'_>) -> Result<StateFr
     Ok(numbers.front(mappable))
 }
 
-/// What the state that a patch of the form says beside its base says in front of its pages. It takes no memory.
+/// What the state that a patch of the form says relative to its base says in front of its pages. It takes no memory.
 pub fn front_of(base: &StateParts<'_>, text: &[u8]) -> StateFront
     requires { IsOk (parsed_patch (state_view base.now) text.now) }
     ensures { (s : StateText) → parsed_patch (state_view base.now) text.now ≡ Ok s → IsFrontOf result s }

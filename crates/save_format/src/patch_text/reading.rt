@@ -1,4 +1,4 @@
-//! A state read of a patch, beside its base.
+//! A state read of a patch, relative to its base.
 ghost use Rattle.std.specs.Prelude.{◌≡◌, IfOk, Ok, map};
 ghost use Rattle.save_format.specs.ByteFields.Reader.{GivesField, counted, several};
 ghost use Rattle.save_format.specs.ByteFields.Spelling.{InTurn};
@@ -82,7 +82,7 @@ fn files_relative<'a>(
     Ok(files)
 }
 
-/// A patch's text at the front of what is left: the state that it says beside its base.
+/// A patch's text at the front of what is left: the state that it says relative to its base.
 #[tactic(auto, unfolding(crate::specs::Inside::Fronts::lists_relative_at))]
 pub(crate) fn patch_of<'a>(
     alloc: Global,
@@ -115,7 +115,7 @@ pub(crate) fn patch_of<'a>(
     })
 }
 
-/// The state that a patch says beside its base. Contents are borrowed: what stays the base's is the base's. Each field is judged given those
+/// The state that a patch says relative to its base. Contents are borrowed: what stays the base's is the base's. Each field is judged given those
 /// before it and the base, so an offset is that of the first wrong one. The form is judged first, which takes no memory.
 pub fn read<'a>(
     alloc: Global,
@@ -123,9 +123,9 @@ pub fn read<'a>(
     text: &'a [u8],
 ) -> Result<StateParts<'a>, TextRefusal>
     requires { IsStateText (state_view base.now) }
-    // What is read is spelled so beside the base.
+    // What is read is spelled so relative to the base.
     ensures found { IfOk result (λ p. IsPatched (state_view base.now) (state_view p) × (text.now ≡ text_of_patch (state_view base.now) (state_view p))) }
-    // What is spelled so beside the base is read, unless memory runs out.
+    // What is spelled so relative to the base is read, unless memory runs out.
     ensures only { (s : StateText) → IsPatched (state_view base.now) s → text.now ≡ text_of_patch (state_view base.now) s → ReadsStateText result (Ok s) }
     // Which field is the first wrong one.
     ensures exact { ReadsStateText result (parsed_patch (state_view base.now) text.now) }

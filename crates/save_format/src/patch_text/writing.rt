@@ -1,4 +1,4 @@
-//! A state written beside its base.
+//! A state written relative to its base.
 ghost use Rattle.std.specs.Prelude.{◌≡◌, ◌==◌, ◌<◌, ◌≤◌, ◌*◌, ◌^◌, ◌++◌, All, OnErr, OnOk, if◌then◌else◌, length, map, option_map};
 ghost use Rattle.std.specs.Io.{StartsWith};
 ghost use Rattle.std.specs.Option.{option_copied};
@@ -170,7 +170,7 @@ fn put_file(out: &mut Bytes, known: Option<&[u8]>, file: &File<'_>) -> Result<()
     put_content(out, known, file.content)
 }
 
-/// All files, each beside the base's of its number.
+/// All files, each relative to the base's of its number.
 #[tactic(auto, using(crate::proofs::ByteFieldsLemmas::Kept::kept))]
 fn add_files(out: &mut Bytes, base: &[File<'_>], files: &[File<'_>]) -> Result<(), OutOfMemory>
     requires base { Rises (λ file. file.number) 0 (map file_view base.now) }
