@@ -26,6 +26,15 @@ use Rattle.verify_commands.specs.Verify.{verify_plan}
 use Rattle.ddc_app.specs.Help.{help_plan}
 use Rattle.ddc_app.specs.Version.{version_plan}
 
+-- what the commands do that need no file
+abbrev pub plan_without_files : List ℕ → List (List ℕ) → Plan
+plan_without_files command words =
+    if bytes_eq command (codes "help") then help_plan words
+    else (if bytes_eq command (codes "--help") then help_plan words
+    else (if bytes_eq command (codes "version") then version_plan words
+    else (if bytes_eq command (codes "--version") then version_plan words
+    else usage)))
+
 -- what the commands do that say one text
 abbrev pub text_plan : List (List ℕ) → Plan
 text_plan [] = usage
@@ -52,11 +61,7 @@ text_plan (command ∷ words) =
     else (if bytes_eq command (codes "kaem-left") then kaem_left_plan words
     else (if bytes_eq command (codes "rests") then rests_plan words
     else (if bytes_eq command (codes "where") then where_plan words
-    else (if bytes_eq command (codes "help") then help_plan words
-    else (if bytes_eq command (codes "--help") then help_plan words
-    else (if bytes_eq command (codes "version") then version_plan words
-    else (if bytes_eq command (codes "--version") then version_plan words
-    else usage)))))))))))))))))))))))))
+    else plan_without_files command words)))))))))))))))))))))
 
 -- whether a command line is one of `step`, the command that may begin a session
 abbrev pub is_step : List (List ℕ) → Bool

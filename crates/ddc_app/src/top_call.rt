@@ -7,8 +7,9 @@ ghost use Rattle.command_plan.specs.Answered.{is_answer};
 ghost use Rattle.command_plan.specs.Endings.{Completes};
 ghost use Rattle.command_plan.specs.Performs.{HoldsTalk, Performs, WantsMemory, outside};
 ghost use Rattle.command_plan.specs.Plan.{talk_of};
+ghost use Rattle.command_plan.specs.Steps.{Says};
 ghost use Rattle.ddc_app.specs.Accepting.{is_compared, verify};
-ghost use Rattle.ddc_app.specs.Commands.{is_step, text_plan};
+ghost use Rattle.ddc_app.specs.Commands.{is_step, text_plan, plan_without_files};
 ghost use Rattle.ddc_app.specs.Chained.{Chained};
 ghost use Rattle.ddc_app.specs.Scripted.{ScriptReported, ScriptVerified, kaem_verify};
 ghost use Rattle.ddc_app.specs.Verified.{Verified};
@@ -197,6 +198,15 @@ fn perform<M: Meaning, S: Shelf>(
         "kaem-left" => kaem_left::perform(alloc, shelf, words),
         "rests" => rests::perform(alloc, shelf, words),
         "where" => refusal_place::perform(alloc, shelf, words),
+        _ => perform_without_files(alloc, first, words),
+    }
+}
+
+/// Hands over to a command that needs no file, where the word names one.
+fn perform_without_files(alloc: Global, first: &str, words: &[&str]) -> Result<Answer, Stop>
+    ensures { Says (plan_without_files first.now (map (λ word. word.now) words.now)) result }
+{
+    match first {
         "help" => help::perform(alloc, words),
         "--help" => help::perform(alloc, words),
         "version" => version::perform(alloc, words),
