@@ -26,42 +26,42 @@ use Rattle.verify_commands.specs.Verify.{verify_plan}
 use Rattle.ddc_app.specs.Help.{help_plan}
 use Rattle.ddc_app.specs.Version.{version_plan}
 
--- what the commands do that need no file
-abbrev pub plan_without_files : List ℕ → List (List ℕ) → Plan
-plan_without_files command words =
-    if bytes_eq command (codes "help") then help_plan words
+-- what the other commands do that say one text
+unfoldable pub other_plan : List ℕ → List (List ℕ) → Plan
+other_plan command words =
+    if bytes_eq command (codes "hex0") then hex0_plan words
+    else (if bytes_eq command (codes "asm") then asm_plan words
+    else (if bytes_eq command (codes "where") then where_plan words
+    else (if bytes_eq command (codes "list") then list_plan words
+    else (if bytes_eq command (codes "run") then run_plan words
+    else (if bytes_eq command (codes "demo") then demo_plan words
+    else (if bytes_eq command (codes "rests") then rests_plan words
+    else (if bytes_eq command (codes "left") then left_plan words
+    else (if bytes_eq command (codes "cut") then cut_plan words
+    else (if bytes_eq command (codes "segment") then segment_plan words
+    else (if bytes_eq command (codes "ends") then ends_plan words
+    else (if bytes_eq command (codes "help") then help_plan words
     else (if bytes_eq command (codes "--help") then help_plan words
     else (if bytes_eq command (codes "version") then version_plan words
     else (if bytes_eq command (codes "--version") then version_plan words
-    else usage)))
+    else usage))))))))))))))
 
--- what the commands do that say one text
+-- what the commands do that say one text: those on the report of an audit or of a script, and on what a script's command left; and the others
 abbrev pub text_plan : List (List ℕ) → Plan
 text_plan [] = usage
 text_plan (command ∷ words) =
-    if bytes_eq command (codes "hex0") then hex0_plan words
-    else (if bytes_eq command (codes "asm") then asm_plan words
-    else (if bytes_eq command (codes "list") then list_plan words
-    else (if bytes_eq command (codes "run") then run_plan words
-    else (if bytes_eq command (codes "audit") then audit_plan words
+    if bytes_eq command (codes "audit") then audit_plan words
     else (if bytes_eq command (codes "part") then part_plan words
     else (if bytes_eq command (codes "resume") then resume_plan words
     else (if bytes_eq command (codes "delta-start") then delta_start_plan words
     else (if bytes_eq command (codes "delta-resume") then delta_resume_plan words
     else (if bytes_eq command (codes "show") then show_plan words
     else (if bytes_eq command (codes "verify") then verify_plan words
-    else (if bytes_eq command (codes "demo") then demo_plan words
-    else (if bytes_eq command (codes "left") then left_plan words
-    else (if bytes_eq command (codes "cut") then cut_plan words
-    else (if bytes_eq command (codes "segment") then segment_plan words
-    else (if bytes_eq command (codes "ends") then ends_plan words
     else (if bytes_eq command (codes "chain") then chain_plan words
     else (if bytes_eq command (codes "kaem") then kaem_plan words
     else (if bytes_eq command (codes "kaem-verify") then kaem_verify_plan words
     else (if bytes_eq command (codes "kaem-left") then kaem_left_plan words
-    else (if bytes_eq command (codes "rests") then rests_plan words
-    else (if bytes_eq command (codes "where") then where_plan words
-    else plan_without_files command words)))))))))))))))))))))
+    else other_plan command words))))))))))
 
 -- whether a command line is one of `step`, the command that may begin a session
 abbrev pub is_step : List (List ℕ) → Bool

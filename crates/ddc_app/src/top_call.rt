@@ -7,9 +7,8 @@ ghost use Rattle.command_plan.specs.Answered.{is_answer};
 ghost use Rattle.command_plan.specs.Endings.{Completes};
 ghost use Rattle.command_plan.specs.Performs.{HoldsTalk, Performs, WantsMemory, outside};
 ghost use Rattle.command_plan.specs.Plan.{talk_of};
-ghost use Rattle.command_plan.specs.Steps.{Says};
 ghost use Rattle.ddc_app.specs.Accepting.{is_compared, verify};
-ghost use Rattle.ddc_app.specs.Commands.{is_step, text_plan, plan_without_files};
+ghost use Rattle.ddc_app.specs.Commands.{is_step, other_plan, text_plan};
 ghost use Rattle.ddc_app.specs.Chained.{Chained};
 ghost use Rattle.ddc_app.specs.Scripted.{ScriptReported, ScriptVerified, kaem_verify};
 ghost use Rattle.ddc_app.specs.Verified.{Verified};
@@ -163,7 +162,8 @@ fn after_step<'a, 'w>(words: &'a [&'w str]) -> Option<&'a [&'w str]>
     }
 }
 
-/// Hands over to the command that the first word names, of those that say one text.
+/// Hands over to the command that the first word names, of those that say one text: here those on the report of an audit or of a script, and on
+/// what a script's command left.
 #[tactic(auto, using(command_plan::proofs::Performing::performing))]
 fn perform<M: Meaning, S: Shelf>(
     alloc: Global,
@@ -176,10 +176,6 @@ fn perform<M: Meaning, S: Shelf>(
         return usage(alloc);
     };
     match *first {
-        "hex0" => hex0::perform(alloc, shelf, words),
-        "asm" => asm::perform(alloc, shelf, words),
-        "list" => list::perform(alloc, shelf, words),
-        "run" => run::perform(alloc, shelf, words),
         "audit" => audit::perform(alloc, shelf, words),
         "part" => part::perform(alloc, shelf, words),
         "resume" => resume::perform(alloc, shelf, words),
@@ -187,26 +183,36 @@ fn perform<M: Meaning, S: Shelf>(
         "delta-resume" => delta_resume::perform(alloc, shelf, words),
         "show" => show::perform(alloc, shelf, words),
         "verify" => verify::perform::<M, S>(alloc, shelf, words),
-        "demo" => demo::perform::<M, S>(alloc, shelf, words),
-        "left" => left::perform(alloc, shelf, words),
-        "cut" => cut::perform(alloc, shelf, words),
-        "segment" => segment::perform(alloc, shelf, words),
-        "ends" => ends::perform(alloc, shelf, words),
         "chain" => chain::perform(alloc, shelf, words),
         "kaem" => kaem::perform(alloc, shelf, words),
         "kaem-verify" => kaem_verify::perform(alloc, shelf, words),
         "kaem-left" => kaem_left::perform(alloc, shelf, words),
-        "rests" => rests::perform(alloc, shelf, words),
-        "where" => refusal_place::perform(alloc, shelf, words),
-        _ => perform_without_files(alloc, first, words),
+        _ => perform_other::<M, S>(alloc, shelf, first, words),
     }
 }
 
-/// Hands over to a command that needs no file, where the word names one.
-fn perform_without_files(alloc: Global, first: &str, words: &[&str]) -> Result<Answer, Stop>
-    ensures { Says (plan_without_files first.now (map (λ word. word.now) words.now)) result }
+/// The same for the other commands.
+#[tactic(auto, using(command_plan::proofs::Performing::performing), unfolding(crate::specs::Commands::other_plan))]
+fn perform_other<M: Meaning, S: Shelf>(
+    alloc: Global,
+    shelf: &mut S,
+    first: &str,
+    words: &[&str],
+) -> Result<Answer, Stop>
+    ensures { Performs (other_plan first.now (map (λ word. word.now) words.now)) (S.state shelf.old) (S.state shelf.new) result }
 {
     match first {
+        "hex0" => hex0::perform(alloc, shelf, words),
+        "asm" => asm::perform(alloc, shelf, words),
+        "where" => refusal_place::perform(alloc, shelf, words),
+        "list" => list::perform(alloc, shelf, words),
+        "run" => run::perform(alloc, shelf, words),
+        "demo" => demo::perform::<M, S>(alloc, shelf, words),
+        "rests" => rests::perform(alloc, shelf, words),
+        "left" => left::perform(alloc, shelf, words),
+        "cut" => cut::perform(alloc, shelf, words),
+        "segment" => segment::perform(alloc, shelf, words),
+        "ends" => ends::perform(alloc, shelf, words),
         "help" => help::perform(alloc, words),
         "--help" => help::perform(alloc, words),
         "version" => version::perform(alloc, words),
