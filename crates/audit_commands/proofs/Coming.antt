@@ -34,7 +34,7 @@ delta_is_kept recipe inputs stands save (Ok bytes) saved p text on keeps =
     subst (λ s. IsDeltaFrom recipe inputs keeps.0 s bytes) on (saved keeps.0 keeps.1) ∙ sym (keeps.2 p)
 delta_is_kept recipe inputs stands save (Err e) saved p text on keeps = tt
 
--- what is kept relative to a base is kept beside the save of a position
+-- what is kept relative to a base is kept relative to the save of a position
 pub base_of : (recipe : RecipeContents) (inputs : List (List ℕ)) (kept : Kept) (save : Bor (List ℕ)) → kept ≡ Relative save → (text : Position → List ℕ) × Keeps recipe inputs kept text
     → (b : Position) × IsBaseAt recipe inputs b save.now
 base_of recipe inputs kept save is keeps = let k = subst (λ k. Keeps recipe inputs k keeps.0) is keeps.1 in (k.0, k.1)

@@ -59,7 +59,7 @@ impl<'w> PieceWords<'w> {
     }
 }
 
-/// A recipe, the base beside which is kept what differs, and a piece of the audit, of which that is kept.
+/// A recipe, the base, and a piece of the audit, of which what differs from the base is kept.
 #[derive(Drop)]
 pub(crate) struct RelativeWords<'w> {
     pub recipe: FileName<'w>,

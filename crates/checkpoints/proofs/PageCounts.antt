@@ -71,7 +71,7 @@ between test low high fits number zero = omega arith
 between test low high fits number (suc count) =
     one_between test low high number _ (count_by test (pages_from (suc number) count)) fits (between test low high fits (suc number) count) (test number) refl (count_by-cons test number (pages_from (suc number) count))
 
--- an address that is not beside the heap is within its pages
+-- an address that is not apart from the heap is within its pages
 in_heap : (first top at : ℕ) (b c : Bool) → nat_lt at first ≡ b → nat_le top at ≡ c → not (b || c) ≡ true → (first ≤ at) × (at < top)
 in_heap first top at true c below above e = absurd cc
 in_heap first top at false true below above e = absurd cc
@@ -80,7 +80,7 @@ in_heap first top at false false below above e = (ltb-false at first below, leb-
 in_heap_pages : (heap : Heap) (page : ℕ) → not (is_apart_from_heap heap (4096 * page)) ≡ true → (heap.first ≤ 4096 * page) × (4096 * page < page_up (heap.first + heap.limit))
 in_heap_pages heap page e = in_heap heap.first (page_up (heap.first + heap.limit)) (4096 * page) (nat_lt (4096 * page) heap.first) (nat_le (page_up (heap.first + heap.limit)) (4096 * page)) refl refl e
 
--- a guest has at most 67,584 pages beside its heap and 262,144 of its heap
+-- a guest has at most 67,584 pages apart from its heap and 262,144 of its heap
 pub few_pages : (m : Memory) (heap : Heap) → Fits m heap → pages_in (runs_of m) ≤ 329_728
 unfolding pages_apart
 few_pages m heap fits =

@@ -36,7 +36,7 @@ number64 n = record { long = omega arith }
 pub itself : (text : List ℕ) → HasAtMost (length text) text
 itself text = record { long = omega arith }
 
--- texts of items, each of at most so many bytes beside its own part
+-- texts of items, each of at most so many bytes apart from its own part
 pub items : {A : Type 0} (item : A → List ℕ) (own : A → ℕ) (most : ℕ) (xs : List A) → All (λ x. HasAtMost (most + own x) (item x)) xs → HasAtMost (length xs * most + sum_by own xs) (flat_map item xs)
 items item own most [] all = record { long = omega arith }
 items item own most (x ∷ xs) all =
@@ -44,7 +44,7 @@ items item own most (x ∷ xs) all =
     let rest = (items item own most xs (All-tail (λ x. HasAtMost (most + own x) (item x)) x xs all)).long in
     record { long = omega (arith, length-append (item x) (flat_map item xs), sum_by-cons own x xs) }
 
--- the same with nothing beside it
+-- the same with nothing apart from it
 pub alike : {A : Type 0} (item : A → List ℕ) (most : ℕ) (xs : List A) → All (λ x. HasAtMost most (item x)) xs → HasAtMost (length xs * most) (flat_map item xs)
 alike item most xs all = record { long = rw length-flat_map (sum_by-le (λ x. length (item x)) most xs (λ k d less. (all k d less).long)) }
 

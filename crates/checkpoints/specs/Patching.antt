@@ -1,4 +1,4 @@
--- What becomes of a patch beside the state that is its base. docs/reference/delta.md says the same for people.
+-- What becomes of a patch relative to the state that is its base. docs/reference/delta.md says the same for people.
 use Rattle.std.specs.Prelude.{◌≡◌, ℕ, List, Result, Ok, Err}
 use Rattle.guest_run.specs.State.{GuestState}
 use Rattle.save_format.specs.PatchText.PatchText.{parsed_patch}

@@ -15,7 +15,7 @@ unfoldable pub pages_from : ℕ → ℕ → List ℕ
 pages_from number zero = []
 pages_from number (suc count) = number ∷ pages_from (suc number) count
 
--- how many pages are mapped beside the heap
+-- how many pages are mapped apart from the heap
 unfoldable pub pages_apart : Memory → Heap → ℕ
 pages_apart memory heap =
     count_by (λ page. contains_key memory (4096 * page) && is_apart_from_heap heap (4096 * page)) (pages_from 0 (2 ^ 26))

@@ -15,7 +15,7 @@ use rv64_machine::Hart;
 const MAX_HEAP: u64 = 1 << 30;
 /// The bytes of the stack's pages.
 const STACK_SIZE: u64 = 2_048 * PAGE;
-/// The most pages beside the heap.
+/// The most pages apart from the heap.
 const MAX_PAGES: u64 = 67_584;
 
 /// Whether a hart's memory and a heap are those of a valid state.
@@ -81,7 +81,7 @@ fn page_up(address: u64) -> u64
     address.next_multiple_of(PAGE)
 }
 
-/// How many pages are mapped beside a heap.
+/// How many pages are mapped apart from a heap.
 fn pages_apart<R: Ram>(ram: &R, heap: &Heap) -> u64
     requires { HasBounds heap.now }
     ensures { result ≡ pages_apart (R.bytes ram.now) heap.entry.now }
@@ -95,7 +95,7 @@ fn pages_apart<R: Ram>(ram: &R, heap: &Heap) -> u64
     count
 }
 
-/// How many of the pages in a row lie beside a heap.
+/// How many of the pages in a row lie apart from a heap.
 fn apart_in_row(heap: &Heap, first: u64, pages: u64) -> u64
     requires bounds { HasBounds heap.now }
     requires low { first + pages ≤ 2 ^ 26 }

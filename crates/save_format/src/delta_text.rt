@@ -1,4 +1,4 @@
-//! The text of a delta: where an audit stands, kept beside a save, its base, as what differs.
+//! The text of a delta: where an audit stands, kept as what differs from a save, its base.
 //!
 //! docs/reference/delta.md has its fields for a reader, and specs/DeltaText/DeltaText.antt the same for the prover.
 

@@ -1,4 +1,4 @@
-//! The text of a patch: a state, kept beside another one, its base, as what differs.
+//! The text of a patch: a state, kept as what differs from another one, its base.
 //!
 //! docs/reference/delta.md has its fields for a reader, and specs/PatchText/PatchText.antt the same for the prover.
 

@@ -1,4 +1,4 @@
--- Files that are read one after the other beside those of a base.
+-- Files that are read one after the other relative to those of a base.
 use Rattle.std.proofs.Common.{◌≡◌, ℕ, suc, ◌+◌, ◌-◌, ◌<◌, ◌≤◌, Bool, true, false, ◌&&◌, nat_le, Option, None, List, [], ◌∷◌, ◌++◌, length, drop, map, take, Ok, Err, inl, inr, zero, refl, sym, ap, ◌∙◌, append_assoc, arith, le-leb}
 use Rattle.std.proofs.lemmas.List.{append-nil, drop-drop, length-map, map-append, take-map}
 use Rattle.std.proofs.lemmas.Bool.{cases_lt, lt-leb}

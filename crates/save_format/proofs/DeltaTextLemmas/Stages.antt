@@ -1,4 +1,4 @@
--- Stages beside those of a base: what is read is spelled so, and what is spelled so is read.
+-- Stages relative to those of a base: what is read is spelled so, and what is spelled so is read.
 use Rattle.std.proofs.Common.{◌≡◌, ℕ, zero, suc, ◌^◌, ◌<◌, ◌≤◌, Bool, true, false, cond, not, nat_le, bytes_eq, Option, None, List, [], ◌∷◌, ◌++◌, All, length, take, drop, refl, sym, ap, subst, ◌∙◌, arith, leb-true, le-leb, ◌==◌, ◌&&◌, eqb-true, eq-eqb}
 use Rattle.std.specs.Prelude.{slice_get}
 use Rattle.std.specs.Int.{w32}

@@ -91,7 +91,7 @@ changed_again n known found = by (equal_contents known found) refl
     by true was = same_is known found was
     by false was = refl
 
--- what a change says beside what the base has at its number
+-- what a change says relative to what the base has at its number
 abbrev pub IsNew : Option (List ℕ) → Option (List ℕ) → Type 0
 IsNew known None = is_some known ≡ true
 IsNew known (Some found) = (length found ≡ 4096) × ((is_page found && is_new known found) ≡ true)

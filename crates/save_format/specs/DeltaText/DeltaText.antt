@@ -1,4 +1,4 @@
--- What the text of a delta says: where an audit stands, beside the save that is its base. It is read field by field. docs/reference/delta.md says
+-- What the text of a delta says: where an audit stands, relative to the save that is its base. It is read field by field. docs/reference/delta.md says
 -- the same for people.
 use Rattle.std.specs.Prelude.{ℕ, List, [], ◌∷◌, ◌++◌, Result}
 use Rattle.ddc_base.specs.declared.digests.Digest.{Digest}

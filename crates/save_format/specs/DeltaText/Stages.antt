@@ -1,4 +1,4 @@
--- The stages that are done, beside those of a base: how many in front are the base's, and then the further ones. docs/reference/delta.md says the
+-- The stages that are done, relative to those of a base: how many in front are the base's, and then the further ones. docs/reference/delta.md says the
 -- same for people.
 use Rattle.std.specs.Prelude.{ℕ, suc, ◌^◌, ◌<◌, Bool, true, false, ◌&&◌, ◌==◌, not, nat_le, bytes_eq, Option, None, Some, List, [], ◌∷◌, ◌++◌, All, length, take, drop, slice_get, if◌then◌else◌}
 use Rattle.std.specs.Int.{w32}

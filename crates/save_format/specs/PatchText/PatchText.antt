@@ -1,4 +1,4 @@
--- What the text of a patch says: a state, beside the state that is its base. It is read field by field. docs/reference/delta.md says the same for people.
+-- What the text of a patch says: a state, relative to the state that is its base. It is read field by field. docs/reference/delta.md says the same for people.
 use Rattle.std.specs.Prelude.{ℕ, zero, suc, ◌+◌, ◌/◌, ◌%◌, ◌^◌, Bool, true, false, ◌&&◌, not, ◌==◌, nat_le, bytes_eq, Option, None, Some, option_map, unwrap_or, List, [], ◌∷◌, Result}
 use Rattle.std.specs.Int.{w16}
 use Rattle.save_format.specs.ByteFields.Reader.{Reader, ◌>>=◌, begun, blob, byte, bytes, counted, done, that, u32, u32_from, u64, whole}

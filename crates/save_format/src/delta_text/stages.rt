@@ -1,4 +1,4 @@
-//! The stages that are done, beside those of a base.
+//! The stages that are done, relative to those of a base.
 
 ghost use Rattle.std.specs.Prelude.{◌≡◌, length, map, nat_le, option_map, slice_get};
 ghost use Rattle.std.specs.Option.{option_copied};

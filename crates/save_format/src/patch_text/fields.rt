@@ -1,4 +1,4 @@
-//! The fields of a patch that take no memory, each read beside what the base has.
+//! The fields of a patch that take no memory, each read relative to what the base has.
 ghost use Rattle.std.specs.Prelude.{◌≡◌, ◌==◌, ◌%◌, ◌≤◌, ◌+◌, ◌&&◌, drop, not, length, IfOk, map, option_map};
 ghost use Rattle.std.specs.Option.{option_copied};
 ghost use Rattle.save_format.specs.ByteFields.Reader.{Finds, byte, bytes, that, u32, u64};

@@ -60,7 +60,7 @@ fn pages_apart<'a>(
     Ok(pages)
 }
 
-/// A count of 4 bytes, and that many files beside those of a base.
+/// A count of 4 bytes, and that many files relative to those of a base.
 fn files_relative<'a>(
     alloc: Global,
     cursor: &mut Cursor<'a>,

@@ -39,7 +39,7 @@ impl FrontNumbers {
     }
 }
 
-/// How many pages a guest can have: 67,584 beside its heap, and 262,144 of its heap.
+/// How many pages a guest can have: 67,584 apart from its heap, and 262,144 of its heap.
 pub const MOST_PAGES: u64 = 329_728;
 
 /// What is left of the most pages after one more run; `None` where there are too many, or a run ends after memory.

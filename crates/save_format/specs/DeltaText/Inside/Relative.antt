@@ -1,4 +1,4 @@
--- Going past a stage beside one of a base.
+-- Going past a stage relative to one of a base.
 use Rattle.std.specs.Prelude.{◌≡◌, ℕ, Bool, false, List, [], ◌∷◌, Result, Ok, Err}
 use Rattle.report.specs.declared.types.LeftLine.{LeftLine}
 use Rattle.save_format.specs.ByteFields.Reader.{Read}
