@@ -89,7 +89,7 @@ fn places_all<R: Files + AllocGlobal>(rt: &R) -> bool {
 }
 
 #[test]
-fn saves_in_place_where_nothing_can_stand_relative(rt: HostRuntime) {
+fn saves_in_place_where_nothing_can_stand_beside(rt: HostRuntime) {
     assert!(rt; places_all(&rt));
 }
 
@@ -107,7 +107,7 @@ fn saves_with<R: Files + AllocGlobal, S: Shelf>(
 }
 
 /// Whether a save is one where the user has taken a name beside it.
-fn saves_relative<R: Files + AllocGlobal, S: Shelf>(
+fn saves_beside<R: Files + AllocGlobal, S: Shelf>(
     rt: &R,
     shelf: &mut S,
     ending: &str,
@@ -116,13 +116,13 @@ fn saves_relative<R: Files + AllocGlobal, S: Shelf>(
     Ok(saves_with(rt, shelf, taken.as_str(), ending))
 }
 
-fn all_save_relative<R: Files + AllocGlobal, S: Shelf>(
+fn all_save_beside<R: Files + AllocGlobal, S: Shelf>(
     rt: &R,
     shelf: &mut S,
     endings: &[&str],
 ) -> Result<bool, OutOfMemory> {
     for ending in endings {
-        if !saves_relative(rt, shelf, ending)? {
+        if !saves_beside(rt, shelf, ending)? {
             return Ok(false);
         }
     }
@@ -144,9 +144,9 @@ fn all_are_left<R: Files + AllocGlobal>(rt: &R, endings: &[&str]) -> Result<bool
     Ok(true)
 }
 
-fn shelf_saves_relative<R: Files + AllocGlobal>(rt: &R) -> Result<bool, OutOfMemory> {
+fn shelf_saves_beside<R: Files + AllocGlobal>(rt: &R) -> Result<bool, OutOfMemory> {
     let mut shelf = DirShelf::new(rt);
-    all_save_relative(rt, &mut shelf, &ENDINGS)
+    all_save_beside(rt, &mut shelf, &ENDINGS)
 }
 
 /// Whether a save beside all these names fails and keeps the file, so that it is not written in place.
@@ -161,7 +161,7 @@ fn keeps_mine<R: Files + AllocGlobal>(rt: &R) -> bool {
 fn leaves_the_users_own<R: Files + AllocGlobal>(rt: &R) -> Result<bool, OutOfMemory> {
     Ok(
         is_written(rt, "mine", b"the old content")
-            && shelf_saves_relative(rt)?
+            && shelf_saves_beside(rt)?
             && keeps_mine(rt)
             && all_are_left(rt, &ENDINGS)?
             && is_removed(rt, "mine"),
@@ -169,7 +169,7 @@ fn leaves_the_users_own<R: Files + AllocGlobal>(rt: &R) -> Result<bool, OutOfMem
 }
 
 #[test]
-fn saves_relative_the_users_own_names(rt: HostRuntime) -> Result<(), Fail> {
+fn saves_beside_the_users_own_names(rt: HostRuntime) -> Result<(), Fail> {
     assert!(rt; leaves_the_users_own(&rt)?);
     Ok(())
 }

@@ -289,7 +289,7 @@ fn step_alike<R: Ram, S: Ram>(one: &mut Hart<R>, other: &mut Hart<S>) -> bool
 }
 
 /// Whether a new hart and another one over such memories do.
-fn steps_relative_another<R: Ram, S: Ram>(alloc: Global, one: &mut Hart<R>) -> bool
+fn steps_as_another<R: Ram, S: Ram>(alloc: Global, one: &mut Hart<R>) -> bool
     requires { one.old ≡ record {
       registers = replicate 32 0;
       pc = 65536;
@@ -305,7 +305,7 @@ fn steps_relative_another<R: Ram, S: Ram>(alloc: Global, one: &mut Hart<R>) -> b
 
 fn new_ones_step_alike<R: Ram, S: Ram>(alloc: Global) -> bool {
     match made::<R>(alloc) {
-        Ok(mut one) => steps_relative_another::<R, S>(alloc, &mut one),
+        Ok(mut one) => steps_as_another::<R, S>(alloc, &mut one),
         Err(_) => false,
     }
 }

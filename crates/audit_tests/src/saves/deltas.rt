@@ -56,7 +56,7 @@ fn saves(alloc: Global) -> Result<Vec<Bytes>, OutOfMemory> {
     Ok(saves)
 }
 
-/// Whether a later pause, so many steps after the base, comes back beside it.
+/// Whether a later pause, so many steps after the base, comes back relative to it.
 fn comes_back(alloc: Global, base: &[u8], more: u64, save: &[u8]) -> bool {
     match delta_of(alloc, base, more) {
         Ok(delta) => says(alloc, base, delta.as_slice(), save),
@@ -64,7 +64,7 @@ fn comes_back(alloc: Global, base: &[u8], more: u64, save: &[u8]) -> bool {
     }
 }
 
-/// Whether each of these later pauses, the first of them a step after the base, comes back beside it.
+/// Whether each of these later pauses, the first of them a step after the base, comes back relative to it.
 fn come_back(alloc: Global, base: &[u8], later: &[Bytes]) -> bool {
     let mut more = 0;
     for save in later {
@@ -76,7 +76,7 @@ fn come_back(alloc: Global, base: &[u8], later: &[Bytes]) -> bool {
     true
 }
 
-/// Whether all others come back beside the first.
+/// Whether all others come back relative to the first.
 fn all_come_back(alloc: Global, saves: &[Bytes]) -> bool {
     match saves {
         [base, later @ ..] => come_back(alloc, base.as_slice(), later),
@@ -84,7 +84,7 @@ fn all_come_back(alloc: Global, saves: &[Bytes]) -> bool {
     }
 }
 
-/// Whether each later pause comes back beside the save with so many before it.
+/// Whether each later pause comes back relative to the save with so many before it.
 fn all_come_back_from(alloc: Global, first: usize) -> bool {
     match saves(alloc) {
         Ok(saves) => all_come_back(alloc, saves.as_slice().get(first..).unwrap_or(&[])),
@@ -93,17 +93,17 @@ fn all_come_back_from(alloc: Global, first: usize) -> bool {
 }
 
 #[test]
-fn pauses_come_back_relative_the_first_one(rt: HostRuntime) {
+fn pauses_come_back_relative_to_the_first_one(rt: HostRuntime) {
     assert!(rt; all_come_back_from(rt.alloc(), 0));
 }
 
 #[test]
-fn pauses_come_back_relative_the_last_one_of_a_stage(rt: HostRuntime) {
+fn pauses_come_back_relative_to_the_last_one_of_a_stage(rt: HostRuntime) {
     assert!(rt; all_come_back_from(rt.alloc(), 30));
 }
 
 #[test]
-fn pauses_come_back_relative_the_next_stages_start(rt: HostRuntime) {
+fn pauses_come_back_relative_to_the_next_stages_start(rt: HostRuntime) {
     assert!(rt; all_come_back_from(rt.alloc(), 31));
 }
 
@@ -115,7 +115,7 @@ fn check_pairs(rt: &impl Abort, alloc: Global, saves: &[Bytes]) {
 }
 
 #[test]
-fn each_pause_comes_back_relative_the_one_before_it(rt: HostRuntime) {
+fn each_pause_comes_back_relative_to_the_one_before_it(rt: HostRuntime) {
     let saves = saves(rt.alloc()).expect(&rt, "saves");
     check_pairs(&rt, rt.alloc(), saves.as_slice());
 }
@@ -192,7 +192,7 @@ fn says_itself_at(alloc: Global, steps: u64) -> bool {
     }
 }
 
-/// Of two audits that stand at one place, the one says nothing beside the other. The texts have a header, the present place and no stage.
+/// Of two audits that stand at one place, the one says nothing relative to the other. The texts have a header, the present place and no stage.
 #[test]
 fn an_audit_has_a_delta_against_itself(rt: HostRuntime) {
     for steps in [1, 31, 32, 63] {

@@ -1,4 +1,4 @@
-//! Where an audit stands beside the save of `saves`: what is expected comes from docs/reference/delta.md.
+//! Where an audit stands relative to the save of `saves`: what is expected comes from docs/reference/delta.md.
 
 use crate::texts::patches::NOTHING;
 use crate::texts::pieces::Piece::*;
@@ -57,7 +57,7 @@ fn delta(alloc: Global) -> Result<Vec<Piece>, AllocError> {
     Ok(pieces)
 }
 
-/// Where the first wrong field of a delta's text begins beside a save.
+/// Where the first wrong field of a delta's text begins relative to a save.
 fn wrong<'a>(alloc: Global, base: &'a [u8], text: &'a [u8]) -> Option<u64> {
     match save_format::read(alloc, base) {
         Ok(known) => match delta_text::read(alloc, known, text) {
@@ -74,7 +74,7 @@ fn base(alloc: Global) -> Result<Vec<u8>, AllocError> {
     text_of(alloc, &save(alloc)?)
 }
 
-/// Deltas beside the save.
+/// Deltas relative to the save.
 struct DeltaForm;
 
 impl Form for DeltaForm {

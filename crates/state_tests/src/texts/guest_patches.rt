@@ -1,4 +1,4 @@
-//! Guests beside the guest of `guests`: what is expected comes from docs/reference/delta.md.
+//! Guests relative to the guest of `guests`: what is expected comes from docs/reference/delta.md.
 
 use crate::texts::guests::{guest_of, has_text, text_with};
 use crate::texts::pieces::Piece::*;
@@ -37,7 +37,7 @@ static OTHERS: &[Changes] = &[
     &[(71, Text(b"\x03\0\0\0err"))],
 ];
 
-/// Whether a patch beside a guest makes the guest of a text.
+/// Whether a patch relative to a guest makes the guest of a text.
 fn applies(alloc: Global, known: &Guest<RunRam>, patch: &[u8], wanted: &[u8]) -> bool {
     let made: Result<Guest<RunRam>, StateRefusal> = apply_patch(alloc, known, patch);
     match made {
@@ -46,7 +46,7 @@ fn applies(alloc: Global, known: &Guest<RunRam>, patch: &[u8], wanted: &[u8]) ->
     }
 }
 
-/// The patch beside a guest of the guest that a text says; none where that is refused.
+/// The patch relative to a guest of the guest that a text says; none where that is refused.
 fn patch_to(alloc: Global, known: &Guest<RunRam>, text: &[u8]) -> Option<Bytes> {
     match guest_of(alloc, text) {
         Some(guest) => write_patch(alloc, known, &guest).ok(),
@@ -62,7 +62,7 @@ fn leads(alloc: Global, known: &Guest<RunRam>, text: &[u8]) -> bool {
     }
 }
 
-/// Whether the patch of the guest with some fields changed makes it, beside the guest with others changed.
+/// Whether the patch of the guest with some fields changed makes it, relative to the guest with others changed.
 fn makes(alloc: Global, base: Changes, now: Changes) -> Result<bool, AllocError> {
     let base = text_with(alloc, base)?;
     let text = text_with(alloc, now)?;

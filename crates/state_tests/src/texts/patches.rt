@@ -1,4 +1,4 @@
-//! States beside the state of `states`: what is expected comes from docs/reference/delta.md.
+//! States relative to the state of `states`: what is expected comes from docs/reference/delta.md.
 
 ghost use Rattle.save_format.specs.StateText.Seen.{state_view};
 ghost use Rattle.save_format.specs.StateText.Spelled.{IsStateText};
@@ -127,7 +127,7 @@ static CHANGES: &[Change] = &[
     (43, Text(b"on"), None),
 ];
 
-/// Where the first wrong field of a patch's text begins beside a state.
+/// Where the first wrong field of a patch's text begins relative to a state.
 fn wrong_relative<'a>(alloc: Global, known: &StateParts<'a>, text: &'a [u8]) -> Option<u64>
     requires { IsStateText (state_view known.now) }
 {
@@ -145,7 +145,7 @@ fn wrong<'a>(alloc: Global, base: &'a [u8], text: &'a [u8]) -> Option<u64> {
     }
 }
 
-/// Patches beside the state.
+/// Patches relative to the state.
 struct PatchForm;
 
 impl Form for PatchForm {
@@ -184,7 +184,7 @@ fn a_byte_after_the_last_field_is_named(rt: HostRuntime) -> Result<(), Fail> {
     Ok(())
 }
 
-/// What a patch says beside the state: steps and pc, x1, x2 and x31, its two pages' numbers and last bytes, and the contents of the files and of both
+/// What a patch says relative to the state: steps and pc, x1, x2 and x31, its two pages' numbers and last bytes, and the contents of the files and of both
 /// streams.
 struct RecipeContents {
     numbers: (u64, u64),
@@ -231,7 +231,7 @@ fn has_contents(
     Ok(out.as_slice() == said.contents)
 }
 
-/// Whether a patch beside a state has this text.
+/// Whether a patch relative to a state has this text.
 fn is_written(
     alloc: Global,
     known: &StateParts<'_>,
@@ -246,7 +246,7 @@ fn is_written(
     Ok(out.as_slice() == text)
 }
 
-/// Whether parts say this, and their patch beside a state has this text.
+/// Whether parts say this, and their patch relative to a state has this text.
 fn has_parts(
     alloc: Global,
     known: &StateParts<'_>,
@@ -288,7 +288,7 @@ fn says_relative_text<'a>(
     }
 }
 
-/// Whether the patch of these pieces says this beside the state, and is written for it.
+/// Whether the patch of these pieces says this relative to the state, and is written for it.
 fn says(alloc: Global, pieces: &[Piece], said: &RecipeContents) -> Result<bool, OutOfMemory> {
     let base = text_of(alloc, STATE)?;
     let text = text_of(alloc, pieces)?;
