@@ -13,8 +13,7 @@ use std::marker::Model;
 /// What a program is given when it starts: arguments, environment texts, files by name, and the most
 /// bytes of its heap.
 ///
-/// Texts and contents are borrowed to it for `'a`, and none of their bytes is copied before a start. It keeps the allocator that its
-/// constructor took.
+/// It borrows texts and contents for `'a`, and copies none of their bytes before a start. It keeps the allocator that its constructor took.
 #[derive(Drop)]
 pub struct RunBox<'a> {
     args: Vec<Borrowed<'a>>,

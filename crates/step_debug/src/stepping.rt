@@ -19,7 +19,7 @@ use std::marker::Model;
 
 /// A program's run that is looked at line by line, from its start on, up to so many steps.
 ///
-/// Program and box are borrowed to it: to go back, the program is started again. It keeps the allocator that its constructor took.
+/// It borrows program and box: to go back, the program is started again. It keeps the allocator that its constructor took.
 #[derive(Drop)]
 pub struct Session<'a> {
     program: &'a [u8],
