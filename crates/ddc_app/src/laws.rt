@@ -115,7 +115,8 @@ pub fn others_stay()
 /// audit in pieces pauses, and SAVE where the audit is over.
 pub fn unwritten_stays()
     ensures part { (recipe save report : List ℕ) (steps : ℕ) (files : NamedFiles) → LeavesUnwritten save report files (part recipe save report steps files) }
-    ensures resume { (recipe save report : List ℕ) (steps : ℕ) (files : NamedFiles) → LeavesUnwritten save report files (resume recipe save report steps files) }
+    ensures resume { (recipe save report : List ℕ) (steps : ℕ) (files : NamedFiles)
+        → LeavesUnwritten save report files (resume recipe save report steps files) }
     ensures pieces { (recipe save report : List ℕ) (steps : ℕ) (counts : List ℕ) (files : NamedFiles)
         → (in_pieces recipe save report steps counts files).status ≡ Paused
         → map.get (in_pieces recipe save report steps counts files).files report ≡ map.get files report }
@@ -231,7 +232,8 @@ pub fn scripts_accepted()
 pub fn scripts_leave_others()
     ensures report { (script list report : List ℕ) (steps : ℕ) (files : NamedFiles) → ChangesReportAlone report files (kaem script list report steps files) }
     ensures none { (script list report : List ℕ) (files : NamedFiles) → (kaem_verify script list report files).files ≡ files }
-    ensures out { (script list steps command file out : List ℕ) (files : NamedFiles) → ChangesOutAlone out files (kaem_left script list steps command file out files) }
+    ensures out { (script list steps command file out : List ℕ) (files : NamedFiles)
+        → ChangesOutAlone out files (kaem_left script list steps command file out files) }
 {}
 
 /// What `run` prints of a stream or of a file that is left is the line of a report, with the mark of its content.

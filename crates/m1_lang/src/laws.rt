@@ -31,7 +31,8 @@ pub fn layout_does_not_matter()
 
 /// The place of a definition does not matter: two sources whose parts differ only in where one definition stands give the same items.
 pub fn definitions_may_move()
-    ensures { (one : List ℕ) → (other : List ℕ) → (items : List Item) → (name : List ℕ) → (value : List ℕ) → (front : List SourcePart) → (between : List SourcePart)
+    ensures { (one : List ℕ) → (other : List ℕ) → (items : List Item) → (name : List ℕ) → (value : List ℕ) → (front : List SourcePart)
+        → (between : List SourcePart)
         → (back : List SourcePart) → IsCutIntoWords one → IsCutIntoWords other → parts_in one ≡ front ++ Defines 0 name value ∷ (between ++ back)
         → parts_in other ≡ front ++ (between ++ Defines 0 name value ∷ back) → (expansion_of one ≡ Ok items) ↔ (expansion_of other ≡ Ok items) }
 {}

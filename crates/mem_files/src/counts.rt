@@ -19,7 +19,8 @@ pub fn count_of(counts: &[u32], number: u32) -> u32
 /// Counts one more descriptor.
 pub fn count(counts: &mut Vec<u32>, open_file: OpenFile) -> Result<(), AllocError>
     requires { (number : ℕ) → slice_index_or counts.old.items number 0 < 2 ^ 31 }
-    ensures ok { OnOk result ((number : ℕ) → slice_index_or counts.new.items number 0 ≡ slice_index_or counts.old.items number 0 + opens_in number (Some open_file)) }
+    ensures ok { OnOk result ((number : ℕ) → slice_index_or counts.new.items number 0
+        ≡ slice_index_or counts.old.items number 0 + opens_in number (Some open_file)) }
     ensures err { OnErr result (counts.new.items ≡ counts.old.items) }
 {
     if let OpenFile::File { number, .. } = open_file {

@@ -181,7 +181,8 @@ impl FileTable {
     /// Puts what a descriptor stands for at the lowest unused one, which is the answer.
     pub fn add_open_file(&mut self, open_file: OpenFile) -> Result<u32, AllocError>
         requires { map.len self.old.open_files < MAX_OPEN_FILES }
-        ensures ok { IfOk result (λ fd. (fd ≡ lowest_unused self.old.open_files) × (self.new ≡ record self.old { open_files = map.insert self.old.open_files fd open_file })) }
+        ensures ok { IfOk result (λ fd. (fd ≡ lowest_unused self.old.open_files)
+            × (self.new ≡ record self.old { open_files = map.insert self.old.open_files fd open_file })) }
         ensures err { OnErr result (self.new ≡ self.old) }
     {
         let fd = self.free_open_file();
@@ -244,7 +245,10 @@ impl FileTable {
         requires unused { map.get self.old.files number ≡ None }
         requires low { number < MAX_NAMES + MAX_OPEN_FILES }
         requires small { total self.old + length content.now < 2 ^ 64 }
-        ensures ok { OnOk result (self.new ≡ record self.old { names = map.insert self.old.names name.now number; files = map.insert self.old.files number content.now }) }
+        ensures ok { OnOk result (self.new ≡ record self.old {
+          names = map.insert self.old.names name.now number;
+          files = map.insert self.old.files number content.now;
+        }) }
         ensures err { OnErr result (self.new ≡ self.old) }
     {
         let file = Stored::new(self.alloc, Some(name), content)?;
@@ -407,7 +411,10 @@ impl FileTable {
         requires unused { map.get self.old.files number ≡ None }
         requires low { number < MAX_NAMES + MAX_OPEN_FILES }
         requires small { total self.old + length content.items < 2 ^ 64 }
-        ensures ok { OnOk result (self.new ≡ record self.old { names = map.insert self.old.names name.now number; files = map.insert self.old.files number content.items }) }
+        ensures ok { OnOk result (self.new ≡ record self.old {
+          names = map.insert self.old.names name.now number;
+          files = map.insert self.old.files number content.items;
+        }) }
         ensures err { OnErr result (self.new ≡ self.old) }
     {
         let added = byte_count(&content);

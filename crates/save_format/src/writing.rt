@@ -29,7 +29,8 @@ fn add_stage(
     made: &[u8],
 ) -> Result<(), OutOfMemory>
     requires { IsShortStage (record { steps = steps; stream1 = streams.0; stream2 = streams.1; left = left.now; made = made.now }) }
-    ensures ok { OnOk result (out.new ≡ out.old ++ stage_text (record { steps = steps; stream1 = streams.0; stream2 = streams.1; left = left.now; made = made.now })) }
+    ensures ok { OnOk result (out.new ≡ out.old
+        ++ stage_text (record { steps = steps; stream1 = streams.0; stream2 = streams.1; left = left.now; made = made.now })) }
     ensures err { OnErr result (StartsWith out.new out.old) }
 {
     put_u64(out, steps)?;
@@ -47,7 +48,8 @@ pub fn put_stage(
     made: &[u8],
 ) -> Result<(), OutOfMemory>
     requires { IsShortStage (record { steps = steps; stream1 = streams.0; stream2 = streams.1; left = left.now; made = made.now }) }
-    ensures ok { OnOk result (out.new ≡ out.old ++ stage_text (record { steps = steps; stream1 = streams.0; stream2 = streams.1; left = left.now; made = made.now })) }
+    ensures ok { OnOk result (out.new ≡ out.old
+        ++ stage_text (record { steps = steps; stream1 = streams.0; stream2 = streams.1; left = left.now; made = made.now })) }
     ensures err { OnErr result (out.new ≡ out.old) }
 {
     let len = out.len();

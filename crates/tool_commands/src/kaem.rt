@@ -86,7 +86,8 @@ fn save<S: Shelf>(
     made: &ScriptReport,
 ) -> Result<Answer, Stop>
     requires { IsScriptReport made.now }
-    ensures { Performs (sets file.now (script_report_text made.now) (answers Yes (done_line (length made.now.commands) (sum_by (λ (c : ReportLine). c.steps) made.now.commands))))
+    ensures { Performs (sets file.now (script_report_text made.now)
+        (answers Yes (done_line (length made.now.commands) (sum_by (λ (c : ReportLine). c.steps) made.now.commands))))
         (S.state shelf.old) (S.state shelf.new) result }
 {
     let answer = done(alloc, made.commands.as_slice())?;

@@ -98,7 +98,8 @@ fn save<S: Shelf>(
     left: &CommandLeft,
     words: &KaemLeftWords<'_>,
 ) -> Result<Answer, Stop>
-    ensures { Performs (command_saved_left words.now.command words.now.wanted.file words.now.wanted.out left.now) (S.state shelf.old) (S.state shelf.new) result }
+    ensures { Performs (command_saved_left words.now.command words.now.wanted.file words.now.wanted.out left.now)
+        (S.state shelf.old) (S.state shelf.new) result }
 {
     let file = words.wanted.file.text();
     let number = words.command.number();

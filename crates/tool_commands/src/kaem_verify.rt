@@ -54,7 +54,8 @@ fn verify_listed<S: Shelf>(
     script: &Script,
     words: &ScriptWords<'_>,
 ) -> Result<Answer, Stop>
-    ensures { Performs (needs_unlisted_words words.now.list words.now.report (λ names. needs_script_report words.now.report (λ made. needs_files names (λ listed.
+    ensures { Performs (needs_unlisted_words words.now.list words.now.report
+        (λ names. needs_script_report words.now.report (λ made. needs_files names (λ listed.
         script_verdict_plan (length script.now.commands) (first_script_fault script.now listed made))))) (S.state shelf.old) (S.state shelf.new) result }
 {
     let names = fetch_unlisted(alloc, shelf, &words.list, &words.report)?;

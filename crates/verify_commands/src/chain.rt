@@ -176,7 +176,8 @@ fn verify_report<S: Shelf>(
     recipe: &Recipe,
     report: &FileName<'_>,
 ) -> Result<Inputs, Stop>
-    ensures { Obtains (λ next. needs_apart recipe.now report.now (λ _. needs_report_after turn.now.front report.now (λ made. needs_inputs_within turn.now.room recipe.now (λ inputs.
+    ensures { Obtains (λ next. needs_apart recipe.now report.now
+        (λ _. needs_report_after turn.now.front report.now (λ made. needs_inputs_within turn.now.room recipe.now (λ inputs.
         needs_true turn.now.front made.compare (first_fault recipe.now inputs made) (λ _. next inputs))))) (S.state shelf.old) (S.state shelf.new) result }
 {
     apart(alloc, recipe, report)?;
@@ -192,7 +193,8 @@ fn replay<S: Shelf>(
     recipe: &Recipe,
     report: &Report,
 ) -> Result<Inputs, Stop>
-    ensures { Obtains (λ next. needs_inputs_within turn.now.room recipe.now (λ inputs. needs_true turn.now.front report.now.compare (first_fault recipe.now inputs report.now) (λ _. next inputs)))
+    ensures { Obtains (λ next. needs_inputs_within turn.now.room recipe.now
+        (λ inputs. needs_true turn.now.front report.now.compare (first_fault recipe.now inputs report.now) (λ _. next inputs)))
         (S.state shelf.old) (S.state shelf.new) result }
 {
     let inputs = fetch_inputs_within(alloc, shelf, recipe, turn.room)?;

@@ -54,7 +54,8 @@ fn on_recipe<M: Meaning, S: Shelf>(
     recipe: &Recipe,
     report: &FileName<'_>,
 ) -> Result<Answer, Stop>
-    ensures { Performs (needs_apart recipe.now report.now (λ _. needs_report report.now (λ made. needs_inputs recipe.now (λ inputs. verified recipe.now inputs made))))
+    ensures { Performs (needs_apart recipe.now report.now (λ _. needs_report report.now
+        (λ made. needs_inputs recipe.now (λ inputs. verified recipe.now inputs made))))
         (S.state shelf.old) (S.state shelf.new) result }
 {
     apart(alloc, recipe, report)?;

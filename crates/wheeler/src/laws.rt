@@ -43,7 +43,8 @@ pub fn a_route_goes_back()
 /// its members, in the same order.
 pub fn routes_are_trusted()
     ensures programs { (recipe : RecipeContents) (number : ℕ) (name : List ℕ) → is_on (route recipe number) name ≡ true → is_trusted recipe name ≡ true }
-    ensures lines { (recipe : RecipeContents) (number : ℕ) → assumed_for recipe number ≡ filter (λ line. is_on (route recipe number) (about line)) (assumed recipe) }
+    ensures lines { (recipe : RecipeContents) (number : ℕ)
+        → assumed_for recipe number ≡ filter (λ line. is_on (route recipe number) (about line)) (assumed recipe) }
 {}
 
 /// An audit whose comparisons are all equal: where every line that is listed of its programs and of its compared stages holds, so does every

@@ -130,7 +130,8 @@ pub fn the_program_implements()
 /// A source compiles another where the run of its program leaves the other's program.
 pub fn what_makes_the_program_compiles()
     ensures { (source other : SourceText) (box : Setting) (output : OutputPlace) (made : List ℕ)
-        → program_of_text other ≡ Some made → MacroLeaves source box output made → ⟦<Deterministic<MacroAssembly> as Meaning>⟧.compiles source box output other }
+        → program_of_text other ≡ Some made → MacroLeaves source box output made
+        → ⟦<Deterministic<MacroAssembly> as Meaning>⟧.compiles source box output other }
 {}
 
 /// Where programs of unchecked stages are byte for byte the programs of their sources, lines on them hold: those of an audit, and those of a route.

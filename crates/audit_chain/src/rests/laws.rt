@@ -64,7 +64,8 @@ pub fn the_way_back_is_the_least()
 /// The lines of a basis are those of the whole audit that are about programs on the way back, in its order; the programs of the stage's own
 /// route are among these.
 pub fn the_lines_are_those_of_the_audit()
-    ensures lines { (recipe : RecipeContents) (name : List ℕ) → lines recipe name ≡ filter (λ line. runs_meet (walk recipe name) (about line)) (assumed recipe) }
+    ensures lines { (recipe : RecipeContents) (name : List ℕ)
+        → lines recipe name ≡ filter (λ line. runs_meet (walk recipe name) (about line)) (assumed recipe) }
     ensures route { (recipe : RecipeContents) (name program : List ℕ) → IsRecipe recipe → is_on (route_named recipe name) program ≡ true
         → runs_meet (walk recipe name) program ≡ true }
 {}

@@ -86,7 +86,10 @@ impl<'a> FileParts<'a> {
         content: &'a [u8],
     ) -> Result<(), OutOfMemory>
         requires { All (λ file. file.number < number) self.old.files }
-        ensures ok { OnOk result (self.new ≡ record self.old { files = self.old.files ++ record { number = number; name = option_copied name.entry; content = content.now } ∷ [] }) }
+        ensures ok { OnOk result (self.new ≡ record self.old {
+          files = self.old.files
+              ++ record { number = number; name = option_copied name.entry; content = content.now } ∷ [];
+        }) }
         ensures err { OnErr result (self.new ≡ self.old) }
     {
         show_name_bytes(name);

@@ -61,7 +61,8 @@ fn push_pages<'a, R: Ram>(
 
 /// The bytes of a page that is listed.
 fn listed_bytes<R: Ram>(ram: &R, number: u32) -> Option<&[u8]>
-    ensures { MatchOption result (listed_page number (bytes_at (R.bytes ram.now) (4096 * number) 4096) ≡ []) (λ bytes. listed_page number (bytes_at (R.bytes ram.now) (4096 * number) 4096) ≡ record { number = number; bytes = bytes.now } ∷ []) }
+    ensures { MatchOption result (listed_page number (bytes_at (R.bytes ram.now) (4096 * number) 4096) ≡ [])
+        (λ bytes. listed_page number (bytes_at (R.bytes ram.now) (4096 * number) 4096) ≡ record { number = number; bytes = bytes.now } ∷ []) }
 {
     match ram.page(PAGE * u64::from(number)) {
         PageView::Unmapped => None,

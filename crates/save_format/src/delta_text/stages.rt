@@ -50,7 +50,8 @@ pub fn is_same_stage(
     left: &[LeftLine],
     made: &[u8],
 ) -> bool
-    ensures { result ≡ equal_stages (stage_view known.now) (record { steps = steps; stream1 = streams.0; stream2 = streams.1; left = left.now; made = made.now }) }
+    ensures { result ≡ equal_stages (stage_view known.now)
+        (record { steps = steps; stream1 = streams.0; stream2 = streams.1; left = left.now; made = made.now }) }
 {
     if known.steps != steps {
         return false;

@@ -234,7 +234,8 @@ fn put_machine(
 ) -> Result<(), OutOfMemory>
     requires { length base.now.registers ≤ 31 }
     ensures ok { OnOk result (out.new ≡ out.old ++ (number_text w64 parts.now.pc
-        ++ (marked_registers_text base.now.registers parts.now.registers ++ (reservation_text Second (option_map reserved_view parts.now.reservation) ++ heap_text parts.now.heap)))) }
+        ++ (marked_registers_text base.now.registers parts.now.registers
+        ++ (reservation_text Second (option_map reserved_view parts.now.reservation) ++ heap_text parts.now.heap)))) }
     ensures err { OnErr result (StartsWith out.new out.old) }
 {
     put_hart(out, base, parts)?;
@@ -250,7 +251,8 @@ fn put_numbers(
 ) -> Result<(), OutOfMemory>
     requires { length base.now.registers ≤ 31 }
     ensures ok { OnOk result (out.new ≡ out.old ++ (number_text w64 parts.now.steps ++ (number_text w64 parts.now.pc
-        ++ (marked_registers_text base.now.registers parts.now.registers ++ (reservation_text Second (option_map reserved_view parts.now.reservation) ++ heap_text parts.now.heap))))) }
+        ++ (marked_registers_text base.now.registers parts.now.registers
+        ++ (reservation_text Second (option_map reserved_view parts.now.reservation) ++ heap_text parts.now.heap))))) }
     ensures err { OnErr result (StartsWith out.new out.old) }
 {
     put_u64(out, parts.steps)?;
@@ -269,7 +271,8 @@ fn put_lists(
     requires parts { IsPatched (state_view base.now) (state_view parts.now) }
     ensures ok { OnOk result (out.new ≡ out.old ++ (list_text run_text (state_view parts.now).runs
         ++ (page_changes_text (state_view base.now).pages (state_view parts.now).pages
-        ++ (list_text (patched_file_text (state_view base.now).files) (state_view parts.now).files ++ list_text descriptor_text (state_view parts.now).descriptors)))) }
+        ++ (list_text (patched_file_text (state_view base.now).files) (state_view parts.now).files
+        ++ list_text descriptor_text (state_view parts.now).descriptors)))) }
     ensures err { OnErr result (StartsWith out.new out.old) }
 {
     put_counted(out, &parts.runs)?;
