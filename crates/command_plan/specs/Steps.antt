@@ -74,7 +74,8 @@ pub record EndsAs (plan : Plan) (old new : ShelfState) (ending : PlanEnding) : T
 
 -- from where the shelf stands now a plan goes on as the rest of it, whatever follows both
 abbrev pub LeadsOn : {A : Type 0} → ((A → Plan) → Plan) → ((A → Plan) → Plan) → ShelfState → ShelfState → Type 0
-LeadsOn {A} plan rest old now = (next : A → Plan) (final : ShelfState) (ending : PlanEnding) → EndsAs (rest next) now final ending → EndsAs (plan next) old final ending
+LeadsOn {A} plan rest old now = (next : A → Plan) (final : ShelfState) (ending : PlanEnding)
+    → EndsAs (rest next) now final ending → EndsAs (plan next) old final ending
 
 abbrev pub ObtainsBy : {A : Type 0} → ((A → Plan) → Plan) → ShelfState → ShelfState → Result A Stop → Type 0
 ObtainsBy plan old new (Ok value) = LeadsOn plan (λ next. next value) old new

@@ -67,4 +67,5 @@ Differences recipe base patch report files first counts piece =
 
 -- no name but these three is changed
 abbrev pub LeavesAllBut : List ℕ → List ℕ → List ℕ → NamedFiles → Outcome → Type 0
-LeavesAllBut base patch report files piece = (name : List ℕ) → name ≢ base → name ≢ patch → name ≢ report → map.get piece.files name ≡ map.get files name
+LeavesAllBut base patch report files piece = (name : List ℕ) → name ≢ base → name ≢ patch → name ≢ report
+    → map.get piece.files name ≡ map.get files name

@@ -35,7 +35,8 @@ IsStepCount steps = (1 ≤ steps) × (steps ≤ 2 ^ 48)
 -- words that are no usage: they can name three files, and the save is no input of a recipe that the files hold
 pub record AreWords (recipe save report : List ℕ) (files : NamedFiles) : Type 0 where
   pub three : IsTrue (are_three_files recipe save report)
-  pub apart : (bytes : List ℕ) (said : RecipeContents) → loaded files recipe 1_048_576 ≡ Bytes bytes → recipe_of bytes ≡ Ok said → is_input said save ≡ false
+  pub apart : (bytes : List ℕ) (said : RecipeContents) → loaded files recipe 1_048_576 ≡ Bytes bytes → recipe_of bytes ≡ Ok said
+      → is_input said save ≡ false
 
 -- the files hold a recipe that reads, its inputs within their limits, and the save of the position after so many steps of their audit
 pub record IsSavedAt (recipe save : List ℕ) (files : NamedFiles) (count : ℕ) : Type 0 where

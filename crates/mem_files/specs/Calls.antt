@@ -145,7 +145,8 @@ sought_at w fd offset whence (Some Input) = (Err espipe, w)
 sought_at w fd offset whence (Some Stream1) = (Err espipe, w)
 sought_at w fd offset whence (Some Stream2) = (Err espipe, w)
 sought_at w fd offset whence (Some (File number file_offset access)) =
-    with_file_offset w fd number access (option_and_then (λ base. as_file_offset (pos base +ℤ offset)) (seek_base whence file_offset (length (content_of w number))))
+    with_file_offset w fd number access
+    (option_and_then (λ base. as_file_offset (pos base +ℤ offset)) (seek_base whence file_offset (length (content_of w number))))
 
 -- `seek`
 abbrev pub sought : World → ℕ → ℤ → ℕ → Result ℕ ℕ × World

@@ -39,7 +39,8 @@ pub record IsInLimits (w : World) : Type 0 where
 pub record IsWorldJoined (w : World) : Type 0 where
   pub held : (name : List ℕ) (number : ℕ) → map.get w.names name ≡ Some number → IsSome (map.get w.files number)
   pub named_once : (name other : List ℕ) (number : ℕ) → map.get w.names name ≡ Some number → map.get w.names other ≡ Some number → name ≡ other
-  pub open_held : (fd number file_offset : ℕ) (access : Access) → map.get w.open_files fd ≡ Some (File number file_offset access) → IsSome (map.get w.files number)
+  pub open_held : (fd number file_offset : ℕ) (access : Access) → map.get w.open_files fd ≡ Some (File number file_offset access)
+      → IsSome (map.get w.files number)
   pub used : (number : ℕ) → IsSome (map.get w.files number) → IsTrue (is_named w number || is_open w number)
 
 -- both parts

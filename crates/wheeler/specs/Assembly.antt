@@ -10,7 +10,8 @@ use Rattle.wheeler.specs.Meaning.{Prescribes}
 use Rattle.wheeler.specs.Values.{binary_of}
 
 -- the source has a program, of which a run with the box exits with 0 and leaves the content at the output
-pub record ProgramLeaves (program_of : SourceText → Option (List ℕ)) (source : SourceText) (box : Setting) (output : OutputPlace) (content : List ℕ) : Type 0 where
+pub record ProgramLeaves (program_of : SourceText → Option (List ℕ)) (source : SourceText) (box : Setting) (output : OutputPlace)
+    (content : List ℕ) : Type 0 where
   pub program : List ℕ
   pub is_program : program_of source ≡ Some program
   pub step : ℕ

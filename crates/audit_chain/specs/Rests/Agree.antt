@@ -40,4 +40,5 @@ BasisHolds prescribes compiles recipe inputs name = All (Holds prescribes compil
 -- every stage on the way back follows
 abbrev pub WalkFollows : Prescribes → RecipeContents → List (List ℕ) → List ℕ → Type 0
 WalkFollows prescribes recipe inputs name =
-    All (λ (stage : Stage). meets (walk recipe name) stage.name ≡ true → FollowsBy prescribes recipe (all_contents recipe inputs) stage stage.check) recipe.stages
+    All (λ (stage : Stage). meets (walk recipe name) stage.name ≡ true
+    → FollowsBy prescribes recipe (all_contents recipe inputs) stage stage.check) recipe.stages

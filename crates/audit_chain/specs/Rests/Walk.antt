@@ -97,4 +97,5 @@ is_free recipe stage = is_free_by recipe stage.check
 -- a choice of names that has the parts of each stage that it has
 abbrev pub HasParts : RecipeContents → (List ℕ → Bool) → Type 0
 HasParts recipe chosen =
-    (k : ℕ) (stage : Stage) → slice_get recipe.stages k ≡ Some stage → chosen stage.name ≡ true → All (λ part. chosen (part_name part) ≡ true) (parts_of recipe stage)
+    (k : ℕ) (stage : Stage) → slice_get recipe.stages k ≡ Some stage → chosen stage.name ≡ true
+    → All (λ part. chosen (part_name part) ≡ true) (parts_of recipe stage)

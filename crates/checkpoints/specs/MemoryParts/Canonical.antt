@@ -12,7 +12,9 @@ is_mapped m page = contains_key m (4096 * page)
 -- a mapped page with the runs after it: it begins the first of them where that follows at once
 abbrev pub with_page : ℕ → List Run → List Run
 with_page page [] = record { first = page; pages = 1 } ∷ []
-with_page page (run ∷ runs) = if run.first == page + 1 then record { first = page; pages = run.pages + 1 } ∷ runs else record { first = page; pages = 1 } ∷ (run ∷ runs)
+with_page page (run ∷ runs) =
+    if run.first == page + 1 then record { first = page; pages = run.pages + 1 } ∷ runs
+    else record { first = page; pages = 1 } ∷ (run ∷ runs)
 
 -- the runs of mapped pages among so many pages
 unfoldable pub runs_from : (ℕ → Bool) → ℕ → ℕ → List Run

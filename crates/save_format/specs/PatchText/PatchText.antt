@@ -89,7 +89,8 @@ bytes_changed_by known None = known
 bytes_changed_by known (Some change) = change.bytes
 
 unfoldable pub changed_pages : List PageText → List PageChange → List PageText
-changed_pages base page_changes = items_from (λ number. page_of number (bytes_changed_by (page_in base number) (item_numbered (λ change. change.number) page_changes number))) 0 (2 ^ 32)
+changed_pages base page_changes =
+    items_from (λ number. page_of number (bytes_changed_by (page_in base number) (item_numbered (λ change. change.number) page_changes number))) 0 (2 ^ 32)
 
 unfoldable pub changed_pages_at : List PageText → Reader (List PageText)
 changed_pages_at base = do
