@@ -99,18 +99,18 @@ fn define<'s>(
     requires { at ≤ length source.now }
     ensures { DefinesOne result start source.now at table.old table.new }
 {
-    match next_word(source, at) {
-        Ahead::Word(_, name, following) => match next_word(source, following) {
-            Ahead::Word(_, value, after) => match Value::new(value) {
-                None => Err(M1Refusal::BadDefine(start as u64)),
-                Some(value) => match add_definition(table, name, value)? {
-                    true => Err(M1Refusal::DoubleDefine(start as u64)),
-                    false => Ok(after),
-                },
-            },
-            _ => Err(M1Refusal::BadDefine(start as u64)),
+    let Ahead::Word(_, name, following) = next_word(source, at) else {
+        return Err(M1Refusal::BadDefine(start as u64));
+    };
+    let Ahead::Word(_, value, after) = next_word(source, following) else {
+        return Err(M1Refusal::BadDefine(start as u64));
+    };
+    match Value::new(value) {
+        None => Err(M1Refusal::BadDefine(start as u64)),
+        Some(value) => match add_definition(table, name, value)? {
+            true => Err(M1Refusal::DoubleDefine(start as u64)),
+            false => Ok(after),
         },
-        _ => Err(M1Refusal::BadDefine(start as u64)),
     }
 }
 

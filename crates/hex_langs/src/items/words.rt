@@ -90,20 +90,16 @@ pub fn take<'s>(
         (Some(word), Token::Byte(byte)) => byte_of_word(items, word, byte),
         (Some(word), Token::Field(mask)) => match word.begun {
             Begun::Nothing => Ok(Some(Open {
-                first: word.first,
                 mask: word.mask ^ mask,
-                reference: word.reference,
-                begun: Begun::Nothing,
+                ..word
             })),
             _ => Err(Halt::Dangling(word.first)),
         },
         (Some(word), Token::Reference(kind, name)) => match (word.reference, word.begun) {
             (Some(_), _) => Err(Halt::Second(at)),
             (None, Begun::Nothing) => Ok(Some(Open {
-                first: word.first,
-                mask: word.mask,
                 reference: Some((kind, name)),
-                begun: Begun::Nothing,
+                ..word
             })),
             (None, _) => Err(Halt::Dangling(word.first)),
         },
