@@ -18,7 +18,7 @@ returns-in_err-close-in-Ended-Ok-clause-err c =
     rw (p.1) (
     closing-wants c.args.recipe.now c.args.inputs.now c.run_present.ensures.kept c.requires.given _ _ c.as_slice.ensures.value _ c.in-Running.guest c.run_present.new.guest c.in-Running.is c.requires.stands
     c.args.ended c.args.most c.in_ok-taken-in-Running.taken c.in_ok-taken-in-Running.moved c.in-Ended-Ok.field-0 c.in-Ended-Ok.finished _ _ c.in-Ended-Ok.is c.in-Ended-Ok.field-0-is c.in_ok-taken-in-Running.ensures.slices.0 c.in_ok-taken-in-Running.ensures.slices.1 c.in_ok-taken-in-Running.ensures.slices.2
-    c.in_err-close-in-Ended-Ok.ensures.done c.in_err-close-in-Ended-Ok.ensures.place)
+    c.in_err-close-in-Ended-Ok.ensures.done c.in_err-close-in-Ended-Ok.ensures.standing)
 
 pub returns-in_err-taken-in-Running-clause-err : goal.returns-in_err-taken-in-Running-clause-err
 returns-in_err-taken-in-Running-clause-err c =
