@@ -6,6 +6,7 @@ ghost use Rattle.std.specs.Prelude.{◌≡◌, ◌≤◌, None, OnErr, OnOk, Som
 ghost use Rattle.audit_rules.specs.Positions.{forward_from};
 ghost use Rattle.audit_rules.specs.Valid.{IsInputs};
 
+use crate::conduct::Conduct;
 use crate::entering::enter;
 use crate::stage::Done;
 use crate::standing::{AuditStanding, Course, EndedGuest, Progress};
@@ -40,7 +41,12 @@ pub(crate) fn advance_parts(
         Ok(()) => {}
         Err(OutOfMemory) => return Progress::OutOfMemory,
     }
-    match advance_started(alloc, recipe, inputs, course, most, EndedGuest::Kept) {
+    let conduct = Conduct {
+        recipe,
+        inputs,
+        ended: EndedGuest::Kept,
+    };
+    match advance_started(alloc, &conduct, course, most) {
         Ok(()) => said_of(&course.standing),
         Err(OutOfMemory) => Progress::OutOfMemory,
     }
@@ -67,7 +73,12 @@ pub(crate) fn take_piece(
         course.done.as_slice(),
         &mut course.standing,
     )?;
-    advance_started(alloc, recipe, inputs, course, most, EndedGuest::GivenUp)
+    let conduct = Conduct {
+        recipe,
+        inputs,
+        ended: EndedGuest::GivenUp,
+    };
+    advance_started(alloc, &conduct, course, most)
 }
 
 /// Enters the first stage, where it was not entered yet. Want of memory leaves the audit as it was.

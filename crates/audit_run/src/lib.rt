@@ -8,6 +8,7 @@ mod advance;
 mod audit;
 mod bench;
 pub mod check;
+mod conduct;
 pub mod delta;
 mod earlier;
 mod entering;
