@@ -82,6 +82,7 @@ pub fn read(
     judged(alloc, recipe, inputs, base, text)
 }
 
+/// Judges a base, and then a text relative to it. A step of its own, so that its further clauses are proved once.
 fn judged(
     alloc: Global,
     recipe: &Recipe,

@@ -113,6 +113,7 @@ pub fn read(
     judged(alloc, recipe, inputs, text)
 }
 
+/// Judges a text as a save. A step of its own, so that its further clauses are proved once.
 fn judged(
     alloc: Global,
     recipe: &Recipe,
