@@ -43,9 +43,9 @@ read_refuses : {A E : Type 0} (reading : Result A E) (refuse : E → Plan) (next
     → reading ≡ Err why → Performs (refuse why) old new result → Performs (unless_refused reading refuse next) old new result
 read_refuses reading refuse next why old new result is p = subst (λ plan. Performs plan old new result) (sym (ap (λ r. unless_refused r refuse next) is)) p
 
--- two audits at a position are at the same
-same_place : (recipe : RecipeContents) (inputs : List (List ℕ)) (audit : AuditState) (p q : Position) → audit ≡ standing_at recipe inputs p → audit ≡ standing_at recipe inputs q → p ≡ q
-same_place recipe inputs audit p q first second =
+-- an audit stands at one position
+same_position : (recipe : RecipeContents) (inputs : List (List ℕ)) (audit : AuditState) (p q : Position) → audit ≡ standing_at recipe inputs p → audit ≡ standing_at recipe inputs q → p ≡ q
+same_position recipe inputs audit p q first second =
     let both : Some (On p) ≡ Some (On q) = ap (λ (a : AuditState). a.stands) (sym first ∙ second) in
     cc
 
@@ -69,7 +69,7 @@ module _ (recipe : RecipeContents) (inputs : List (List ℕ)) (base : Bor (List 
   pub starts : (audit : AuditState) (old new : ShelfState) (result : Result Answer Stop) → ResumesAudit recipe inputs base.now (Ok audit) → IsResumed recipe inputs base.now audit
       → GoesOn audit old new result → Performs (starts_relative recipe inputs base.now patch report steps) old new result
   starts audit old new result r found goes =
-      let same = same_place recipe inputs audit found.0 r.0 found.1 r.1 in
+      let same = same_position recipe inputs audit found.0 r.0 found.1 r.1 in
       read_leads (read_as recipe inputs base.now) (λ refusal. answers SaveRefused (save_refused_line refusal))
       (λ b. came_to recipe (delta_text_of recipe inputs b) patch report (forward recipe inputs b steps)) r.0 old new result
       (is_read (Ok r.0) (λ never. cc) r.2)

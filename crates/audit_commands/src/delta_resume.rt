@@ -24,6 +24,13 @@ use recipe::Recipe;
 use recipe_plan::Supplied;
 use std::alloc::Global;
 
+/// The text of a delta, with the recipe and the inputs of its audit.
+#[derive(Drop)]
+struct AuditDelta {
+    supplied: Supplied,
+    text: Bytes,
+}
+
 /// Performs the command on the words after its name.
 pub fn perform<S: Shelf>(alloc: Global, shelf: &mut S, words: &[&str]) -> Result<Answer, Stop>
     ensures { Performs (delta_resume_plan (map (λ w. w.now) words.now)) (S.state shelf.old) (S.state shelf.new) result }
@@ -58,35 +65,37 @@ fn load<S: Shelf>(
         resumes_relative recipe inputs text delta words.now.piece.save words.now.piece.report words.now.piece.steps)))) (S.state shelf.old) (S.state shelf.new) result }
 {
     let save = fetch(alloc, shelf, &words.base, SAVE_LIMIT)?;
-    let (delta, inputs) = fetch_save(alloc, shelf, &recipe, &words.piece.save)?;
+    let (text, inputs) = fetch_save(alloc, shelf, &recipe, &words.piece.save)?;
     let supplied = Supplied { recipe, inputs };
-    go_from(alloc, shelf, supplied, save.as_slice(), delta, &words.piece)
+    let delta = AuditDelta { supplied, text };
+    go_from(alloc, shelf, delta, save.as_slice(), &words.piece)
 }
 
 /// Goes on from where a save and a delta say that the audit stands.
 fn go_from<S: Shelf>(
     alloc: Global,
     shelf: &mut S,
-    supplied: Supplied,
+    delta: AuditDelta,
     save: &[u8],
-    delta: Bytes,
     piece: &Piece<'_>,
 ) -> Result<Answer, Stop>
-    ensures { Performs (resumes_relative supplied.recipe supplied.inputs save.now delta piece.now.save piece.now.report piece.now.steps) (S.state shelf.old) (S.state shelf.new) result }
+    ensures { Performs (resumes_relative delta.supplied.recipe delta.supplied.inputs save.now delta.text piece.now.save piece.now.report piece.now.steps)
+        (S.state shelf.old) (S.state shelf.new) result }
 {
-    match read(alloc, supplied, save, delta) {
+    match read(alloc, delta, save) {
         Ok(audit) => go_on(alloc, shelf, audit, Kept::Relative(save), piece),
         Err(refusal) => refuse(alloc, refusal),
     }
 }
 
 /// Reads a delta relative to its base, and lets its text go.
-fn read(alloc: Global, supplied: Supplied, save: &[u8], delta: Bytes) -> Result<Audit, DeltaRefusal>
-    ensures exact { ResumesAuditRelative supplied.recipe supplied.inputs save.now delta result }
-    ensures found { IfOk result (λ audit. IsResumedRelative supplied.recipe supplied.inputs save.now delta audit) }
-    ensures kept { IsRecipe supplied.recipe }
+fn read(alloc: Global, delta: AuditDelta, save: &[u8]) -> Result<Audit, DeltaRefusal>
+    ensures exact { ResumesAuditRelative delta.supplied.recipe delta.supplied.inputs save.now delta.text result }
+    ensures found { IfOk result (λ audit. IsResumedRelative delta.supplied.recipe delta.supplied.inputs save.now delta.text audit) }
+    ensures kept { IsRecipe delta.supplied.recipe }
 {
-    let delta = delta.as_slice();
+    let AuditDelta { supplied, text } = delta;
+    let delta = text.as_slice();
     Audit::resume_delta(alloc, supplied.recipe, supplied.inputs, save, delta)
 }
 

@@ -58,12 +58,12 @@ fn settle<S: Shelf>(
 {
     match audit.answer() {
         Some(answer) => tell(alloc, shelf, audit.recipe(), answer, &piece.report),
-        None => keep_place(alloc, shelf, audit, kept, &piece.save),
+        None => keep_position(alloc, shelf, audit, kept, &piece.save),
     }
 }
 
 /// Keeps where an audit stands, and says the stage and its steps.
-fn keep_place<S: Shelf>(
+fn keep_position<S: Shelf>(
     alloc: Global,
     shelf: &mut S,
     audit: &Audit,

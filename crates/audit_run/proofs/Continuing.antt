@@ -8,8 +8,8 @@ use Rattle.audit_rules.proofs.Closing.{keeps-answer}
 use Rattle.audit_rules.proofs.Rules.{rules}
 use Rattle.audit_run.specs.Advances.{Advances, said_of}
 use Rattle.audit_run.specs.Saved.{standing_at}
-use Rattle.audit_run.specs.declared.place.Progress.{Progress}
-use Rattle.audit_run.specs.declared.place.Progress.TheVariants as said
+use Rattle.audit_run.specs.declared.standing.Progress.{Progress}
+use Rattle.audit_run.specs.declared.standing.Progress.TheVariants as said
 
 module _ (recipe : RecipeContents) (inputs : List (List ℕ)) (p : Position) (is : IsRecipe recipe) (valid : IsPosition recipe p) where
   after : (count : ℕ) (now : Standing) → forward recipe inputs p count ≡ now → finish recipe inputs now ≡ continue recipe inputs p

@@ -21,7 +21,7 @@ use Rattle.audit_rules.proofs.Places.{done-more}
 use Rattle.audit_rules.proofs.Rules.{rules}
 use Rattle.audit_rules.proofs.Slices.{end-place, slice-end, slice-on, slice-spent}
 use Rattle.audit_run.specs.Stage.Makes.{Makes}
-use Rattle.audit_run.specs.declared.place.Moved.TheVariants as moved
+use Rattle.audit_run.specs.declared.standing.Moved.TheVariants as moved
 use Rattle.audit_run.specs.Advances.{Wants, WantsBy}
 use Rattle.audit_run.specs.Inside.Parts.{Slices}
 use Rattle.audit_run.proofs.Present.{same-stage, stays}
@@ -58,7 +58,7 @@ module _ (recipe : RecipeContents) (inputs : List (List ℕ)) (done : List Finis
     reached : forward recipe inputs (at done old) count ≡ On (at done new)
     counted : new.steps ≡ old.steps + count
     ends : next new ≡ Ends end
-    place : IsAt recipe (at done new) stage stages
+    position : IsAt recipe (at done new) stage stages
 
   here : (count : ℕ) → forward recipe inputs (at done old) count ≡ On (at done new) → IsAt recipe (at done new) stage stages
   here count reached =
@@ -75,7 +75,7 @@ module _ (recipe : RecipeContents) (inputs : List (List ℕ)) (done : List Finis
         reached = reached;
         counted = counted;
         ends = there.3;
-        place = here there.0 reached;
+        position = here there.0 reached;
       }
 
   pub slices-end : (most slice taken : ℕ) (end : End) (r : Result Finished StageFault) → first_end old slice ≡ Some (end, new) → slice ≤ most
@@ -103,8 +103,8 @@ module _ (recipe : RecipeContents) (inputs : List (List ℕ)) (done : List Finis
           (
             whole (Ok f) meant,
             ap (forward recipe inputs (at done old)) between ∙ there.reached,
-            wants-by recipe (at done new) stage stages (Ends (Exited 0)) there.place exits (record { good = refl; made = result.made; there = result.there; small = result.small }),
-            done-more recipe (rules recipe is_recipe) inputs given (at done new) stage stages end f there.place (sym meant),
+            wants-by recipe (at done new) stage stages (Ends (Exited 0)) there.position exits (record { good = refl; made = result.made; there = result.there; small = result.small }),
+            done-more recipe (rules recipe is_recipe) inputs given (at done new) stage stages end f there.position (sym meant),
           ),
           omega (arith, same),
           omega (arith, same, there.fewer, there.counted),
@@ -119,7 +119,7 @@ module _ (recipe : RecipeContents) (inputs : List (List ℕ)) (done : List Finis
         count = there.count;
         fewer = omega (arith, there.fewer);
         reached = there.reached;
-        wants = wants-by recipe (at done new) stage stages (Ends (Exited status)) there.place there.ends makes;
+        wants = wants-by recipe (at done new) stage stages (Ends (Exited status)) there.position there.ends makes;
       }
 
   pub slices-out : (most slice : ℕ) (error : OutOfMemory) → RunsBy old slice answer.OutOfMemory new → slice ≤ most → old.steps + slice ≤ stage.steps

@@ -11,8 +11,8 @@ use Rattle.audit_rules.specs.declared.answer.StageFault.TheVariants.{Runs, Check
 use Rattle.audit_rules.specs.Bench.{all_equal}
 use Rattle.audit_rules.specs.Positions.{Position, Standing, On, Over, forward_from, todo}
 use Rattle.audit_run.specs.Stage.Makes.{Makes}
-use Rattle.audit_run.specs.declared.place.Progress.{Progress}
-use Rattle.audit_run.specs.declared.place.Progress.TheVariants as said
+use Rattle.audit_run.specs.declared.standing.Progress.{Progress}
+use Rattle.audit_run.specs.declared.standing.Progress.TheVariants as said
 use Rattle.audit_run.specs.Seen.{AuditState, standing}
 
 -- what is said of the comparisons, of an answer, and of where an audit stands

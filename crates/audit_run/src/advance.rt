@@ -1,14 +1,15 @@
 //! An advance.
 
 ghost use Rattle.audit_run.specs.Advances.{Advances, WantsWithin, said_of_answer, said_of_comparisons};
-ghost use Rattle.audit_run.specs.Inside.Parts.{IsAtRest, IsPlaceAfter, IsStarted, SaysOf, seen, stands};
+ghost use Rattle.audit_run.specs.Inside.Parts.{IsAtRest, IsStandingAfter, IsStarted, SaysOf, seen, stands};
 ghost use Rattle.std.specs.Prelude.{◌≡◌, ◌≤◌, None, OnErr, OnOk, Some};
 ghost use Rattle.audit_rules.specs.Positions.{forward_from};
 ghost use Rattle.audit_rules.specs.Valid.{IsInputs};
 
+use crate::conduct::Conduct;
 use crate::entering::enter;
-use crate::place::{AuditPlace, Course, EndedGuest, Progress};
 use crate::stage::Done;
+use crate::standing::{AuditStanding, Course, EndedGuest, Progress};
 use crate::stretch::advance_started;
 use audit_rules::{AuditAnswer, StageFault, all_equal};
 use ddc_base::{Bytes, OutOfMemory};
@@ -25,23 +26,28 @@ pub(crate) fn advance_parts(
     most: u64,
 ) -> Progress
     requires some { 1 ≤ most }
-    requires rest { IsAtRest recipe.now inputs.now course.old.done.items course.old.place }
-    ensures answer { Advances (record { recipe = recipe.now; inputs = inputs.now; stands = seen course.old.done.items course.old.place }) most result
-        (seen course.new.done.items course.new.place) }
-    ensures rest { IsAtRest recipe.now inputs.now course.new.done.items course.new.place }
+    requires rest { IsAtRest recipe.now inputs.now course.old.done.items course.old.standing }
+    ensures answer { Advances (record { recipe = recipe.now; inputs = inputs.now; stands = seen course.old.done.items course.old.standing }) most result
+        (seen course.new.done.items course.new.standing) }
+    ensures rest { IsAtRest recipe.now inputs.now course.new.done.items course.new.standing }
 {
     match begin(
         alloc,
         recipe,
         inputs,
         course.done.as_slice(),
-        &mut course.place,
+        &mut course.standing,
     ) {
         Ok(()) => {}
         Err(OutOfMemory) => return Progress::OutOfMemory,
     }
-    match advance_started(alloc, recipe, inputs, course, most, EndedGuest::Kept) {
-        Ok(()) => said_of(&course.place),
+    let conduct = Conduct {
+        recipe,
+        inputs,
+        ended: EndedGuest::Kept,
+    };
+    match advance_started(alloc, &conduct, course, most) {
+        Ok(()) => said_of(&course.standing),
         Err(OutOfMemory) => Progress::OutOfMemory,
     }
 }
@@ -54,20 +60,25 @@ pub(crate) fn take_piece(
     course: &mut Course,
     most: u64,
 ) -> Result<(), OutOfMemory>
-    requires rest { IsAtRest recipe.now inputs.now course.old.done.items course.old.place }
-    ensures ok { OnOk result (seen course.new.done.items course.new.place
-        ≡ Some (forward_from recipe.now inputs.now (stands recipe.now inputs.now course.old.done.items course.old.place) most)) }
-    ensures rest { OnOk result (IsAtRest recipe.now inputs.now course.new.done.items course.new.place) }
-    ensures err { OnErr result (WantsWithin (record { recipe = recipe.now; inputs = inputs.now; stands = seen course.old.done.items course.old.place }) most) }
+    requires rest { IsAtRest recipe.now inputs.now course.old.done.items course.old.standing }
+    ensures ok { OnOk result (seen course.new.done.items course.new.standing
+        ≡ Some (forward_from recipe.now inputs.now (stands recipe.now inputs.now course.old.done.items course.old.standing) most)) }
+    ensures rest { OnOk result (IsAtRest recipe.now inputs.now course.new.done.items course.new.standing) }
+    ensures err { OnErr result (WantsWithin (record { recipe = recipe.now; inputs = inputs.now; stands = seen course.old.done.items course.old.standing }) most) }
 {
     begin(
         alloc,
         recipe,
         inputs,
         course.done.as_slice(),
-        &mut course.place,
+        &mut course.standing,
     )?;
-    advance_started(alloc, recipe, inputs, course, most, EndedGuest::GivenUp)
+    let conduct = Conduct {
+        recipe,
+        inputs,
+        ended: EndedGuest::GivenUp,
+    };
+    advance_started(alloc, &conduct, course, most)
 }
 
 /// Enters the first stage, where it was not entered yet. Want of memory leaves the audit as it was.
@@ -76,34 +87,34 @@ fn begin(
     recipe: &Recipe,
     inputs: &[Bytes],
     done: &[Done],
-    place: &mut AuditPlace,
+    standing: &mut AuditStanding,
 ) -> Result<(), OutOfMemory>
     requires given { IsInputs recipe.now inputs.now }
-    requires place { IsPlaceAfter recipe.now done.now place.old }
-    ensures ok { OnOk result (stands recipe.now inputs.now done.now place.new ≡ stands recipe.now inputs.now done.now place.old) }
-    ensures started { OnOk result (IsStarted place.new) }
-    ensures stands { IsPlaceAfter recipe.now done.now place.new }
-    ensures err { OnErr result (place.new ≡ place.old) }
-    ensures ready { OnErr result (seen done.now place.old ≡ None) }
+    requires standing { IsStandingAfter recipe.now done.now standing.old }
+    ensures ok { OnOk result (stands recipe.now inputs.now done.now standing.new ≡ stands recipe.now inputs.now done.now standing.old) }
+    ensures started { OnOk result (IsStarted standing.new) }
+    ensures stands { IsStandingAfter recipe.now done.now standing.new }
+    ensures err { OnErr result (standing.new ≡ standing.old) }
+    ensures ready { OnErr result (seen done.now standing.old ≡ None) }
 {
-    match place {
-        AuditPlace::Running(_) | AuditPlace::Over(_) => Ok(()),
-        AuditPlace::Ready => {
-            place.set(enter(alloc, recipe, inputs, done)?);
+    match standing {
+        AuditStanding::Running(_) | AuditStanding::Over(_) => Ok(()),
+        AuditStanding::Ready => {
+            standing.set(enter(alloc, recipe, inputs, done)?);
             Ok(())
         }
     }
 }
 
 /// What is said of an audit that stands here.
-fn said_of(place: &AuditPlace) -> Progress
-    requires { IsStarted place.now }
-    ensures { SaysOf place.now result }
+fn said_of(standing: &AuditStanding) -> Progress
+    requires { IsStarted standing.now }
+    ensures { SaysOf standing.now result }
 {
-    match place {
-        AuditPlace::Ready => unreachable!(),
-        AuditPlace::Running(_) => Progress::Paused,
-        AuditPlace::Over(answer) => said_of_answer(answer),
+    match standing {
+        AuditStanding::Ready => unreachable!(),
+        AuditStanding::Running(_) => Progress::Paused,
+        AuditStanding::Over(answer) => said_of_answer(answer),
     }
 }
 

@@ -16,10 +16,10 @@ ghost use Rattle.audit_rules.specs.Valid.{IsAuditAnswer, IsInputs, IsPosition};
 
 use crate::advance::{advance_parts, take_piece};
 use crate::delta::DeltaRefusal;
-use crate::place::{AuditPlace, Course, Progress};
 use crate::save::{Resumed, SaveRefusal};
 use crate::setting::setting_of;
 use crate::stage::SoFar;
+use crate::standing::{AuditStanding, Course, Progress};
 use audit_rules::AuditAnswer;
 use ddc_base::{Bytes, OutOfMemory};
 use guest_run::RunBox;
@@ -48,9 +48,9 @@ impl Model for Audit {
 
     ghost coded = { audit_code };
 
-    ghost view = { λ a. record { recipe = a.recipe; inputs = a.inputs; stands = seen a.course.done.items a.course.place } };
+    ghost view = { λ a. record { recipe = a.recipe; inputs = a.inputs; stands = seen a.course.done.items a.course.standing } };
 
-    ghost invariant = { λ a. IsAtRest a.recipe a.inputs a.course.done.items a.course.place };
+    ghost invariant = { λ a. IsAtRest a.recipe a.inputs a.course.done.items a.course.standing };
 }
 
 impl Audit {
@@ -64,7 +64,7 @@ impl Audit {
             inputs,
             course: Course {
                 done: Vec::new(alloc),
-                place: AuditPlace::Ready,
+                standing: AuditStanding::Ready,
             },
             alloc,
         }
@@ -116,9 +116,9 @@ impl Audit {
         ensures answer { option_copied result ≡ finished_answer self.now.stands }
         ensures form { IfSome (option_copied result) IsAuditAnswer }
     {
-        match &self.course.place {
-            AuditPlace::Over(answer) => Some(answer),
-            AuditPlace::Ready | AuditPlace::Running(_) => None,
+        match &self.course.standing {
+            AuditStanding::Over(answer) => Some(answer),
+            AuditStanding::Ready | AuditStanding::Running(_) => None,
         }
     }
 
@@ -127,8 +127,8 @@ impl Audit {
         ensures report { option_copied result ≡ finished_report self.now.stands }
         ensures form { IfSome (option_copied result) IsReport }
     {
-        match &self.course.place {
-            AuditPlace::Over(AuditAnswer::Completes(report)) => Some(report),
+        match &self.course.standing {
+            AuditStanding::Over(AuditAnswer::Completes(report)) => Some(report),
             _ => None,
         }
     }
@@ -138,13 +138,13 @@ impl Audit {
     pub fn place(&self) -> (u32, u64)
         ensures { result ≡ place_of self.now.stands }
     {
-        match &self.course.place {
-            AuditPlace::Ready => (1, 0),
-            AuditPlace::Running(guest) => (
+        match &self.course.standing {
+            AuditStanding::Ready => (1, 0),
+            AuditStanding::Running(guest) => (
                 stage_after(&self.recipe, self.course.done.len()),
                 guest.steps(),
             ),
-            AuditPlace::Over(_) => (0, 0),
+            AuditStanding::Over(_) => (0, 0),
         }
     }
 
@@ -153,9 +153,9 @@ impl Audit {
         ensures value { IfOk result (λ setting. option_map (λ s. (s.0.now, s.1)) setting ≡ present_setting self.now.recipe self.now.inputs self.now.stands) }
         ensures over { (answer : AuditAnswer) → self.now.stands ≡ Some (Over answer) → IsOk result }
     {
-        match &self.course.place {
-            AuditPlace::Over(_) => Ok(None),
-            AuditPlace::Ready | AuditPlace::Running(_) => {
+        match &self.course.standing {
+            AuditStanding::Over(_) => Ok(None),
+            AuditStanding::Ready | AuditStanding::Running(_) => {
                 setting_of(
                     alloc,
                     &self.recipe,
@@ -175,10 +175,10 @@ impl Audit {
         ensures base { IfOk result (λ text. (p : Position) × (self.now.stands ≡ Some (On p)) × IsBaseAt self.now.recipe self.now.inputs p text) }
     {
         let alloc = self.alloc;
-        match &self.course.place {
-            AuditPlace::Ready => unreachable!(),
-            AuditPlace::Over(_) => unreachable!(),
-            AuditPlace::Running(guest) => crate::save::write(
+        match &self.course.standing {
+            AuditStanding::Ready => unreachable!(),
+            AuditStanding::Over(_) => unreachable!(),
+            AuditStanding::Running(guest) => crate::save::write(
                 alloc,
                 &self.recipe,
                 self.inputs.as_slice(),
@@ -206,8 +206,8 @@ impl Audit {
         // When each refusal comes.
         ensures exact { ResumesAudit recipe inputs text.now result }
     {
-        let place = crate::save::read(alloc, &recipe, inputs.as_slice(), text)?;
-        Ok(Audit::standing(alloc, recipe, inputs, place))
+        let position = crate::save::read(alloc, &recipe, inputs.as_slice(), text)?;
+        Ok(Audit::standing_at(alloc, recipe, inputs, position))
     }
 
     /// The one text of the position's delta against where another audit of the same recipe and inputs stands (docs/reference/delta.md). This is a
@@ -233,10 +233,10 @@ impl Audit {
             → IsDeltaFrom self.now.recipe self.now.inputs b self.now.stands text) }
     {
         let alloc = self.alloc;
-        match &self.course.place {
-            AuditPlace::Ready => unreachable!(),
-            AuditPlace::Over(_) => unreachable!(),
-            AuditPlace::Running(guest) => {
+        match &self.course.standing {
+            AuditStanding::Ready => unreachable!(),
+            AuditStanding::Over(_) => unreachable!(),
+            AuditStanding::Running(guest) => {
                 let so_far = SoFar {
                     recipe: &self.recipe,
                     inputs: self.inputs.as_slice(),
@@ -269,23 +269,23 @@ impl Audit {
         // When each refusal comes.
         ensures exact { ResumesAuditRelative recipe inputs base.now delta.now result }
     {
-        let place = crate::delta::read(alloc, &recipe, inputs.as_slice(), base, delta)?;
-        Ok(Audit::standing(alloc, recipe, inputs, place))
+        let position = crate::delta::read(alloc, &recipe, inputs.as_slice(), base, delta)?;
+        Ok(Audit::standing_at(alloc, recipe, inputs, position))
     }
 
-    /// The audit that stands at a place.
-    fn standing(alloc: Global, recipe: Recipe, inputs: Inputs, place: Resumed) -> Audit
+    /// The audit that stands at a position.
+    fn standing_at(alloc: Global, recipe: Recipe, inputs: Inputs, position: Resumed) -> Audit
         requires given { IsInputs recipe inputs }
-        requires place { IsPosition recipe place }
-        ensures { result ≡ standing_at recipe inputs place }
+        requires position { IsPosition recipe position }
+        ensures { result ≡ standing_at recipe inputs position }
     {
-        let (done, guest) = place.into_parts();
+        let (done, guest) = position.into_parts();
         Audit {
             recipe,
             inputs,
             course: Course {
                 done,
-                place: AuditPlace::Running(guest),
+                standing: AuditStanding::Running(guest),
             },
             alloc,
         }

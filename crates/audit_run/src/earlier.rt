@@ -9,9 +9,9 @@ ghost use Rattle.audit_rules.specs.Positions.{at, todo};
 ghost use Rattle.audit_rules.specs.Stages.{by_end, stage_result};
 ghost use Rattle.audit_rules.specs.Valid.{AreDone, IsAt, IsInputs};
 
-use crate::place::Moved;
 use crate::stage::{Done, SoFar, start_stage};
 use crate::stage_run::run_slice;
+use crate::standing::Moved;
 use audit_rules::{RunCause, StageFault};
 use ddc_base::{Bytes, ListOf, OutOfMemory};
 use guest_run::{Guest, RunRam};

@@ -3,7 +3,7 @@
 ghost use Rattle.audit_run.specs.Advances.{Advances};
 ghost use Rattle.audit_run.specs.Earlier.{done_in_order, goes_on_after};
 ghost use Rattle.audit_run.specs.Saved.{standing_at};
-ghost use Rattle.audit_run.specs.declared.place.Progress.{Progress};
+ghost use Rattle.audit_run.specs.declared.standing.Progress.{Progress};
 ghost use Rattle.recipe.specs.Kept.{IsRecipe};
 ghost use Rattle.recipe.specs.declared.contents.RecipeContents.{RecipeContents};
 ghost use Rattle.std.specs.Prelude.{◌≡◌, ℕ, [], List, Some, drop, take};

@@ -1,4 +1,4 @@
-//! The save of an audit that stands in a stage, and the place that a save says.
+//! The save of an audit that stands in a stage, and the position that a save says.
 //!
 //! docs/reference/save.md has the rules for a reader, and specs/Save/Saves.antt the same for the prover.
 
@@ -8,7 +8,7 @@ mod origin;
 mod reading;
 mod writing;
 
-pub(crate) use reading::place_of;
+pub(crate) use reading::position_of;
 pub use reading::{Resumed, SaveRefusal, read};
 pub(crate) use writing::put_done;
 pub use writing::write;

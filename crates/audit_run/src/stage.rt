@@ -13,7 +13,7 @@ mod sources;
 
 pub use contents::content;
 pub use done::Done;
-pub(crate) use ending::exited;
+pub(crate) use ending::{Exit, exited};
 pub use given::{box_of, start_stage};
 pub use reporting::report_of;
 pub(crate) use so_far::SoFar;

@@ -9,8 +9,8 @@ ghost use Rattle.audit_rules.specs.Positions.{at};
 ghost use Rattle.audit_rules.specs.Stages.{by_end};
 ghost use Rattle.audit_rules.specs.Valid.{IsAt};
 
-use crate::place::Moved;
-use crate::stage::{SoFar, exited};
+use crate::stage::{Exit, SoFar, exited};
+use crate::standing::Moved;
 use audit_rules::{RunCause, StageFault};
 use ddc_base::OutOfMemory;
 use guest_run::{Guest, RunEnd, RunRam};
@@ -59,7 +59,7 @@ pub(crate) fn run_slice(
         }
         RunEnd::Exited(status) => {
             let step = guest.steps() + 1;
-            let result = exited(alloc, so_far, stage, guest.files(), status, step)?;
+            let result = exited(alloc, so_far, stage, guest.files(), Exit { status, step })?;
             Ok((step - before, Moved::Ended(result)))
         }
     }

@@ -1,54 +1,57 @@
 //! An audit's steps.
 
-ghost use Rattle.audit_run.specs.Inside.Parts.{IsPlaceAfter, IsStarted, KeepsPlace, later, Slices, stands, WantsAfter};
+ghost use Rattle.audit_run.specs.Inside.Parts.{IsStandingAfter, IsStarted, KeepsStanding, later, Slices, stands, WantsAfter};
 ghost use Rattle.recipe.specs.Kept.{IsRecipe};
 ghost use Rattle.std.specs.Prelude.{◌≡◌, ◌++◌, ◌∷◌, [], ◌≤◌, IfOk, OnErr, OnOk, Ok};
 ghost use Rattle.audit_rules.specs.Positions.{at, stage_closed, forward_from, todo};
-ghost use Rattle.audit_rules.specs.Valid.{AreDone, IsInputs, IsPosition};
+ghost use Rattle.audit_rules.specs.Valid.{AreDone, IsPosition};
 
+use crate::conduct::Conduct;
 use crate::entering::enter;
-use crate::place::{AuditPlace, Course, EndedGuest, Moved};
 use crate::stage::{Done, SoFar};
 use crate::stage_run::run_slice;
+use crate::standing::{AuditStanding, Course, EndedGuest, Moved};
 use audit_rules::AuditAnswer;
-use ddc_base::{Bytes, OutOfMemory};
+use ddc_base::OutOfMemory;
 use guest_run::{Guest, RunRam};
-use recipe::Recipe;
 use std::alloc::Global;
 
 /// A stage is done: its guest is given up where it is not to be kept.
-fn leave(place: &mut AuditPlace, ended: EndedGuest)
-    ensures { KeepsPlace ended place.old place.new }
+fn leave(standing: &mut AuditStanding, ended: EndedGuest)
+    ensures { KeepsStanding ended standing.old standing.new }
 {
     match ended {
         EndedGuest::Kept => {}
-        EndedGuest::GivenUp => place.set(AuditPlace::Ready),
+        EndedGuest::GivenUp => standing.set(AuditStanding::Ready),
     }
 }
 
 /// A stage is done: the next one starts, or the audit is over. Want of memory leaves the stages as they were, and a guest that is kept.
 fn close(
     alloc: Global,
-    recipe: &Recipe,
-    inputs: &[Bytes],
+    conduct: &Conduct<'_>,
     course: &mut Course,
     finished: Done,
-    ended: EndedGuest,
 ) -> Result<(), OutOfMemory>
-    requires given { IsInputs recipe.now inputs.now }
-    requires done { AreDone recipe.now (course.old.done.items ++ finished ∷ []) }
-    requires left { todo recipe.now (course.old.done.items ++ finished ∷ []) ≡ later recipe.now course.old.done.items }
-    ensures ok { OnOk result (stands recipe.now inputs.now course.new.done.items course.new.place
-        ≡ stage_closed recipe.now inputs.now course.old.done.items (later recipe.now course.old.done.items) (Ok finished)) }
-    ensures started { OnOk result (IsStarted course.new.place) }
-    ensures place { OnErr result (KeepsPlace ended course.old.place course.new.place) }
+    requires done { AreDone conduct.now.recipe.now (course.old.done.items ++ finished ∷ []) }
+    requires left { todo conduct.now.recipe.now (course.old.done.items ++ finished ∷ []) ≡ later conduct.now.recipe.now course.old.done.items }
+    ensures ok { OnOk result (stands conduct.now.recipe.now conduct.now.inputs.now course.new.done.items course.new.standing
+        ≡ stage_closed conduct.now.recipe.now conduct.now.inputs.now course.old.done.items
+        (later conduct.now.recipe.now course.old.done.items) (Ok finished)) }
+    ensures started { OnOk result (IsStarted course.new.standing) }
+    ensures standing { OnErr result (KeepsStanding conduct.now.ended course.old.standing course.new.standing) }
     ensures done { OnErr result (course.new.done.items ≡ course.old.done.items) }
 {
-    leave(&mut course.place, ended);
+    leave(&mut course.standing, conduct.ended);
     course.done.push(finished)?;
-    match enter(alloc, recipe, inputs, course.done.as_slice()) {
+    match enter(
+        alloc,
+        conduct.recipe,
+        conduct.inputs,
+        course.done.as_slice(),
+    ) {
         Ok(entered) => {
-            course.place.set(entered);
+            course.standing.set(entered);
             Ok(())
         }
         Err(OutOfMemory) => {
@@ -78,47 +81,45 @@ fn run_present(
 /// At least one step, or none left to take: up to the end of the present stage's run.
 fn stretch(
     alloc: Global,
-    recipe: &Recipe,
-    inputs: &[Bytes],
+    conduct: &Conduct<'_>,
     course: &mut Course,
     most: u64,
-    ended: EndedGuest,
 ) -> Result<u64, OutOfMemory>
     requires some { 1 ≤ most }
-    requires given { IsInputs recipe.now inputs.now }
-    requires stands { IsPlaceAfter recipe.now course.old.done.items course.old.place }
-    requires started { IsStarted course.old.place }
-    ensures ok { IfOk result (λ taken. stands recipe.now inputs.now course.new.done.items course.new.place
-        ≡ forward_from recipe.now inputs.now (stands recipe.now inputs.now course.old.done.items course.old.place) taken) }
+    requires stands { IsStandingAfter conduct.now.recipe.now course.old.done.items course.old.standing }
+    requires started { IsStarted course.old.standing }
+    ensures ok { IfOk result (λ taken. stands conduct.now.recipe.now conduct.now.inputs.now course.new.done.items course.new.standing
+        ≡ forward_from conduct.now.recipe.now conduct.now.inputs.now
+        (stands conduct.now.recipe.now conduct.now.inputs.now course.old.done.items course.old.standing) taken) }
     ensures some { IfOk result (λ taken. 1 ≤ taken) }
     ensures most { IfOk result (λ taken. taken ≤ most) }
-    ensures started { OnOk result (IsStarted course.new.place) }
-    ensures stands { OnOk result (IsPlaceAfter recipe.now course.new.done.items course.new.place) }
-    ensures err { OnErr result (WantsAfter ended recipe.now inputs.now (stands recipe.now inputs.now course.old.done.items course.old.place) most
-        course.new.done.items course.new.place) }
+    ensures started { OnOk result (IsStarted course.new.standing) }
+    ensures stands { OnOk result (IsStandingAfter conduct.now.recipe.now course.new.done.items course.new.standing) }
+    ensures err { OnErr result (WantsAfter conduct.now.ended conduct.now.recipe.now conduct.now.inputs.now
+        (stands conduct.now.recipe.now conduct.now.inputs.now course.old.done.items course.old.standing) most course.new.done.items course.new.standing) }
 {
-    let (taken, moved) = match &mut course.place {
-        AuditPlace::Running(guest) => {
+    let (taken, moved) = match &mut course.standing {
+        AuditStanding::Running(guest) => {
             let so_far = SoFar {
-                recipe,
-                inputs,
+                recipe: conduct.recipe,
+                inputs: conduct.inputs,
                 done: course.done.as_slice(),
             };
             run_present(alloc, &so_far, guest, most)?
         }
-        AuditPlace::Ready | AuditPlace::Over(_) => return Ok(most),
+        AuditStanding::Ready | AuditStanding::Over(_) => return Ok(most),
     };
     match moved {
         Moved::Goes => Ok(taken),
         Moved::Ended(Ok(finished)) => {
-            close(alloc, recipe, inputs, course, finished, ended)?;
+            close(alloc, conduct, course, finished)?;
             Ok(taken)
         }
         Moved::Ended(Err(fault)) => {
             let stage = course.done.len() as u32 + 1;
             course
-                .place
-                .set(AuditPlace::Over(AuditAnswer::Fails(stage, fault)));
+                .standing
+                .set(AuditStanding::Over(AuditAnswer::Fails(stage, fault)));
             Ok(taken)
         }
     }
@@ -127,25 +128,23 @@ fn stretch(
 /// At most `most` steps of an audit whose first stage was entered.
 pub(crate) fn advance_started(
     alloc: Global,
-    recipe: &Recipe,
-    inputs: &[Bytes],
+    conduct: &Conduct<'_>,
     course: &mut Course,
     most: u64,
-    ended: EndedGuest,
 ) -> Result<(), OutOfMemory>
-    requires given { IsInputs recipe.now inputs.now }
-    requires stands { IsPlaceAfter recipe.now course.old.done.items course.old.place }
-    requires started { IsStarted course.old.place }
-    ensures ok { OnOk result (stands recipe.now inputs.now course.new.done.items course.new.place
-        ≡ forward_from recipe.now inputs.now (stands recipe.now inputs.now course.old.done.items course.old.place) most) }
-    ensures started { OnOk result (IsStarted course.new.place) }
-    ensures stands { OnOk result (IsPlaceAfter recipe.now course.new.done.items course.new.place) }
-    ensures err { OnErr result (WantsAfter ended recipe.now inputs.now (stands recipe.now inputs.now course.old.done.items course.old.place) most
-        course.new.done.items course.new.place) }
+    requires stands { IsStandingAfter conduct.now.recipe.now course.old.done.items course.old.standing }
+    requires started { IsStarted course.old.standing }
+    ensures ok { OnOk result (stands conduct.now.recipe.now conduct.now.inputs.now course.new.done.items course.new.standing
+        ≡ forward_from conduct.now.recipe.now conduct.now.inputs.now
+        (stands conduct.now.recipe.now conduct.now.inputs.now course.old.done.items course.old.standing) most) }
+    ensures started { OnOk result (IsStarted course.new.standing) }
+    ensures stands { OnOk result (IsStandingAfter conduct.now.recipe.now course.new.done.items course.new.standing) }
+    ensures err { OnErr result (WantsAfter conduct.now.ended conduct.now.recipe.now conduct.now.inputs.now
+        (stands conduct.now.recipe.now conduct.now.inputs.now course.old.done.items course.old.standing) most course.new.done.items course.new.standing) }
 {
     let mut left = most;
     while left > 0 {
-        left -= stretch(alloc, recipe, inputs, course, left, ended)?;
+        left -= stretch(alloc, conduct, course, left)?;
     }
     Ok(())
 }

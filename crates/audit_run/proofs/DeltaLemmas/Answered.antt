@@ -9,7 +9,7 @@ use Rattle.audit_run.specs.Save.Inside.Tests as test
 use Rattle.audit_run.specs.Save.Judged.{judged}
 use Rattle.audit_run.specs.Save.Saves.{Resumes, save_of}
 use Rattle.audit_run.specs.Delta.Deltas.{DeltaAnswer, GoesOnRelative, NamesAnotherBase, ResumesRelative, base_digest, save_relative}
-use Rattle.audit_run.specs.Delta.Judged.{after_base, judged_relative, judged_from, placed_relative}
+use Rattle.audit_run.specs.Delta.Judged.{after_base, judged_relative, judged_from, position_relative}
 use Rattle.audit_run.specs.declared.delta.reading.DeltaRefusal.{DeltaRefusal}
 use Rattle.audit_run.specs.declared.delta.reading.DeltaRefusal.TheVariants.{Base, Form, OtherBase, State, OutOfMemory}
 use Rattle.audit_run.specs.declared.save.reading.SaveRefusal.{SaveRefusal}
@@ -24,17 +24,17 @@ module _ (recipe : RecipeContents) (inputs : List (List ℕ)) (base text : List 
   abbrev named : Position → Bool
   named b = is_of_other_base (base_digest (save_of recipe inputs b)) text
 
-  placed : (b : Position) → Resumes recipe inputs base (Ok b) → ¬ (NamesAnotherBase (save_of recipe inputs b) text) → (said : Result DeltaText ℕ)
-      → parsed_delta (save_of recipe inputs b) text ≡ said → IsAnswer (placed_relative recipe (save_of recipe inputs b) said)
-  placed b r own (Err offset) is = ((b, r, (own, is)), λ e. cc)
-  placed b r own (Ok delta) is =
+  says : (b : Position) → Resumes recipe inputs base (Ok b) → ¬ (NamesAnotherBase (save_of recipe inputs b) text) → (said : Result DeltaText ℕ)
+      → parsed_delta (save_of recipe inputs b) text ≡ said → IsAnswer (position_relative recipe (save_of recipe inputs b) said)
+  says b r own (Err offset) is = ((b, r, (own, is)), λ e. cc)
+  says b r own (Ok delta) is =
       let said = save_relative (save_of recipe inputs b) delta in
-      by_case IsAnswer (test.is_place recipe said) (saves.is_place recipe said) _ _ (λ place. ((b, r, (own, delta, is, place, refl)), λ e. cc)) (λ not. ((b, r, (own, delta, is, not)), λ e. cc))
+      by_case IsAnswer (test.is_saved_position recipe said) (saves.is_saved_position recipe said) _ _ (λ position. ((b, r, (own, delta, is, position, refl)), λ e. cc)) (λ not. ((b, r, (own, delta, is, not)), λ e. cc))
 
   judges : (said : Result Position SaveRefusal) → Resumes recipe inputs base said → said ≢ Err save.OutOfMemory → IsAnswer (after_base recipe inputs text said)
   judges (Err refusal) r settled = ((r, λ same. settled (ap Err same)), λ e. cc)
   judges (Ok b) r settled =
-      by_case IsAnswer (named b) (is_test (named b)) _ _ (λ other. ((b, r, other), λ e. cc)) (λ own. placed b r own (parsed_delta (save_of recipe inputs b) text) refl)
+      by_case IsAnswer (named b) (is_test (named b)) _ _ (λ other. ((b, r, other), λ e. cc)) (λ own. says b r own (parsed_delta (save_of recipe inputs b) text) refl)
 
   pub is_resumed : ResumesRelative recipe inputs base text (judged_relative recipe inputs base text)
   unfolding judged_relative
@@ -48,14 +48,14 @@ module _ (recipe : RecipeContents) (inputs : List (List ℕ)) (base text : List 
   answered = record { result = judged_relative recipe inputs base text; resumes = is_resumed; settled = is_settled }
 
   goes_on : (b : Position) (result : Result Position DeltaRefusal) → GoesOnRelative recipe (save_of recipe inputs b) text result → result ≢ Err OutOfMemory → judged_from recipe (save_of recipe inputs b) text ≡ result
-  goes_on b (Ok p) (own, delta, is, place, same) settled =
-      passed _ (is_test (named b)) _ _ own ∙ ap (placed_relative recipe (save_of recipe inputs b)) is
-      ∙ chosen _ (saves.is_place recipe (save_relative (save_of recipe inputs b) delta)) _ _ place ∙ ap Ok (sym same)
+  goes_on b (Ok p) (own, delta, is, position, same) settled =
+      passed _ (is_test (named b)) _ _ own ∙ ap (position_relative recipe (save_of recipe inputs b)) is
+      ∙ chosen _ (saves.is_saved_position recipe (save_relative (save_of recipe inputs b) delta)) _ _ position ∙ ap Ok (sym same)
   goes_on b (Err OtherBase) other settled = chosen _ (is_test (named b)) _ _ other
-  goes_on b (Err (Form offset)) (own, is) settled = passed _ (is_test (named b)) _ _ own ∙ ap (placed_relative recipe (save_of recipe inputs b)) is
+  goes_on b (Err (Form offset)) (own, is) settled = passed _ (is_test (named b)) _ _ own ∙ ap (position_relative recipe (save_of recipe inputs b)) is
   goes_on b (Err State) (own, delta, is, not) settled =
-      passed _ (is_test (named b)) _ _ own ∙ ap (placed_relative recipe (save_of recipe inputs b)) is
-      ∙ passed _ (saves.is_place recipe (save_relative (save_of recipe inputs b) delta)) _ _ not
+      passed _ (is_test (named b)) _ _ own ∙ ap (position_relative recipe (save_of recipe inputs b)) is
+      ∙ passed _ (saves.is_saved_position recipe (save_relative (save_of recipe inputs b) delta)) _ _ not
   goes_on b (Err OutOfMemory) goes settled = absurd (settled refl)
   goes_on b (Err (Base refusal)) goes settled = absurd goes
 

@@ -29,18 +29,18 @@ after_most (suc count) (stage ∷ stages) all =
 patch_most : (recipe : RecipeContents) (inputs : List (List ℕ)) (b p : Position) → IsRecipe recipe → IsInputs recipe inputs → IsPosition recipe b → IsPosition recipe p
     → HasAtMost 1_894_752_591 (text_of_patch (state_of b.at) (state_of p.at))
 unfolding state_of
-patch_most recipe inputs b p is given base place =
-    record { long = patches_short b.at p.at base.2.valid (has_text recipe inputs b is given base).state.steps place.2.valid (has_text recipe inputs p is given place).state.steps }
+patch_most recipe inputs b p is given base position =
+    record { long = patches_short b.at p.at base.2.valid (has_text recipe inputs b is given base).state.steps position.2.valid (has_text recipe inputs p is given position).state.steps }
 
 pub short : (recipe : RecipeContents) (inputs : List (List ℕ)) (b p : Position) → IsRecipe recipe → IsInputs recipe inputs → IsPosition recipe b → IsPosition recipe p
     → length (delta_text_of recipe inputs b p) < 4_294_967_296
 unfolding delta_text_of
-short recipe inputs b p is given base place =
+short recipe inputs b p is given base position =
     let kept = kept_stages (map stage_of b.done) (map stage_of p.done) in
     let digest : HasAtMost 32 (digest_text (base_digest (save_of recipe inputs b))) =
     record { long = (let count = (is_digest (text_of_save (save_of recipe inputs b))).count in omega arith) } in
-    let further = after_most kept (map stage_of p.done) (done_most recipe p is place) in
+    let further = after_most kept (map stage_of p.done) (done_most recipe p is position) in
     let whole =
-    joined (itself delta_magic) (joined digest (joined (joined (number32 kept) (counted stage_text (drop kept (map stage_of p.done)) further)) (patch_most recipe inputs b p is given base place))) in
+    joined (itself delta_magic) (joined digest (joined (joined (number32 kept) (counted stage_text (drop kept (map stage_of p.done)) further)) (patch_most recipe inputs b p is given base position))) in
     let long = whole.long in
     omega arith

@@ -1,4 +1,4 @@
--- Exactly the deltas of places in an audit are read beside the saves of their bases, each as its place.
+-- Exactly the deltas of positions of an audit are read beside the saves of their bases, each as its position.
 use Rattle.std.proofs.Common.{◌≡◌, ℕ, suc, ◌≤◌, Bool, true, false, cond, not, bytes_eq, List, [], ◌∷◌, ◌++◌, length, map, Result, Ok, Err, refl, sym, ap, subst, ◌∙◌, arith}
 use Rattle.std.specs.Prelude.{IfOk}
 use Rattle.std.proofs.lemmas.List.{length-drop}
@@ -25,7 +25,7 @@ use Rattle.save_format.proofs.DeltaTextLemmas.Texts.{parsed_again, parsed_takes}
 use Rattle.audit_rules.specs.Positions.{Position}
 use Rattle.audit_rules.specs.Valid.{IsInputs, IsPosition}
 use Rattle.audit_run.specs.Save.Judged.{judged}
-use Rattle.audit_run.specs.Save.Saves.{IsSavedPlace, IsResumedAs, Resumes, position_of, save_of, stage_of}
+use Rattle.audit_run.specs.Save.Saves.{IsSavedPosition, IsResumedAs, Resumes, position_of, save_of, stage_of}
 use Rattle.audit_run.specs.Delta.Deltas.{GoesOnRelative, HasDelta, IsBaseAt, IsResumedRelativeAs, NamesAnotherBase, ResumesRelative, base_digest, delta_of, delta_text_of, save_relative}
 use Rattle.audit_run.specs.Delta.Judged.{judged_relative}
 use Rattle.audit_run.specs.declared.delta.reading.DeltaRefusal.{DeltaRefusal}
@@ -35,7 +35,7 @@ use Rattle.audit_run.specs.declared.save.reading.SaveRefusal.TheVariants as save
 use Rattle.audit_run.proofs.DeltaLemmas.Answered as delta
 use Rattle.audit_run.proofs.SaveLemmas.Answered as answer
 use Rattle.audit_run.proofs.SaveLemmas.Exactly as saves
-use Rattle.audit_run.proofs.SaveLemmas.Placed.{all_of}
+use Rattle.audit_run.proofs.SaveLemmas.PositionSaid.{all_of}
 use Rattle.audit_run.proofs.SaveLemmas.Written.{has_text}
 
 -- ---- a base
@@ -99,9 +99,9 @@ few_kept (known ∷ more) (stage ∷ stages) =
 
 pub has_delta : (recipe : RecipeContents) (inputs : List (List ℕ)) (b p : Position) → kept.IsRecipe recipe → IsInputs recipe inputs → IsPosition recipe b → IsPosition recipe p
     → IsDelta (save_of recipe inputs b) (delta_of recipe inputs b p)
-has_delta recipe inputs b p is given base place =
+has_delta recipe inputs b p is given base position =
     let known = has_text recipe inputs b is given base in
-    let said = has_text recipe inputs p is given place in
+    let said = has_text recipe inputs p is given position in
     let few = said.stages.0 in
     let base_stages = map stage_of b.done in
     let stages = map stage_of p.done in
@@ -117,38 +117,38 @@ has_delta recipe inputs b p is given base place =
 
 -- ---- each answer
 
-pub is_place : (recipe : RecipeContents) (inputs : List (List ℕ)) (base text : List ℕ) (result : Result Position DeltaRefusal) → IfOk result (λ p. IsValid p.at) → ResumesRelative recipe inputs base text result
+pub is_position : (recipe : RecipeContents) (inputs : List (List ℕ)) (base text : List ℕ) (result : Result Position DeltaRefusal) → IfOk result (λ p. IsValid p.at) → ResumesRelative recipe inputs base text result
     → IfOk result (λ p. IsPosition recipe p)
-is_place recipe inputs base text (Ok p) valid (b, r, (own, delta, formed, place, found)) = saves.position_is recipe (save_relative (save_of recipe inputs b) delta) p valid place found
-is_place recipe inputs base text (Err refusal) valid resumes = tt
+is_position recipe inputs base text (Ok p) valid (b, r, (own, delta, formed, position, found)) = saves.saved_is_position recipe (save_relative (save_of recipe inputs b) delta) p valid position found
+is_position recipe inputs base text (Err refusal) valid resumes = tt
 
 -- what was read is what its delta says
 said_again : (recipe : RecipeContents) (inputs : List (List ℕ)) (b p : Position) (delta : DeltaText) → delta.base ≡ base_digest (save_of recipe inputs b) → IsStateText delta.state
-    → IsSavedPlace recipe (save_relative (save_of recipe inputs b) delta) → p ≡ position_of (save_relative (save_of recipe inputs b) delta) → delta_of recipe inputs b p ≡ delta
-said_again recipe inputs b p delta digest text (stage, stages, place) found =
+    → IsSavedPosition recipe (save_relative (save_of recipe inputs b) delta) → p ≡ position_of (save_relative (save_of recipe inputs b) delta) → delta_of recipe inputs b p ≡ delta
+said_again recipe inputs b p delta digest text (stage, stages, position) found =
     let stages_are : map stage_of p.done ≡ delta.stages = ap (λ (q : Position). map stage_of q.done) found ∙ saves.same_stages delta.stages in
-    let state_is : state_of p.at ≡ delta.state = ap (λ (q : Position). state_of q.at) found ∙ same_text delta.state text place.range in
+    let state_is : state_of p.at ≡ delta.state = ap (λ (q : Position). state_of q.at) found ∙ same_text delta.state text position.range in
     λ i. record { base = sym digest i; stages = stages_are i; state = state_is i }
 
 pub is_found : (recipe : RecipeContents) (inputs : List (List ℕ)) (base text : List ℕ) (result : Result Position DeltaRefusal) → kept.IsRecipe recipe → IsInputs recipe inputs → AreBytes base → AreBytes text
     → IfOk result (λ (p : Position). (b : Position) → Resumes recipe inputs base (Ok b) → IsPosition recipe b) → ResumesRelative recipe inputs base text result → IfOk result (HasDelta recipe inputs base text)
 unfolding delta_text_of
-is_found recipe inputs base text (Ok p) is given base_fits fits places (b, r, (own, delta, formed, place, found)) =
+is_found recipe inputs base text (Ok p) is given base_fits fits positions (b, r, (own, delta, formed, position, found)) =
     let known = save_of recipe inputs b in
-    let at = places b r in
+    let at = positions b r in
     let spelt = parsed_takes known text delta (has_text recipe inputs b is given at) fits formed in
     let digest = same_named known delta (base_digest known) text spelt.0.digest spelt.1 own in
-    let whole : IsStateText delta.state = counted_text known.state delta.state spelt.0.state (range_few known.state delta.state spelt.0.state place.2.range) in
-    (b, (at, saves.is_found recipe inputs base (Ok b) base_fits r), spelt.1 ∙ ap (text_of_delta known) (sym (said_again recipe inputs b p delta digest whole place found)))
-is_found recipe inputs base text (Err refusal) is given base_fits fits places resumes = tt
+    let whole : IsStateText delta.state = counted_text known.state delta.state spelt.0.state (range_few known.state delta.state spelt.0.state position.2.range) in
+    (b, (at, saves.is_found recipe inputs base (Ok b) base_fits r), spelt.1 ∙ ap (text_of_delta known) (sym (said_again recipe inputs b p delta digest whole position found)))
+is_found recipe inputs base text (Err refusal) is given base_fits fits positions resumes = tt
 
 -- the delta of a position against its base
 
 module _ (recipe : RecipeContents) (inputs : List (List ℕ)) (text : List ℕ) (is : kept.IsRecipe recipe) (given : IsInputs recipe inputs) (b p : Position) (base : IsPosition recipe b)
-    (place : IsPosition recipe p) (e : text ≡ delta_text_of recipe inputs b p) where
+    (position : IsPosition recipe p) (e : text ≡ delta_text_of recipe inputs b p) where
   pub formed_so : parsed_delta (save_of recipe inputs b) text ≡ Ok (delta_of recipe inputs b p)
   unfolding delta_text_of
-  formed_so = parsed_again (save_of recipe inputs b) (delta_of recipe inputs b p) text (has_text recipe inputs b is given base) (has_delta recipe inputs b p is given base place) e
+  formed_so = parsed_again (save_of recipe inputs b) (delta_of recipe inputs b p) text (has_text recipe inputs b is given base) (has_delta recipe inputs b p is given base position) e
 
   said_so : (delta : DeltaText) → parsed_delta (save_of recipe inputs b) text ≡ Ok delta → delta ≡ delta_of recipe inputs b p
   said_so delta formed = let both : ◌≡◌ {A = Result DeltaText ℕ} (Ok delta) (Ok (delta_of recipe inputs b p)) = sym formed ∙ formed_so in cc
@@ -158,28 +158,28 @@ module _ (recipe : RecipeContents) (inputs : List (List ℕ)) (text : List ℕ) 
   not_another other =
       let digest = base_digest (save_of recipe inputs b) in
       let none : false ≡ true =
-      ap not (sym ((bytes_eq-Decides digest.0 digest.0).1 refl)) ∙ sym (named (save_of recipe inputs b) (delta_of recipe inputs b p) digest text (has_delta recipe inputs b p is given base place).digest e) ∙ other in
+      ap not (sym ((bytes_eq-Decides digest.0 digest.0).1 refl)) ∙ sym (named (save_of recipe inputs b) (delta_of recipe inputs b p) digest text (has_delta recipe inputs b p is given base position).digest e) ∙ other in
       absurd cc
 
   goes : (result : Result Position DeltaRefusal) → GoesOnRelative recipe (save_of recipe inputs b) text result → IsResumedRelativeAs p result
-  goes (Ok found) (own, delta, formed, placed, same) =
-      same ∙ ap (λ (d : DeltaText). position_of (save_relative (save_of recipe inputs b) d)) (said_so delta formed) ∙ saves.same_position recipe inputs p place.2.valid
+  goes (Ok found) (own, delta, formed, saved, same) =
+      same ∙ ap (λ (d : DeltaText). position_of (save_relative (save_of recipe inputs b) d)) (said_so delta formed) ∙ saves.same_position recipe inputs p position.2.valid
   goes (Err OutOfMemory) from = tt
   goes (Err OtherBase) other = not_another other
   goes (Err (Form offset)) (own, formed) =
       let both : ◌≡◌ {A = Result DeltaText ℕ} (Err offset) (Ok (delta_of recipe inputs b p)) = sym formed ∙ formed_so in
       cc
   goes (Err State) (own, delta, formed, none) =
-      none (subst (λ (d : DeltaText). IsSavedPlace recipe (save_relative (save_of recipe inputs b) d)) (sym (said_so delta formed)) (saves.saves_a_place recipe inputs p place))
+      none (subst (λ (d : DeltaText). IsSavedPosition recipe (save_relative (save_of recipe inputs b) d)) (sym (said_so delta formed)) (saves.saves_a_position recipe inputs p position))
   goes (Err (Base refusal)) from = absurd from
 
 module _ (recipe : RecipeContents) (inputs : List (List ℕ)) (base text : List ℕ) (is : kept.IsRecipe recipe) (given : IsInputs recipe inputs) (b p : Position) (at : IsBaseAt recipe inputs b base)
-    (place : IsPosition recipe p) (e : text ≡ delta_text_of recipe inputs b p) where
+    (position : IsPosition recipe p) (e : text ≡ delta_text_of recipe inputs b p) where
   -- relative to the base's own position
   from : (c : Position) (result : Result Position DeltaRefusal) → Resumes recipe inputs base (Ok c) → GoesOnRelative recipe (save_of recipe inputs c) text result → IsResumedRelativeAs p result
   from c result r goes_on =
       let same : c ≡ b = saves.is_only recipe inputs base (Ok c) is given r b at.0 at.1 in
-      goes recipe inputs text is given b p at.0 place e result (subst (λ (q : Position). GoesOnRelative recipe (save_of recipe inputs q) text result) same goes_on)
+      goes recipe inputs text is given b p at.0 position e result (subst (λ (q : Position). GoesOnRelative recipe (save_of recipe inputs q) text result) same goes_on)
 
   refused : (refusal : SaveRefusal) → IsResumedAs b (Err refusal) → ¬ (refusal ≡ save.OutOfMemory) → ⊥
   refused save.OutOfMemory read other = other refl
@@ -197,7 +197,7 @@ module _ (recipe : RecipeContents) (inputs : List (List ℕ)) (base text : List 
 
 pub is_only : (recipe : RecipeContents) (inputs : List (List ℕ)) (base text : List ℕ) (result : Result Position DeltaRefusal) → kept.IsRecipe recipe → IsInputs recipe inputs → ResumesRelative recipe inputs base text result
     → (b p : Position) → IsBaseAt recipe inputs b base → IsPosition recipe p → text ≡ delta_text_of recipe inputs b p → IsResumedRelativeAs p result
-is_only recipe inputs base text result is given resumes b p at place e = resumed_as recipe inputs base text is given b p at place e result resumes
+is_only recipe inputs base text result is given resumes b p at position e = resumed_as recipe inputs base text is given b p at position e result resumes
 
 -- ---- one delta
 
@@ -207,8 +207,8 @@ one_delta recipe inputs base first second p is given (b, at, e) (c, there, f) = 
 
 pub delta_read : (recipe : RecipeContents) (inputs : List (List ℕ)) (base text : List ℕ) (p : Position) → kept.IsRecipe recipe → IsInputs recipe inputs → IsPosition recipe p → HasDelta recipe inputs base text p
     → judged_relative recipe inputs base text ≡ Ok p
-delta_read recipe inputs base text p is given place (b, at, e) =
-    by (judged_relative recipe inputs base text) (is_only recipe inputs base text (judged_relative recipe inputs base text) is given (delta.is_resumed recipe inputs base text) b p at place e)
+delta_read recipe inputs base text p is given position (b, at, e) =
+    by (judged_relative recipe inputs base text) (is_only recipe inputs base text (judged_relative recipe inputs base text) is given (delta.is_resumed recipe inputs base text) b p at position e)
     (λ wants. delta.is_settled recipe inputs base text wants)
   where
     by : (result : Result Position DeltaRefusal) → IsResumedRelativeAs p result → ¬ (result ≡ Err OutOfMemory) → result ≡ Ok p

@@ -5,7 +5,7 @@ use Rattle.save_format.specs.SaveText.{SaveText, parsed_save}
 use Rattle.save_format.specs.Spelled.{IsSaveText}
 use Rattle.audit_rules.specs.Positions.{Position}
 use Rattle.audit_rules.specs.Valid.{IsPosition}
-use Rattle.audit_run.specs.Save.Saves.{IsSavedPlace, Resumes, Stands, save_of}
+use Rattle.audit_run.specs.Save.Saves.{IsSavedPosition, Resumes, Stands, save_of}
 use Rattle.audit_run.specs.Delta.Deltas.{GoesOnRelative, ResumesRelative}
 use Rattle.audit_run.specs.Delta.Inside.Judging.{JudgesBase}
 use Rattle.audit_run.specs.declared.delta.reading.DeltaRefusal.{DeltaRefusal}
@@ -14,7 +14,7 @@ use Rattle.audit_run.specs.declared.save.reading.SaveRefusal.{SaveRefusal}
 use Rattle.audit_run.specs.declared.save.reading.SaveRefusal.TheVariants as saves
 use Rattle.audit_run.proofs.SaveLemmas.Answered.{is_answer}
 use Rattle.audit_run.proofs.SaveLemmas.Exactly.{same_save}
-use Rattle.audit_run.proofs.SaveLemmas.Placed.{place_may_stand}
+use Rattle.audit_run.proofs.SaveLemmas.PositionSaid.{position_may_stand}
 
 -- what ends the judging of the base ends the whole
 pub stops : (recipe : RecipeContents) (inputs : List (List ℕ)) (base text : List ℕ) (refusal : DeltaRefusal) → JudgesBase recipe inputs base (Err refusal) → ResumesRelative recipe inputs base text (Err refusal)
@@ -26,22 +26,22 @@ stops recipe inputs base text State judges = absurd judges
 
 -- memory may be wanted for a base that is resumed
 pub may_want : (recipe : RecipeContents) (inputs : List (List ℕ)) (base : List ℕ) (b : Position) → Resumes recipe inputs base (Ok b) → Resumes recipe inputs base (Err saves.OutOfMemory)
-may_want recipe inputs base b (save, is, of, place, found) = (save, is, of, place_may_stand recipe save place)
+may_want recipe inputs base b (save, is, of, position, found) = (save, is, of, position_may_stand recipe save position)
 
 -- and what was read of it is the save of its position
 pub known_is : (recipe : RecipeContents) (inputs : List (List ℕ)) (base : List ℕ) (b : Position) (known : SaveText) → Resumes recipe inputs base (Ok b) → parsed_save base ≡ Ok known → IsSaveText known
     → known ≡ save_of recipe inputs b
-known_is recipe inputs base b known (save, is, of, (stage, stages, place), found) said text =
+known_is recipe inputs base b known (save, is, of, (stage, stages, position), found) said text =
     let both : ◌≡◌ {A = Result SaveText ℕ} (Ok save) (Ok known) = sym is ∙ said in
     let same : save ≡ known = cc in
-    sym (ap (save_of recipe inputs) found ∙ same_save recipe inputs save (subst IsSaveText (sym same) text) of place.range ∙ same)
+    sym (ap (save_of recipe inputs) found ∙ same_save recipe inputs save (subst IsSaveText (sym same) text) of position.range ∙ same)
 
 pub one_base : (recipe : RecipeContents) (inputs : List (List ℕ)) (base : List ℕ) (b c : Position) → Resumes recipe inputs base (Ok b) → Resumes recipe inputs base (Ok c) → IsPosition recipe b → IsPosition recipe c
-one_base recipe inputs base b c first second place =
+one_base recipe inputs base b c first second position =
     let both : ◌≡◌ {A = Result Position SaveRefusal} (Ok b) (Ok c) =
     sym (is_answer recipe inputs base (Ok b) first (λ e. cc)) ∙ is_answer recipe inputs base (Ok c) second (λ e. cc) in
     let same : b ≡ c = cc in
-    subst (IsPosition recipe) same place
+    subst (IsPosition recipe) same position
 
 following : (recipe : RecipeContents) (inputs : List (List ℕ)) (base text : List ℕ) (b : Position) (result : Result Position DeltaRefusal) → Resumes recipe inputs base (Ok b)
     → GoesOnRelative recipe (save_of recipe inputs b) text result → ResumesRelative recipe inputs base text result
@@ -58,7 +58,7 @@ pub goes_after : (recipe : RecipeContents) (inputs : List (List ℕ)) (base text
 goes_after recipe inputs base text b known result r said is goes =
     following recipe inputs base text b result r (subst (λ (save : SaveText). GoesOnRelative recipe save text result) (known_is recipe inputs base b known r said is) goes)
 
--- a place that was refused, by its refusal
+-- a position that was refused, by its refusal
 
 pub no_form : (recipe : RecipeContents) (save : SaveText) (refusal : SaveRefusal) (offset : ℕ) → refusal ≡ saves.Form offset → Stands recipe save (Err refusal) → ⊥
 no_form recipe save refusal offset is stands = let there : Stands recipe save (Err (saves.Form offset)) = subst (λ (r : SaveRefusal). Stands recipe save (Err r)) is stands in there
@@ -66,5 +66,5 @@ no_form recipe save refusal offset is stands = let there : Stands recipe save (E
 pub no_other : (recipe : RecipeContents) (save : SaveText) (refusal : SaveRefusal) → refusal ≡ saves.OtherRecipe → Stands recipe save (Err refusal) → ⊥
 no_other recipe save refusal is stands = let there : Stands recipe save (Err saves.OtherRecipe) = subst (λ (r : SaveRefusal). Stands recipe save (Err r)) is stands in there
 
-pub no_place : (recipe : RecipeContents) (save : SaveText) (refusal : SaveRefusal) → refusal ≡ saves.State → Stands recipe save (Err refusal) → ¬ (IsSavedPlace recipe save)
-no_place recipe save refusal is stands = let there : Stands recipe save (Err saves.State) = subst (λ (r : SaveRefusal). Stands recipe save (Err r)) is stands in there
+pub no_position : (recipe : RecipeContents) (save : SaveText) (refusal : SaveRefusal) → refusal ≡ saves.State → Stands recipe save (Err refusal) → ¬ (IsSavedPosition recipe save)
+no_position recipe save refusal is stands = let there : Stands recipe save (Err saves.State) = subst (λ (r : SaveRefusal). Stands recipe save (Err r)) is stands in there

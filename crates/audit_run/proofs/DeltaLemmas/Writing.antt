@@ -20,10 +20,10 @@ use Rattle.audit_rules.specs.declared.answer.Finished.{Finished}
 use Rattle.audit_rules.specs.Positions.{Position, On, at}
 use Rattle.audit_rules.specs.Valid.{IsInputs, IsPosition}
 use Rattle.audit_rules.proofs.Rules.{rules}
-use Rattle.audit_run.specs.Inside.Parts.{IsPlaceAfter, seen}
+use Rattle.audit_run.specs.Inside.Parts.{IsStandingAfter, seen}
 use Rattle.audit_run.specs.Seen.{AuditState}
-use Rattle.audit_run.specs.declared.place.AuditPlace.{AuditPlace}
-use Rattle.audit_run.specs.declared.place.AuditPlace.TheVariants.{Running}
+use Rattle.audit_run.specs.declared.standing.AuditStanding.{AuditStanding}
+use Rattle.audit_run.specs.declared.standing.AuditStanding.TheVariants.{Running}
 use Rattle.audit_run.specs.Save.Saves.{save_of, stage_of}
 use Rattle.audit_run.specs.Delta.Deltas.{IsBaseAt, base_digest, delta_text_of}
 use Rattle.audit_run.proofs.SaveLemmas.Exactly.{formed_of}
@@ -58,14 +58,14 @@ deltas_are recipe inputs base known p (Ok text) is given said e = λ b base_is. 
 deltas_are recipe inputs base known p (Err error) is given said e = tt
 
 -- what an audit saves is a base at its position
-pub base_saved : (audit : AuditState) (recipe : RecipeContents) (inputs given : List (List ℕ)) (done so_far : List Finished) (where_it_is : AuditPlace) (guest : GuestState) (result : Result (List ℕ) OutOfMemory)
-    → audit ≡ record { recipe = recipe; inputs = inputs; stands = seen done where_it_is } → where_it_is ≡ Running guest → IsPlaceAfter recipe done where_it_is → given ≡ inputs → so_far ≡ done
+pub base_saved : (audit : AuditState) (recipe : RecipeContents) (inputs given : List (List ℕ)) (done so_far : List Finished) (where_it_is : AuditStanding) (guest : GuestState) (result : Result (List ℕ) OutOfMemory)
+    → audit ≡ record { recipe = recipe; inputs = inputs; stands = seen done where_it_is } → where_it_is ≡ Running guest → IsStandingAfter recipe done where_it_is → given ≡ inputs → so_far ≡ done
     → IfOk result (λ text. text ≡ text_of_save (save_of recipe given (at so_far guest)))
     → IfOk result (λ text. (p : Position) × (audit.stands ≡ Some (On p)) × IsBaseAt audit.recipe audit.inputs p text)
-base_saved audit recipe inputs given done so_far where_it_is guest (Ok text) view is placed given_is done_is e =
+base_saved audit recipe inputs given done so_far where_it_is guest (Ok text) view is stood given_is done_is e =
     subst (λ (a : AuditState). (p : Position) × (a.stands ≡ Some (On p)) × IsBaseAt a.recipe a.inputs p text) (sym view)
-    (at done guest, ap (seen done) is, (subst (IsPlaceAfter recipe done) is placed, inl (e ∙ (λ i. text_of_save (save_of recipe (given_is i) (at (done_is i) guest))))))
-base_saved audit recipe inputs given done so_far where_it_is guest (Err error) view is placed given_is done_is e = tt
+    (at done guest, ap (seen done) is, (subst (IsStandingAfter recipe done) is stood, inl (e ∙ (λ i. text_of_save (save_of recipe (given_is i) (at (done_is i) guest))))))
+base_saved audit recipe inputs given done so_far where_it_is guest (Err error) view is stood given_is done_is e = tt
 
 -- ---- stages
 

@@ -24,7 +24,7 @@ use Rattle.audit_rules.specs.Stages.{artefact_bytes}
 use Rattle.audit_rules.specs.Valid.{AreDone, AreFinished, HasMark, IsFinished, IsLeftLine, IsSmallMark}
 use Rattle.audit_run.specs.Save.Inside.Tests as test
 use Rattle.audit_run.specs.Save.Judged.{judged, judged_as}
-use Rattle.audit_run.specs.Save.Saves.{SaveAnswer, IsOf, IsSavedPlace, IsSavedPlaceIn, Resumes, digest_of, done_in}
+use Rattle.audit_run.specs.Save.Saves.{SaveAnswer, IsOf, IsSavedPosition, IsSavedPositionIn, Resumes, digest_of, done_in}
 use Rattle.audit_run.specs.declared.save.reading.SaveRefusal.{SaveRefusal}
 use Rattle.audit_run.specs.declared.save.reading.SaveRefusal.TheVariants.{Form, OtherRecipe, State, OutOfMemory}
 
@@ -92,14 +92,14 @@ unfolding test.is_of
 is_of recipe inputs save =
     Decides-like _ (λ h. assumption) (λ h. assumption) (both (same_digest save.recipe recipe.digest) (same_digests save.inputs (map digest_of inputs)))
 
-pub is_place : (recipe : RecipeContents) (save : SaveText) → Decides (test.is_place recipe save) (IsSavedPlace recipe save)
-unfolding test.is_place
-is_place recipe save = at (todo recipe (done_in save)) refl
+pub is_saved_position : (recipe : RecipeContents) (save : SaveText) → Decides (test.is_saved_position recipe save) (IsSavedPosition recipe save)
+unfolding test.is_saved_position
+is_saved_position recipe save = at (todo recipe (done_in save)) refl
   where
-    at : (left : List Stage) → todo recipe (done_in save) ≡ left → Decides (test.is_place_before recipe save left) (IsSavedPlace recipe save)
+    at : (left : List Stage) → todo recipe (done_in save) ≡ left → Decides (test.is_saved_position_before recipe save left) (IsSavedPosition recipe save)
     at [] is = (λ t. cc, λ h. let other = h.2.left in cc)
     at (stage ∷ stages) is =
-        Decides-like _ (λ h. (stage, stages, assumption)) (λ h. let other = h.2.left in let same : IsSavedPlaceIn recipe save stage stages = subst₂ (IsSavedPlaceIn recipe save) (cc) (cc) h.2 in assumption)
+        Decides-like _ (λ h. (stage, stages, assumption)) (λ h. let other = h.2.left in let same : IsSavedPositionIn recipe save stage stages = subst₂ (IsSavedPositionIn recipe save) (cc) (cc) h.2 in assumption)
         (both (are_done recipe (done_in save))
         (both (is_in_range save.state)
         (both (is_joined save.state) (both (Decides-ltb save.state.steps stage.steps) (Decides-eqb save.state.heap.limit stage.heap)))))
@@ -114,7 +114,7 @@ module _ (recipe : RecipeContents) (inputs : List (List ℕ)) (text : List ℕ) 
   judges (Err offset) is = (is, λ e. cc)
   judges (Ok save) is =
       by_case IsAnswer (test.is_of recipe inputs save) (is_of recipe inputs save) _ _
-      (λ of. by_case IsAnswer (test.is_place recipe save) (is_place recipe save) _ _ (λ place. ((save, is, of, place, refl), λ e. cc)) (λ not. ((save, is, of, not), λ e. cc)))
+      (λ of. by_case IsAnswer (test.is_saved_position recipe save) (is_saved_position recipe save) _ _ (λ position. ((save, is, of, position, refl), λ e. cc)) (λ not. ((save, is, of, not), λ e. cc)))
       (λ not. ((save, is, not), λ e. cc))
 
   pub is_resumed : Resumes recipe inputs text (judged recipe inputs text)
@@ -130,11 +130,11 @@ module _ (recipe : RecipeContents) (inputs : List (List ℕ)) (text : List ℕ) 
 
   pub is_answer : (result : Result Position SaveRefusal) → Resumes recipe inputs text result → result ≢ Err OutOfMemory → judged recipe inputs text ≡ result
   unfolding judged
-  is_answer (Ok p) (save, is, of, place, same) settled =
-      ap (judged_as recipe inputs) is ∙ chosen _ (is_of recipe inputs save) _ _ of ∙ chosen _ (is_place recipe save) _ _ place ∙ ap Ok (sym same)
+  is_answer (Ok p) (save, is, of, position, same) settled =
+      ap (judged_as recipe inputs) is ∙ chosen _ (is_of recipe inputs save) _ _ of ∙ chosen _ (is_saved_position recipe save) _ _ position ∙ ap Ok (sym same)
   is_answer (Err (Form offset)) is settled = ap (judged_as recipe inputs) is
   is_answer (Err OtherRecipe) (save, is, not) settled = ap (judged_as recipe inputs) is ∙ passed _ (is_of recipe inputs save) _ _ not
-  is_answer (Err State) (save, is, of, not) settled = ap (judged_as recipe inputs) is ∙ chosen _ (is_of recipe inputs save) _ _ of ∙ passed _ (is_place recipe save) _ _ not
+  is_answer (Err State) (save, is, of, not) settled = ap (judged_as recipe inputs) is ∙ chosen _ (is_of recipe inputs save) _ _ of ∙ passed _ (is_saved_position recipe save) _ _ not
   is_answer (Err OutOfMemory) resumes settled = absurd (settled refl)
 
   pub one_answer : (first second : SaveAnswer recipe inputs text) → first.result ≡ second.result

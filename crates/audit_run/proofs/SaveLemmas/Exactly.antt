@@ -1,4 +1,4 @@
--- Exactly the saves of places in an audit are read, each as its place.
+-- Exactly the saves of positions of an audit are read, each as its position.
 use Rattle.std.proofs.Common.{◌≡◌, ℕ, List, [], ◌∷◌, map, Result, Ok, Err, refl, sym, ap, subst, ◌∙◌}
 use Rattle.std.specs.Prelude.{IfOk}
 use Rattle.save_format.proofs.ByteFieldsLemmas.Spells.{AreBytes}
@@ -18,7 +18,7 @@ use Rattle.audit_rules.specs.Positions.{Position, at, todo}
 use Rattle.audit_rules.specs.Valid.{AreDone, IsInputs, IsPosition}
 use Rattle.audit_run.specs.declared.save.reading.SaveRefusal.{SaveRefusal}
 use Rattle.audit_run.specs.declared.save.reading.SaveRefusal.TheVariants.{Form, OtherRecipe, State, OutOfMemory}
-use Rattle.audit_run.specs.Save.Saves.{IsOf, IsSavedPlace, IsResumedAs, Resumes, Stands, digest_of, finished_of, position_of, save_of, stage_of}
+use Rattle.audit_run.specs.Save.Saves.{IsOf, IsSavedPosition, IsResumedAs, Resumes, Stands, digest_of, finished_of, position_of, save_of, stage_of}
 use Rattle.audit_run.specs.Save.Inside.Seen.{AreDigests}
 use Rattle.audit_run.proofs.SaveLemmas.Written.{has_text}
 
@@ -63,31 +63,31 @@ same_said text s t a b = let both : ◌≡◌ {A = Result SaveText ℕ} (Ok s) (
 
 -- ---- each answer
 
--- a place whose guest is valid is a position
-pub position_is : (recipe : RecipeContents) (save : SaveText) (p : Position) → IsValid p.at → IsSavedPlace recipe save → p ≡ position_of save → IsPosition recipe p
+-- a saved position whose guest is valid is a position
+pub saved_is_position : (recipe : RecipeContents) (save : SaveText) (p : Position) → IsValid p.at → IsSavedPosition recipe save → p ≡ position_of save → IsPosition recipe p
 unfolding guest_of
-position_is recipe save p valid (stage, stages, place) found =
+saved_is_position recipe save p valid (stage, stages, position) found =
     subst (IsPosition recipe) (sym found) (
       stage,
       stages,
       record {
-        left = place.left;
-        within = place.within;
-        heap = place.heap;
+        left = position.left;
+        within = position.within;
+        heap = position.heap;
         valid = subst (λ (q : Position). IsValid q.at) found valid;
-        done = place.done;
+        done = position.done;
       },
     )
 
-pub is_place : (recipe : RecipeContents) (inputs : List (List ℕ)) (text : List ℕ) (result : Result Position SaveRefusal) → IfOk result (λ p. IsValid p.at) → Resumes recipe inputs text result → IfOk result (λ p. IsPosition recipe p)
-is_place recipe inputs text (Ok p) valid (save, formed_is, is, place, found) = position_is recipe save p valid place found
-is_place recipe inputs text (Err refusal) valid resumes = tt
+pub is_position : (recipe : RecipeContents) (inputs : List (List ℕ)) (text : List ℕ) (result : Result Position SaveRefusal) → IfOk result (λ p. IsValid p.at) → Resumes recipe inputs text result → IfOk result (λ p. IsPosition recipe p)
+is_position recipe inputs text (Ok p) valid (save, formed_is, is, position, found) = saved_is_position recipe save p valid position found
+is_position recipe inputs text (Err refusal) valid resumes = tt
 
 pub is_found : (recipe : RecipeContents) (inputs : List (List ℕ)) (text : List ℕ) (result : Result Position SaveRefusal) → AreBytes text → Resumes recipe inputs text result
     → IfOk result (λ p. IsTextOfSave (save_of recipe inputs p) text)
-is_found recipe inputs text (Ok p) fits (save, formed_is, is, (stage, stages, place), found) =
+is_found recipe inputs text (Ok p) fits (save, formed_is, is, (stage, stages, position), found) =
     let spelt = spelled text save fits formed_is in
-    let same : save_of recipe inputs p ≡ save = ap (save_of recipe inputs) found ∙ same_save recipe inputs save spelt.0 is place.range in
+    let same : save_of recipe inputs p ≡ save = ap (save_of recipe inputs) found ∙ same_save recipe inputs save spelt.0 is position.range in
     subst (λ (said : SaveText). IsTextOfSave said text) (sym same) spelt.1
 is_found recipe inputs text (Err refusal) fits resumes = tt
 
@@ -96,9 +96,9 @@ is_found recipe inputs text (Err refusal) fits resumes = tt
 saves_its_recipe : (recipe : RecipeContents) (inputs : List (List ℕ)) (p : Position) → IsOf recipe inputs (save_of recipe inputs p)
 saves_its_recipe recipe inputs p = record { same_recipe = refl; same_inputs = refl }
 
-pub saves_a_place : (recipe : RecipeContents) (inputs : List (List ℕ)) (p : Position) → IsPosition recipe p → IsSavedPlace recipe (save_of recipe inputs p)
+pub saves_a_position : (recipe : RecipeContents) (inputs : List (List ℕ)) (p : Position) → IsPosition recipe p → IsSavedPosition recipe (save_of recipe inputs p)
 unfolding state_of
-saves_a_place recipe inputs p (stage, stages, ok) =
+saves_a_position recipe inputs p (stage, stages, ok) =
     let same : map finished_of (map stage_of p.done) ≡ p.done = same_done p.done in (
       stage,
       stages,
@@ -114,23 +114,23 @@ saves_a_place recipe inputs p (stage, stages, ok) =
 
 pub formed_of : (recipe : RecipeContents) (inputs : List (List ℕ)) (text : List ℕ) (p : Position) → kept.IsRecipe recipe → IsInputs recipe inputs → IsPosition recipe p → IsTextOfSave (save_of recipe inputs p) text
     → parsed_save text ≡ Ok (save_of recipe inputs p)
-formed_of recipe inputs text p is given place said = formed_again (save_of recipe inputs p) text (has_text recipe inputs p is given place) said
+formed_of recipe inputs text p is given position said = formed_again (save_of recipe inputs p) text (has_text recipe inputs p is given position) said
 
 pub is_only : (recipe : RecipeContents) (inputs : List (List ℕ)) (text : List ℕ) (result : Result Position SaveRefusal) → kept.IsRecipe recipe → IsInputs recipe inputs → Resumes recipe inputs text result
     → (p : Position) → IsPosition recipe p → IsTextOfSave (save_of recipe inputs p) text → IsResumedAs p result
-is_only recipe inputs text (Ok found) is given resumes p place said =
-    let same = same_said text resumes.0 (save_of recipe inputs p) resumes.1 (formed_of recipe inputs text p is given place said) in
-    resumes.4 ∙ ap position_of same ∙ same_position recipe inputs p place.2.valid
-is_only recipe inputs text (Err OutOfMemory) is given resumes p place said = tt
-is_only recipe inputs text (Err (Form offset)) is given resumes p place said =
-    let both : ◌≡◌ {A = Result SaveText ℕ} (Err offset) (Ok (save_of recipe inputs p)) = sym resumes ∙ formed_of recipe inputs text p is given place said in
+is_only recipe inputs text (Ok found) is given resumes p position said =
+    let same = same_said text resumes.0 (save_of recipe inputs p) resumes.1 (formed_of recipe inputs text p is given position said) in
+    resumes.4 ∙ ap position_of same ∙ same_position recipe inputs p position.2.valid
+is_only recipe inputs text (Err OutOfMemory) is given resumes p position said = tt
+is_only recipe inputs text (Err (Form offset)) is given resumes p position said =
+    let both : ◌≡◌ {A = Result SaveText ℕ} (Err offset) (Ok (save_of recipe inputs p)) = sym resumes ∙ formed_of recipe inputs text p is given position said in
     cc
-is_only recipe inputs text (Err OtherRecipe) is given resumes p place said =
-    let same = same_said text resumes.0 (save_of recipe inputs p) resumes.1 (formed_of recipe inputs text p is given place said) in
+is_only recipe inputs text (Err OtherRecipe) is given resumes p position said =
+    let same = same_said text resumes.0 (save_of recipe inputs p) resumes.1 (formed_of recipe inputs text p is given position said) in
     resumes.2 (subst (IsOf recipe inputs) (sym same) (saves_its_recipe recipe inputs p))
-is_only recipe inputs text (Err State) is given resumes p place said =
-    let same = same_said text resumes.0 (save_of recipe inputs p) resumes.1 (formed_of recipe inputs text p is given place said) in
-    resumes.3 (subst (IsSavedPlace recipe) (sym same) (saves_a_place recipe inputs p place))
+is_only recipe inputs text (Err State) is given resumes p position said =
+    let same = same_said text resumes.0 (save_of recipe inputs p) resumes.1 (formed_of recipe inputs text p is given position said) in
+    resumes.3 (subst (IsSavedPosition recipe) (sym same) (saves_a_position recipe inputs p position))
 
 -- what becomes of what a save of this recipe and these inputs says becomes of its text
 pub stood : (recipe : RecipeContents) (inputs : List (List ℕ)) (text : List ℕ) (save : SaveText) (result : Result Position SaveRefusal)

@@ -10,7 +10,7 @@ use Rattle.save_format.specs.DeltaText.DeltaText.{DeltaText, parsed_delta, text_
 use Rattle.save_format.specs.DeltaText.Front.{is_of_other_base}
 use Rattle.audit_rules.specs.Positions.{Position}
 use Rattle.audit_rules.specs.Valid.{IsPosition}
-use Rattle.audit_run.specs.Save.Saves.{IsSavedPlace, Resumes, digest_of, position_of, save_of, save_refusal_number, stage_of}
+use Rattle.audit_run.specs.Save.Saves.{IsSavedPosition, Resumes, digest_of, position_of, save_of, save_refusal_number, stage_of}
 use Rattle.audit_run.specs.declared.delta.reading.DeltaRefusal.{DeltaRefusal}
 use Rattle.audit_run.specs.declared.delta.reading.DeltaRefusal.TheVariants.{Base, Form, OtherBase, State, OutOfMemory}
 use Rattle.audit_run.specs.declared.save.reading.SaveRefusal.TheVariants as save
@@ -47,16 +47,16 @@ NamesAnotherBase base text = IsTrue (is_of_other_base (base_digest base) text)
 abbrev pub save_relative : SaveText → DeltaText → SaveText
 save_relative base delta = record { recipe = base.recipe; inputs = base.inputs; stages = delta.stages; state = delta.state }
 
--- what becomes of a text beside the save of its base: first whether it names another base, then its form, then whether it is a place. Memory may be
+-- what becomes of a text beside the save of its base: first whether it names another base, then its form, then whether it is a position. Memory may be
 -- wanting only where it names this base and has the form
 abbrev pub GoesOnRelative : RecipeContents → SaveText → List ℕ → Result Position DeltaRefusal → Type 0
 GoesOnRelative recipe base text (Ok p) =
     ¬ (NamesAnotherBase base text)
-    × (delta : DeltaText) × (parsed_delta base text ≡ Ok delta) × IsSavedPlace recipe (save_relative base delta) × (p ≡ position_of (save_relative base delta))
+    × (delta : DeltaText) × (parsed_delta base text ≡ Ok delta) × IsSavedPosition recipe (save_relative base delta) × (p ≡ position_of (save_relative base delta))
 GoesOnRelative recipe base text (Err OtherBase) = NamesAnotherBase base text
 GoesOnRelative recipe base text (Err (Form offset)) = ¬ (NamesAnotherBase base text) × (parsed_delta base text ≡ Err offset)
 GoesOnRelative recipe base text (Err State) =
-    ¬ (NamesAnotherBase base text) × (delta : DeltaText) × (parsed_delta base text ≡ Ok delta) × ¬ (IsSavedPlace recipe (save_relative base delta))
+    ¬ (NamesAnotherBase base text) × (delta : DeltaText) × (parsed_delta base text ≡ Ok delta) × ¬ (IsSavedPosition recipe (save_relative base delta))
 GoesOnRelative recipe base text (Err OutOfMemory) = ¬ (NamesAnotherBase base text) × IsOk (parsed_delta base text)
 GoesOnRelative recipe base text (Err (Base refusal)) = ⊥
 

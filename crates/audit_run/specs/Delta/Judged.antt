@@ -5,7 +5,7 @@ use Rattle.save_format.specs.SaveText.{SaveText}
 use Rattle.save_format.specs.DeltaText.DeltaText.{DeltaText, parsed_delta}
 use Rattle.save_format.specs.DeltaText.Front.{is_of_other_base}
 use Rattle.audit_rules.specs.Positions.{Position}
-use Rattle.audit_run.specs.Save.Inside.Tests.{is_place}
+use Rattle.audit_run.specs.Save.Inside.Tests.{is_saved_position}
 use Rattle.audit_run.specs.Save.Judged.{judged}
 use Rattle.audit_run.specs.Save.Saves.{position_of, save_of}
 use Rattle.audit_run.specs.Delta.Deltas.{base_digest, save_relative}
@@ -13,14 +13,14 @@ use Rattle.audit_run.specs.declared.delta.reading.DeltaRefusal.{DeltaRefusal}
 use Rattle.audit_run.specs.declared.delta.reading.DeltaRefusal.TheVariants.{Base, Form, OtherBase, State}
 use Rattle.audit_run.specs.declared.save.reading.SaveRefusal.{SaveRefusal}
 
--- what is said relative to a base: a place in the audit, or none
-abbrev pub placed_relative : RecipeContents → SaveText → Result DeltaText ℕ → Result Position DeltaRefusal
-placed_relative recipe base (Err offset) = Err (Form offset)
-placed_relative recipe base (Ok delta) = if is_place recipe (save_relative base delta) then Ok (position_of (save_relative base delta)) else Err State
+-- what is said relative to a base: a position of the audit, or none
+abbrev pub position_relative : RecipeContents → SaveText → Result DeltaText ℕ → Result Position DeltaRefusal
+position_relative recipe base (Err offset) = Err (Form offset)
+position_relative recipe base (Ok delta) = if is_saved_position recipe (save_relative base delta) then Ok (position_of (save_relative base delta)) else Err State
 
 -- a text beside the save of its base: whether it names another base, and then what it says
 abbrev pub judged_from : RecipeContents → SaveText → List ℕ → Result Position DeltaRefusal
-judged_from recipe base text = if is_of_other_base (base_digest base) text then Err OtherBase else placed_relative recipe base (parsed_delta base text)
+judged_from recipe base text = if is_of_other_base (base_digest base) text then Err OtherBase else position_relative recipe base (parsed_delta base text)
 
 -- what becomes of the base comes first
 abbrev pub after_base : RecipeContents → List (List ℕ) → List ℕ → Result Position SaveRefusal → Result Position DeltaRefusal

@@ -7,25 +7,25 @@ use Rattle.recipe.specs.declared.parts.Stage.{Stage}
 use Rattle.audit_rules.specs.declared.answer.Finished.{Finished}
 use Rattle.audit_rules.specs.Positions.{Position, Standing, On, Over, at, beginning, stage_closed, forward}
 use Rattle.audit_rules.specs.Valid.{AreDone, IsInputs, IsStanding}
-use Rattle.audit_run.specs.declared.place.AuditPlace.{AuditPlace}
-use Rattle.audit_run.specs.declared.place.AuditPlace.TheVariants as place
-use Rattle.audit_run.specs.declared.place.EndedGuest.{EndedGuest}
-use Rattle.audit_run.specs.declared.place.EndedGuest.TheVariants.{Kept, GivenUp}
-use Rattle.audit_run.specs.declared.place.Moved.{Moved}
-use Rattle.audit_run.specs.declared.place.Moved.TheVariants as moved
-use Rattle.audit_run.specs.declared.place.Progress.{Progress}
-use Rattle.audit_run.specs.declared.place.Progress.TheVariants as progress
+use Rattle.audit_run.specs.declared.standing.AuditStanding.{AuditStanding}
+use Rattle.audit_run.specs.declared.standing.AuditStanding.TheVariants as audit
+use Rattle.audit_run.specs.declared.standing.EndedGuest.{EndedGuest}
+use Rattle.audit_run.specs.declared.standing.EndedGuest.TheVariants.{Kept, GivenUp}
+use Rattle.audit_run.specs.declared.standing.Moved.{Moved}
+use Rattle.audit_run.specs.declared.standing.Moved.TheVariants as moved
+use Rattle.audit_run.specs.declared.standing.Progress.{Progress}
+use Rattle.audit_run.specs.declared.standing.Progress.TheVariants as progress
 use Rattle.audit_run.specs.Advances.{said_of_answer, StopsAt, Wants}
 
-abbrev pub seen : List Finished → AuditPlace → Option Standing
-seen done place.Ready = None
-seen done (place.Running guest) = Some (On (at done guest))
-seen done (place.Over answer) = Some (Over answer)
+abbrev pub seen : List Finished → AuditStanding → Option Standing
+seen done audit.Ready = None
+seen done (audit.Running guest) = Some (On (at done guest))
+seen done (audit.Over answer) = Some (Over answer)
 
-abbrev pub stands : RecipeContents → List (List ℕ) → List Finished → AuditPlace → Standing
-stands recipe inputs done place.Ready = beginning recipe inputs
-stands recipe inputs done (place.Running guest) = On (at done guest)
-stands recipe inputs done (place.Over answer) = Over answer
+abbrev pub stands : RecipeContents → List (List ℕ) → List Finished → AuditStanding → Standing
+stands recipe inputs done audit.Ready = beginning recipe inputs
+stands recipe inputs done (audit.Running guest) = On (at done guest)
+stands recipe inputs done (audit.Over answer) = Over answer
 
 -- the stages after the present one
 abbrev pub later : RecipeContents → List Finished → List Stage
@@ -46,25 +46,25 @@ Slices recipe inputs done stages old most (Ok step) new =
 Slices recipe inputs done stages old most (Err error) new = StopsAt recipe inputs (On (at done old)) most (at done new)
 
 -- what holds of the parts between two calls: before the first advance no stage is done
-abbrev pub IsPlaceAfter : RecipeContents → List Finished → AuditPlace → Type 0
-IsPlaceAfter recipe done place.Ready = done ≡ []
-IsPlaceAfter recipe done (place.Running guest) = IsStanding recipe (On (at done guest))
-IsPlaceAfter recipe done (place.Over answer) = IsStanding recipe (Over answer)
+abbrev pub IsStandingAfter : RecipeContents → List Finished → AuditStanding → Type 0
+IsStandingAfter recipe done audit.Ready = done ≡ []
+IsStandingAfter recipe done (audit.Running guest) = IsStanding recipe (On (at done guest))
+IsStandingAfter recipe done (audit.Over answer) = IsStanding recipe (Over answer)
 
-pub record IsAtRest (recipe : RecipeContents) (inputs : List (List ℕ)) (done : List Finished) (where_it_is : AuditPlace) : Type 0 where
+pub record IsAtRest (recipe : RecipeContents) (inputs : List (List ℕ)) (done : List Finished) (where_it_is : AuditStanding) : Type 0 where
   pub given : IsInputs recipe inputs
-  pub place : IsPlaceAfter recipe done where_it_is
+  pub standing : IsStandingAfter recipe done where_it_is
 
 -- an audit whose first stage has started, or was refused
-abbrev pub IsStarted : AuditPlace → Type 0
-IsStarted place.Ready = ⊥
-IsStarted (place.Running guest) = Unit {0}
-IsStarted (place.Over answer) = Unit {0}
+abbrev pub IsStarted : AuditStanding → Type 0
+IsStarted audit.Ready = ⊥
+IsStarted (audit.Running guest) = Unit {0}
+IsStarted (audit.Over answer) = Unit {0}
 
 -- what becomes of a guest whose stage is done
-abbrev pub KeepsPlace : EndedGuest → AuditPlace → AuditPlace → Type 0
-KeepsPlace Kept old new = new ≡ old
-KeepsPlace GivenUp old new = Unit {0}
+abbrev pub KeepsStanding : EndedGuest → AuditStanding → AuditStanding → Type 0
+KeepsStanding Kept old new = new ≡ old
+KeepsStanding GivenUp old new = Unit {0}
 
 -- an audit that has started stopped here for want of memory
 abbrev pub StopsIn : RecipeContents → List (List ℕ) → Standing → ℕ → Standing → Type 0
@@ -72,13 +72,13 @@ StopsIn recipe inputs from most (On p) = StopsAt recipe inputs from most p
 StopsIn recipe inputs from most (Over answer) = ⊥
 
 -- what want of memory leaves after fewer steps than were asked for: an audit that stopped there, where guests are kept
-abbrev pub WantsAfter : EndedGuest → RecipeContents → List (List ℕ) → Standing → ℕ → List Finished → AuditPlace → Type 0
+abbrev pub WantsAfter : EndedGuest → RecipeContents → List (List ℕ) → Standing → ℕ → List Finished → AuditStanding → Type 0
 WantsAfter Kept recipe inputs from most done where_it_is =
-    IsStarted where_it_is × IsPlaceAfter recipe done where_it_is × StopsIn recipe inputs from most (stands recipe inputs done where_it_is)
+    IsStarted where_it_is × IsStandingAfter recipe done where_it_is × StopsIn recipe inputs from most (stands recipe inputs done where_it_is)
 WantsAfter GivenUp recipe inputs from most done where_it_is = (p : Position) × StopsAt recipe inputs from most p
 
 -- what is said of an audit that stands here
-abbrev pub SaysOf : AuditPlace → Progress → Type 0
-SaysOf place.Ready said = ⊥
-SaysOf (place.Running guest) said = said ≡ progress.Paused
-SaysOf (place.Over answer) said = said ≡ said_of_answer answer
+abbrev pub SaysOf : AuditStanding → Progress → Type 0
+SaysOf audit.Ready said = ⊥
+SaysOf (audit.Running guest) said = said ≡ progress.Paused
+SaysOf (audit.Over answer) said = said ≡ said_of_answer answer

@@ -44,9 +44,9 @@ pub record IsOf (recipe : RecipeContents) (inputs : List (List ℕ)) (save : Sav
   pub same_recipe : save.recipe ≡ recipe.digest
   pub same_inputs : save.inputs ≡ map digest_of inputs
 
--- what makes a save of a recipe a place in its audit: fewer stages are done than it has, each as a stage of the recipe can be done; and the
+-- what makes what a save of a recipe says a position of its audit: fewer stages are done than it has, each as a stage of the recipe can be done; and the
 -- state is that of a guest, its steps are below the present stage's limit, and its heap may have as many bytes as that stage gives
-pub record IsSavedPlaceIn (recipe : RecipeContents) (save : SaveText) (stage : Stage) (stages : List Stage) : Type 0 where
+pub record IsSavedPositionIn (recipe : RecipeContents) (save : SaveText) (stage : Stage) (stages : List Stage) : Type 0 where
   pub left : todo recipe (done_in save) ≡ stage ∷ stages
   pub done : AreDone recipe (done_in save)
   pub range : IsInRange save.state
@@ -54,8 +54,8 @@ pub record IsSavedPlaceIn (recipe : RecipeContents) (save : SaveText) (stage : S
   pub within : save.state.steps < stage.steps
   pub heap : save.state.heap.limit ≡ stage.heap
 
-abbrev pub IsSavedPlace : RecipeContents → SaveText → Type 0
-IsSavedPlace recipe save = (stage : Stage) × (stages : List Stage) × IsSavedPlaceIn recipe save stage stages
+abbrev pub IsSavedPosition : RecipeContents → SaveText → Type 0
+IsSavedPosition recipe save = (stage : Stage) × (stages : List Stage) × IsSavedPositionIn recipe save stage stages
 
 -- memory is taken for a save of a recipe only where it is taken for its state, and what the numbers of the state say of the present stage is right
 pub record MayStandIn (recipe : RecipeContents) (save : SaveText) (stage : Stage) (stages : List Stage) : Type 0 where
@@ -69,19 +69,19 @@ MayStand recipe save = (stage : Stage) × (stages : List Stage) × MayStandIn re
 
 -- what becomes of what a save of the recipe says
 abbrev pub Stands : RecipeContents → SaveText → Result Position SaveRefusal → Type 0
-Stands recipe save (Ok p) = IsSavedPlace recipe save × (p ≡ position_of save)
-Stands recipe save (Err State) = ¬ (IsSavedPlace recipe save)
+Stands recipe save (Ok p) = IsSavedPosition recipe save × (p ≡ position_of save)
+Stands recipe save (Err State) = ¬ (IsSavedPosition recipe save)
 Stands recipe save (Err OutOfMemory) = MayStand recipe save
 Stands recipe save (Err (Form offset)) = ⊥
 Stands recipe save (Err OtherRecipe) = ⊥
 
--- what becomes of a text: its form is judged first, then whether it is of this recipe and these inputs, then whether it is a place. Want of
+-- what becomes of a text: its form is judged first, then whether it is of this recipe and these inputs, then whether it is a position. Want of
 -- memory comes only where the form holds, the save is of this recipe and these inputs, and memory is taken for it
 abbrev pub Resumes : RecipeContents → List (List ℕ) → List ℕ → Result Position SaveRefusal → Type 0
-Resumes recipe inputs text (Ok p) = (save : SaveText) × (parsed_save text ≡ Ok save) × IsOf recipe inputs save × IsSavedPlace recipe save × (p ≡ position_of save)
+Resumes recipe inputs text (Ok p) = (save : SaveText) × (parsed_save text ≡ Ok save) × IsOf recipe inputs save × IsSavedPosition recipe save × (p ≡ position_of save)
 Resumes recipe inputs text (Err (Form offset)) = parsed_save text ≡ Err offset
 Resumes recipe inputs text (Err OtherRecipe) = (save : SaveText) × (parsed_save text ≡ Ok save) × ¬ (IsOf recipe inputs save)
-Resumes recipe inputs text (Err State) = (save : SaveText) × (parsed_save text ≡ Ok save) × IsOf recipe inputs save × ¬ (IsSavedPlace recipe save)
+Resumes recipe inputs text (Err State) = (save : SaveText) × (parsed_save text ≡ Ok save) × IsOf recipe inputs save × ¬ (IsSavedPosition recipe save)
 Resumes recipe inputs text (Err OutOfMemory) = (save : SaveText) × (parsed_save text ≡ Ok save) × IsOf recipe inputs save × MayStand recipe save
 
 -- the answer to a text: what the rules allow of it where memory is not wanting, of which there is exactly one

@@ -1,4 +1,4 @@
-//! The place in an audit that a text says relative to its base.
+//! The position that a text says relative to its base.
 
 ghost use Rattle.std.specs.Prelude.{◌≡◌, IfOk, Ok};
 ghost use Rattle.audit_run.specs.Delta.Deltas.{base_digest, GoesOnRelative, HasDelta, IsBaseAt, IsResumedRelativeAs, ResumesRelative, delta_refusal_number, delta_text_of};
@@ -12,7 +12,7 @@ ghost use Rattle.audit_rules.specs.Positions.{Position};
 ghost use Rattle.audit_rules.specs.Valid.{IsInputs, IsPosition};
 
 use crate::delta::base::{digest_of, known_of};
-use crate::save::{Resumed, SaveRefusal, place_of};
+use crate::save::{Resumed, SaveRefusal, position_of};
 use ddc_base::digests::Digest;
 use ddc_base::{Bytes, OutOfMemory};
 use recipe::Recipe;
@@ -30,7 +30,7 @@ pub enum DeltaRefusal {
     Form(u64),
     /// It is a delta against another base.
     OtherBase,
-    /// It says no place in the recipe's audit.
+    /// It says no position of the recipe's audit.
     State,
     OutOfMemory,
 }
@@ -69,10 +69,11 @@ pub fn read(
     text: &[u8],
 ) -> Result<Resumed, DeltaRefusal>
     requires { IsInputs recipe.now inputs.now }
-    // What is read is a place in the audit, and this is its delta against the place of the base.
-    ensures place { IfOk result (λ p. IsPosition recipe.now p) }
+    // What is read is a position of the audit, and this is its delta against the position of the base.
+    ensures position { IfOk result (λ p. IsPosition recipe.now p) }
     ensures found { IfOk result (λ p. HasDelta recipe.now inputs.now base.now text.now p) }
-    // The delta of every place in the audit against every other one is read as that place beside each save of its base, unless memory runs out.
+    // The delta of every position of the audit against every other one is read as that position beside each save of its base, unless memory runs
+    // out.
     ensures only { (b : Position) (p : Position) → IsBaseAt recipe.now inputs.now b base.now → IsPosition recipe.now p
         → text.now ≡ delta_text_of recipe.now inputs.now b p → IsResumedRelativeAs p result }
     // When each refusal comes.
@@ -81,6 +82,7 @@ pub fn read(
     judged(alloc, recipe, inputs, base, text)
 }
 
+/// Judges a base, and then a text relative to it. A step of its own, so that its further clauses are proved once.
 fn judged(
     alloc: Global,
     recipe: &Recipe,
@@ -112,7 +114,7 @@ fn judge_base(
     ensures { JudgesBase recipe.now inputs.now base.now result }
 {
     match crate::save::read(alloc, recipe, inputs, base) {
-        Ok(_place) => Ok(()),
+        Ok(_position) => Ok(()),
         Err(SaveRefusal::Form(offset)) => Err(DeltaRefusal::Base(SaveRefusal::Form(offset))),
         Err(SaveRefusal::OtherRecipe) => Err(DeltaRefusal::Base(SaveRefusal::OtherRecipe)),
         Err(SaveRefusal::State) => Err(DeltaRefusal::Base(SaveRefusal::State)),
@@ -120,7 +122,7 @@ fn judge_base(
     }
 }
 
-/// The place that a text says beside what a base of this digest says. Want of memory hides neither that it names another base, nor its form.
+/// The position that a text says beside what a base of this digest says. Want of memory hides neither that it names another base, nor its form.
 fn relative<'a>(
     alloc: Global,
     recipe: &Recipe,
@@ -146,8 +148,8 @@ fn relative<'a>(
         state,
         base: _,
     } = parts;
-    match place_of(alloc, recipe, done, &state) {
-        Ok(place) => Ok(place),
+    match position_of(alloc, recipe, done, &state) {
+        Ok(position) => Ok(position),
         Err(SaveRefusal::Form(_)) => unreachable!(),
         Err(SaveRefusal::OtherRecipe) => unreachable!(),
         Err(SaveRefusal::State) => Err(DeltaRefusal::State),

@@ -1,8 +1,8 @@
 //! Laws of saves. Each law is the contract of a function that does nothing.
 
-ghost use Rattle.audit_run.specs.Save.Inside.Tests.{is_of, is_place};
+ghost use Rattle.audit_run.specs.Save.Inside.Tests.{is_of, is_saved_position};
 ghost use Rattle.audit_run.specs.Save.Judged.{judged};
-ghost use Rattle.audit_run.specs.Save.Saves.{SaveAnswer, IsOf, IsSavedPlace, Resumes, save_of};
+ghost use Rattle.audit_run.specs.Save.Saves.{SaveAnswer, IsOf, IsSavedPosition, Resumes, save_of};
 ghost use Rattle.recipe.specs.Kept.{IsRecipe};
 ghost use Rattle.recipe.specs.declared.contents.RecipeContents.{RecipeContents};
 ghost use Rattle.save_format.specs.SaveText.{SaveText};
@@ -24,7 +24,7 @@ pub fn every_text_has_one_answer()
 /// The tests by which a text is judged are the rules of saves.
 pub fn the_tests_are_the_rules()
     ensures of { (recipe : RecipeContents) (inputs : List (List ℕ)) (save : SaveText) → IsTrue (is_of recipe inputs save) ↔ IsOf recipe inputs save }
-    ensures place { (recipe : RecipeContents) (save : SaveText) → IsTrue (is_place recipe save) ↔ IsSavedPlace recipe save }
+    ensures position { (recipe : RecipeContents) (save : SaveText) → IsTrue (is_saved_position recipe save) ↔ IsSavedPosition recipe save }
 {}
 
 /// The texts of the save of every position have fewer than 4,294,967,296 bytes.

@@ -1,4 +1,4 @@
-//! The place in an audit that a text says.
+//! The position that a text says.
 
 ghost use Rattle.std.specs.Prelude.{◌≡◌, ◌↔◌, All, Err, IfOk, IsOk, IsTrue, List, length, map};
 ghost use Rattle.audit_run.specs.Save.Saves.{IsResumedAs, MayStand, Resumes, Stands, digest_of, finished_of, save_of, save_refusal_number};
@@ -37,7 +37,7 @@ pub enum SaveRefusal {
     Form(u64),
     /// It is of another recipe, or of other inputs.
     OtherRecipe,
-    /// It says no place in the recipe's audit.
+    /// It says no position of the recipe's audit.
     State,
     OutOfMemory,
 }
@@ -102,10 +102,10 @@ pub fn read(
     text: &[u8],
 ) -> Result<Resumed, SaveRefusal>
     requires { IsInputs recipe.now inputs.now }
-    // What is read is a place in the audit, and this is a text of its save.
-    ensures place { IfOk result (λ p. IsPosition recipe.now p) }
+    // What is read is a position of the audit, and this is a text of its save.
+    ensures position { IfOk result (λ p. IsPosition recipe.now p) }
     ensures found { IfOk result (λ p. IsTextOfSave (save_of recipe.now inputs.now p) text.now) }
-    // Each text of the save of every place in the audit, reached or not, is read as that place, unless memory runs out.
+    // Each text of the save of every position of the audit, reached or not, is read as that position, unless memory runs out.
     ensures only { (p : Position) → IsPosition recipe.now p → IsTextOfSave (save_of recipe.now inputs.now p) text.now → IsResumedAs p result }
     // When each refusal comes.
     ensures exact { Resumes recipe.now inputs.now text.now result }
@@ -113,6 +113,7 @@ pub fn read(
     judged(alloc, recipe, inputs, text)
 }
 
+/// Judges a text as a save. A step of its own, so that its further clauses are proved once.
 fn judged(
     alloc: Global,
     recipe: &Recipe,
@@ -138,7 +139,7 @@ fn judged(
         recipe: _,
         inputs: _,
     } = parts;
-    place_of(alloc, recipe, done, &state)
+    position_of(alloc, recipe, done, &state)
 }
 
 /// Why a text of the form is not resumed, where memory was wanting for the lists of its parts.
@@ -201,8 +202,8 @@ pub(crate) fn is_digest_of(part: &InputPart, input: &Bytes) -> bool
     part.digest == digest(input.as_slice())
 }
 
-/// The place in a recipe's audit that a save says, by the stages that are done and the present guest's state, which may stand relative to a base's.
-pub(crate) fn place_of(
+/// The position that a save says, by the stages that are done and the present guest's state, which may stand relative to a base's.
+pub(crate) fn position_of(
     alloc: Global,
     recipe: &Recipe,
     parts: Vec<StagePart>,

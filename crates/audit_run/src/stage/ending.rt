@@ -19,7 +19,14 @@ use recipe::{Output, Stage};
 use report::Mark;
 use std::alloc::Global;
 
-/// What a stage's run comes to whose program exited with a status at a step, counted from 1.
+/// How a program exited: its status, and the step, counted from 1.
+#[derive(Clone, Copy)]
+pub(crate) struct Exit {
+    pub(crate) status: u8,
+    pub(crate) step: u64,
+}
+
+/// What a stage's run comes to whose program exited.
 ///
 /// Want of memory comes only where an artefact was made, which is checked then and kept.
 pub(crate) fn exited(
@@ -27,16 +34,16 @@ pub(crate) fn exited(
     so_far: &SoFar<'_>,
     stage: &Stage,
     files: &Files,
-    status: u8,
-    step: u64,
+    exit: Exit,
 ) -> Result<Result<Done, StageFault>, OutOfMemory>
     requires recipe { kept.IsRecipe so_far.now.recipe.now }
     requires stage { IsStageOf so_far.now.recipe.now stage.now }
     requires small { artefact_bytes so_far.now.done.now ≤ 1_073_741_824 }
     ensures answer { IfOk result (λ r. r
-        ≡ exited_with so_far.now.recipe.now so_far.now.inputs.now so_far.now.done.now stage.now status step files.now) }
-    ensures want { OnErr result (Makes stage.now so_far.now.done.now status files.now) }
+        ≡ exited_with so_far.now.recipe.now so_far.now.inputs.now so_far.now.done.now stage.now exit.status exit.step files.now) }
+    ensures want { OnErr result (Makes stage.now so_far.now.done.now exit.status files.now) }
 {
+    let Exit { status, step } = exit;
     if status != 0 {
         return Ok(Err(StageFault::Runs(RunCause::Status(status), step)));
     }

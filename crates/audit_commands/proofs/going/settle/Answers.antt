@@ -7,7 +7,7 @@ returns-in-Some g c = λ stands text is keeps.
 
 pub returns-in-None : goal.returns-in-None
 returns-in-None g c = λ stands text is keeps.
-    pauses c.args.audit.now.stands _ text c.args.piece.now.save c.args.piece.now.report _ _ _ stands is c.in-None.ensures.answer (λ p on. c.keep_place.ensures p text on keeps)
+    pauses c.args.audit.now.stands _ text c.args.piece.now.save c.args.piece.now.report _ _ _ stands is c.in-None.ensures.answer (λ p on. c.keep_position.ensures p text on keeps)
 
-pub keep_place-requires-clause-on : goal.keep_place-requires-clause-on
-keep_place-requires-clause-on g c = is_on c.args.audit.now.stands c.requires.stands.0 c.requires.stands.1 c.in-None.ensures.answer
+pub keep_position-requires-clause-on : goal.keep_position-requires-clause-on
+keep_position-requires-clause-on g c = is_on c.args.audit.now.stands c.requires.stands.0 c.requires.stands.1 c.in-None.ensures.answer

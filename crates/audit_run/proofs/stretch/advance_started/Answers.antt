@@ -14,7 +14,7 @@ loop-left-preserved c = (
   c.in_ok-left.ensures.started,
   c.in_ok-left.ensures.stands,
   c.in_ok-left.ensures.ok
-      ∙ ap (λ from. forward_from c.args.recipe.now c.args.inputs.now from c.in_ok-left.field-0) c.loop-left.invariant.3
+      ∙ ap (λ from. forward_from c.args.conduct.now.recipe.now c.args.conduct.now.inputs.now from c.in_ok-left.field-0) c.loop-left.invariant.3
       ∙ forward_from-sum _ _ _ (c.args.most - c.loop-left.left) c.in_ok-left.field-0 (c.args.most - (c.loop-left.left - c.in_ok-left.field-0))
       (omega (arith, c.loop-left.invariant.0, c.in_ok-left.ensures.most)),
 )
@@ -23,5 +23,5 @@ pub returns-in_err-left-clause-err : goal.returns-in_err-left-clause-err
 returns-in_err-left-clause-err c =
     let p = err_from_is_err_and c.from_residual.result c.from_residual.ensures.1 in
     rw (p.1) (
-    wants-later c.args.ended _ _ _ _ _ _ (c.args.most - c.loop-left.left) c.args.most c.loop-left.left c.loop-left.invariant.3 (omega (arith, c.loop-left.invariant.0))
+    wants-later c.args.conduct.now.ended _ _ _ _ _ _ (c.args.most - c.loop-left.left) c.args.most c.loop-left.left c.loop-left.invariant.3 (omega (arith, c.loop-left.invariant.0))
     c.in_err-left.ensures.err)

@@ -70,11 +70,11 @@ unfoldable pub is_of : RecipeContents → List (List ℕ) → SaveText → Bool
 is_of recipe inputs save = same_digest save.recipe recipe.digest && same_digests save.inputs (map digest_of inputs)
 
 -- where these stages are left
-abbrev pub is_place_before : RecipeContents → SaveText → List Stage → Bool
-is_place_before recipe save [] = false
-is_place_before recipe save (stage ∷ stages) =
+abbrev pub is_saved_position_before : RecipeContents → SaveText → List Stage → Bool
+is_saved_position_before recipe save [] = false
+is_saved_position_before recipe save (stage ∷ stages) =
     are_done recipe (done_in save)
     && (is_in_range save.state && (is_joined save.state && (nat_lt save.state.steps stage.steps && save.state.heap.limit == stage.heap)))
 
-unfoldable pub is_place : RecipeContents → SaveText → Bool
-is_place recipe save = is_place_before recipe save (todo recipe (done_in save))
+unfoldable pub is_saved_position : RecipeContents → SaveText → Bool
+is_saved_position recipe save = is_saved_position_before recipe save (todo recipe (done_in save))

@@ -5,15 +5,15 @@ use Rattle.audit_run.proofs.audit.Audit.resume.Goals as goal
 
 pub returns-clause-found : goal.returns-clause-found
 returns-clause-found c = (
-  c.in_ok-place.place,
-  c.standing.ensures,
-  c.in_ok-place.ensures.place,
-  subst (λ (inputs : List (List ℕ)). IsTextOfSave (save_of c.args.recipe inputs c.in_ok-place.place) c.args.text.now) c.as_slice.ensures c.in_ok-place.ensures.found,
+  c.in_ok-position.position,
+  c.standing_at.ensures,
+  c.in_ok-position.ensures.position,
+  subst (λ (inputs : List (List ℕ)). IsTextOfSave (save_of c.args.recipe inputs c.in_ok-position.position) c.args.text.now) c.as_slice.ensures c.in_ok-position.ensures.found,
 )
 
 pub returns-clause-exact : goal.returns-clause-exact
 returns-clause-exact c = (
-  c.in_ok-place.place,
-  c.standing.ensures,
-  subst (λ (inputs : List (List ℕ)). Resumes c.args.recipe inputs c.args.text.now (Ok c.in_ok-place.place)) c.as_slice.ensures c.in_ok-place.ensures.exact,
+  c.in_ok-position.position,
+  c.standing_at.ensures,
+  subst (λ (inputs : List (List ℕ)). Resumes c.args.recipe inputs c.args.text.now (Ok c.in_ok-position.position)) c.as_slice.ensures c.in_ok-position.ensures.exact,
 )

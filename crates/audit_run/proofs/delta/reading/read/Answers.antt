@@ -1,10 +1,10 @@
 use Rattle.std.proofs.Common.{arith}
-use Rattle.audit_run.proofs.DeltaLemmas.Exactly.{is_found, is_only, is_place}
+use Rattle.audit_run.proofs.DeltaLemmas.Exactly.{is_found, is_only, is_position}
 use Rattle.audit_run.proofs.delta.reading.read.Goals as goal
 
-pub returns-clause-place : goal.returns-clause-place
-returns-clause-place c =
-    is_place c.args.recipe.now c.args.inputs.now c.args.base.now c.args.text.now c.judged.result c.judged.ensures.valid c.judged.ensures.resumes
+pub returns-clause-position : goal.returns-clause-position
+returns-clause-position c =
+    is_position c.args.recipe.now c.args.inputs.now c.args.base.now c.args.text.now c.judged.result c.judged.ensures.valid c.judged.ensures.resumes
 
 pub returns-clause-found : goal.returns-clause-found
 returns-clause-found c =

@@ -4,12 +4,12 @@ use Rattle.save_format.specs.DeltaText.Front.{is_of_other_base}
 use Rattle.save_format.specs.DeltaText.Seen.{delta_view}
 use Rattle.save_format.specs.Seen.{input_view, save_view}
 use Rattle.audit_run.specs.Delta.Deltas.{save_relative}
-use Rattle.audit_run.proofs.DeltaLemmas.Judging.{no_form, no_other, no_place}
+use Rattle.audit_run.proofs.DeltaLemmas.Judging.{no_form, no_other, no_position}
 use Rattle.audit_run.proofs.delta.reading.relative.Goals as goal
 
-pub returns-in-Ok-place_of-clause-goes : goal.returns-in-Ok-place_of-clause-goes
-returns-in-Ok-place_of-clause-goes c =
-    let stands = c.in-Ok-place_of.ensures.stands c.args.known.recipe (map input_view c.args.known.inputs.items) in (
+pub returns-in-Ok-position_of-clause-goes : goal.returns-in-Ok-position_of-clause-goes
+returns-in-Ok-position_of-clause-goes c =
+    let stands = c.in-Ok-position_of.ensures.stands c.args.known.recipe (map input_view c.args.known.inputs.items) in (
       λ other.
           let none : false ≡ true = c.if-names_other_base.ensures ∙ ap (λ (digest : Digest). is_of_other_base digest c.args.text.now) c.requires.named ∙ other in
           absurd cc,
@@ -21,8 +21,8 @@ returns-in-Ok-place_of-clause-goes c =
 
 pub unreachable-requires : goal.unreachable-requires
 unreachable-requires c =
-    no_form c.args.recipe.now (save_relative (save_view c.args.known) (delta_view c.in-Ok.parts)) c.in-Err-Form-place_of.field-0 c.in-Err-Form-place_of.field-0-0 c.in-Err-Form-place_of.field-0-is
-    (c.in-Err-Form-place_of.ensures.stands c.args.known.recipe (map input_view c.args.known.inputs.items))
+    no_form c.args.recipe.now (save_relative (save_view c.args.known) (delta_view c.in-Ok.parts)) c.in-Err-Form-position_of.field-0 c.in-Err-Form-position_of.field-0-0 c.in-Err-Form-position_of.field-0-is
+    (c.in-Err-Form-position_of.ensures.stands c.args.known.recipe (map input_view c.args.known.inputs.items))
 
 pub unreachable-requires-in-Err-OtherRecipe : goal.unreachable-requires-in-Err-OtherRecipe
 unreachable-requires-in-Err-OtherRecipe c =
@@ -36,6 +36,6 @@ returns-in-Err-State-clause-goes c = (
       absurd cc,
   delta_view c.in-Ok.parts,
   c.in-Ok.ensures.exact,
-  no_place c.args.recipe.now (save_relative (save_view c.args.known) (delta_view c.in-Ok.parts)) c.in-Err-State.field-0 c.in-Err-State.field-0-is
+  no_position c.args.recipe.now (save_relative (save_view c.args.known) (delta_view c.in-Ok.parts)) c.in-Err-State.field-0 c.in-Err-State.field-0-is
       (c.in-Err-State.ensures.stands c.args.known.recipe (map input_view c.args.known.inputs.items)),
 )

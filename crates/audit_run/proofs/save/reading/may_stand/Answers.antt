@@ -3,7 +3,7 @@ use Rattle.std.proofs.lemmas.List.{length-map}
 use Rattle.audit_rules.specs.declared.answer.Finished.{Finished}
 use Rattle.audit_rules.specs.Positions.{todo}
 use Rattle.audit_run.specs.Save.Saves.{finished_of}
-use Rattle.audit_run.proofs.SaveLemmas.Placed.{present}
+use Rattle.audit_run.proofs.SaveLemmas.PositionSaid.{present}
 use Rattle.audit_run.proofs.save.reading.may_stand.Goals as goal
 
 pub returns : goal.returns

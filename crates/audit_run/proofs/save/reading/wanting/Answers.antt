@@ -1,7 +1,7 @@
 use Rattle.std.proofs.Common.{◌≡◌, ◌∙◌, false, sym, true}
 use Rattle.save_format.specs.SaveText.{parsed_save}
 use Rattle.audit_run.proofs.SaveLemmas.Origins.{wanted}
-use Rattle.audit_run.proofs.SaveLemmas.Placed.{place_may_stand}
+use Rattle.audit_run.proofs.SaveLemmas.PositionSaid.{position_may_stand}
 use Rattle.audit_run.proofs.save.reading.wanting.Goals as goal
 
 pub returns-then-may_stand : goal.returns-then-may_stand
@@ -17,7 +17,7 @@ returns-else-may_stand c =
       said.0,
       said.1,
       (c.is_text_of.ensures said.0 said.1).0 c.if-not-is_text_of.false,
-      λ place.
-          let is : true ≡ false = sym ((c.may_stand.ensures said.0 front.stages front.state).1 (place_may_stand c.args.recipe.now said.0 place)) ∙ c.if-may_stand.false in
+      λ position.
+          let is : true ≡ false = sym ((c.may_stand.ensures said.0 front.stages front.state).1 (position_may_stand c.args.recipe.now said.0 position)) ∙ c.if-may_stand.false in
           cc,
     )

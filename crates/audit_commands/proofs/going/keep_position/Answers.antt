@@ -5,7 +5,7 @@ use Rattle.command_plan.proofs.Performing.{wants_memory}
 use Rattle.recipe_plan.specs.NotDone.{stage_name}
 use Rattle.audit_commands.specs.PauseTexts.{paused_line}
 use Rattle.audit_commands.proofs.Coming.{sets_kept}
-use Rattle.audit_commands.proofs.going.keep_place.Goals as goal
+use Rattle.audit_commands.proofs.going.keep_position.Goals as goal
 
 pub returns-in_err-text : goal.returns-in_err-text
 returns-in_err-text g c = λ p text on keeps.

@@ -5,17 +5,17 @@ use Rattle.save_format.specs.Seen.{stage_view}
 use Rattle.audit_rules.specs.Positions.{at}
 use Rattle.audit_rules.specs.Valid.{AreDone}
 use Rattle.audit_run.specs.Save.Saves.{MayStand, finished_of}
-use Rattle.audit_run.proofs.SaveLemmas.Placed.{IsOrdered, each_ordered, place_may_stand, said_by, twice}
-use Rattle.audit_run.proofs.save.reading.place_of.Goals as goal
+use Rattle.audit_run.proofs.SaveLemmas.PositionSaid.{IsOrdered, each_ordered, position_may_stand, said_by, twice}
+use Rattle.audit_run.proofs.save.reading.position_of.Goals as goal
 
 pub are_done-requires : goal.are_done-requires
 are_done-requires c = subst (All IsOrdered) (sym (c.as_slice-2.ensures.value ∙ c.in_ok-done.ensures)) (each_ordered c.args.parts.items c.requires.stages)
 
 pub returns-then-not-may_stand-clause-stands : goal.returns-then-not-may_stand-clause-stands
-returns-then-not-may_stand-clause-stands c = λ digest inputs place.
+returns-then-not-may_stand-clause-stands c = λ digest inputs position.
     let save = said_by c.args.parts.items c.args.state.now digest inputs in
     let many = ap length c.as_slice.ensures.value ∙ sym (length-map c.args.parts.items stage_view) in
-    let no : false ≡ true = (c.if-not-may_stand.ensures save many c.front_in-front.ensures).1 (place_may_stand c.args.recipe.now save place) in
+    let no : false ≡ true = (c.if-not-may_stand.ensures save many c.front_in-front.ensures).1 (position_may_stand c.args.recipe.now save position) in
     cc
 
 pub returns-in_err-done-clause-stands : goal.returns-in_err-done-clause-stands
@@ -25,9 +25,9 @@ returns-in_err-done-clause-stands c = λ digest inputs.
     rw (p.1, p.2) ((c.if-not-may_stand.ensures (said_by c.args.parts.items c.args.state.now digest inputs) many c.front_in-front.ensures).0 refl)
 
 pub returns-then-not-are_done-clause-stands : goal.returns-then-not-are_done-clause-stands
-returns-then-not-are_done-clause-stands c = λ digest inputs place.
+returns-then-not-are_done-clause-stands c = λ digest inputs position.
     let same : c.as_slice-2.result.now ≡ map finished_of (map stage_view c.args.parts.items) = c.as_slice-2.ensures.value ∙ c.in_ok-done.ensures ∙ twice c.args.parts.items in
-    let no : false ≡ true = c.if-not-are_done.ensures.1 (subst (AreDone c.args.recipe.now) (sym same) place.2.done) in
+    let no : false ≡ true = c.if-not-are_done.ensures.1 (subst (AreDone c.args.recipe.now) (sym same) position.2.done) in
     cc
 
 pub returns-in-Ok-clause-stands : goal.returns-in-Ok-clause-stands

@@ -1,4 +1,4 @@
--- The place that a save's parts say.
+-- The position that a save's parts say.
 use Rattle.std.proofs.Common.{◌≡◌, ℕ, zero, suc, ◌+◌, ◌<◌, true, None, List, [], ◌∷◌, length, map, drop, get_or, All, refl, sym, ap, subst, ◌∙◌, arith}
 use Rattle.std.specs.Prelude.{nat_lt as ltb}
 use Rattle.std.proofs.lemmas.Bool.{ltb-true}
@@ -16,7 +16,7 @@ use Rattle.save_format.specs.declared.state_text.parts.StateParts.{StateParts}
 use Rattle.audit_rules.specs.declared.answer.Finished.{Finished}
 use Rattle.audit_rules.specs.Positions.{todo}
 use Rattle.checkpoints.proofs.Refused.{front_made}
-use Rattle.audit_run.specs.Save.Saves.{IsSavedPlace, MayStand, finished_of}
+use Rattle.audit_run.specs.Save.Saves.{IsSavedPosition, MayStand, finished_of}
 
 -- the names of each stage's left files are in order
 abbrev pub IsOrdered : Finished → Type 0
@@ -56,7 +56,7 @@ present recipe items count done fs stage same counted are inside there =
 abbrev pub said_by : List StagePart → StateParts → Digest → List Digest → SaveText
 said_by parts state recipe inputs = record { recipe = recipe; inputs = inputs; stages = map stage_view parts; state = state_view state }
 
--- for a place memory is taken
-pub place_may_stand : (recipe : RecipeContents) (save : SaveText) → IsSavedPlace recipe save → MayStand recipe save
-place_may_stand recipe save (stage, stages, place) =
-    (stage, stages, record { left = place.left; within = place.within; heap = place.heap; state = front_made save.state place.range })
+-- for a saved position memory is taken
+pub position_may_stand : (recipe : RecipeContents) (save : SaveText) → IsSavedPosition recipe save → MayStand recipe save
+position_may_stand recipe save (stage, stages, position) =
+    (stage, stages, record { left = position.left; within = position.within; heap = position.heap; state = front_made save.state position.range })

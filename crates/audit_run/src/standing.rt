@@ -11,12 +11,12 @@ use guest_run::{Guest, RunRam};
 #[derive(Drop)]
 pub(crate) struct Course {
     pub(crate) done: Vec<Done>,
-    pub(crate) place: AuditPlace,
+    pub(crate) standing: AuditStanding,
 }
 
 /// Where an audit stands.
 #[derive(Drop)]
-pub(crate) enum AuditPlace {
+pub(crate) enum AuditStanding {
     /// No advance was made: the first stage has not started.
     Ready,
     /// A stage runs.
@@ -25,9 +25,9 @@ pub(crate) enum AuditPlace {
     Over(AuditAnswer),
 }
 
-impl AuditPlace {
+impl AuditStanding {
     /// The audit goes on to stand there.
-    pub(crate) fn set(&mut self, next: AuditPlace)
+    pub(crate) fn set(&mut self, next: AuditStanding)
         ensures { self.new ≡ next }
     {
         *self = next;
