@@ -12,6 +12,7 @@ use Rattle.guest_run.proofs.Endings.{end-counted}
 use Rattle.guest_run.proofs.RunLaws.{first_end-at}
 use Rattle.segments.specs.Segments.{AreTwoStates, DiffersAt, EndsBetween, IsLater, IsSegment, IsStateOf, second_text}
 use Rattle.segments.specs.Inside.Recorded.{Records}
+use Rattle.segments.specs.declared.reading.Recorded.{Recorded}
 
 -- two valid states with one text are one
 pub one_text : (a b : GuestState) → IsValid a → IsValid b → a.steps < 2 ^ 64 → b.steps < 2 ^ 64 → second_text a ≡ second_text b → a ≡ b
@@ -23,18 +24,18 @@ one_text a b fit fits few less same =
     sym (same_guest a fit) ∙ ap guest_of said ∙ same_guest b fits
 
 -- two texts, the latter later by so many steps
-pub record Apart (from to own : List ℕ) (first : GuestState) (steps count : ℕ) : Type 0 where
+pub record Apart (from to : List ℕ) (first : GuestState) (recorded : Recorded) (count : ℕ) : Type 0 where
   pub here : IsStateOf from first
-  pub there : Records to steps own
-  pub later : first.steps < steps
+  pub there : Records to recorded
+  pub later : first.steps < recorded.steps
   pub near : count ≤ 2 ^ 48
-  pub count_is : count ≡ steps - first.steps
+  pub count_is : count ≡ recorded.steps - first.steps
 
-abbrev pub states_of : (from to own : List ℕ) (first : GuestState) (steps : ℕ) → IsStateOf from first → Records to steps own → AreTwoStates from to
-states_of from to own first steps here there = record { first = first; last = there.guest; from_is = here; to_is = there.is }
+abbrev pub states_of : (from to : List ℕ) (first : GuestState) (recorded : Recorded) → IsStateOf from first → Records to recorded → AreTwoStates from to
+states_of from to first recorded here there = record { first = first; last = there.guest; from_is = here; to_is = there.is }
 
-later_of : (from to own : List ℕ) (first : GuestState) (steps count : ℕ) → Apart from to own first steps count → IsLater from to
-later_of from to own first steps count apart = record {
+later_of : (from to : List ℕ) (first : GuestState) (recorded : Recorded) (count : ℕ) → Apart from to first recorded count → IsLater from to
+later_of from to first recorded count apart = record {
   states = record { first = first; last = apart.there.guest; from_is = apart.here; to_is = apart.there.is };
   later = omega (arith, apart.later, apart.there.counted);
   near = omega (arith, apart.near, apart.count_is, apart.there.counted);
@@ -47,28 +48,28 @@ ended_before first guest count end is =
     let counted = end-counted first guest at.0 end at.2 in
     omega (arith, counted, at.1)
 
-pub ends_between : (from to own : List ℕ) (first guest : GuestState) (steps count : ℕ) (end : End) → Apart from to own first steps count
+pub ends_between : (from to : List ℕ) (first guest : GuestState) (recorded : Recorded) (count : ℕ) (end : End) → Apart from to first recorded count
     → first_end first count ≡ Some (end, guest) → EndsBetween from to (guest.steps + 1)
 unfolding later_of
-ends_between from to own first guest steps count end apart is =
+ends_between from to first guest recorded count end apart is =
     let same : apart.there.guest.steps - first.steps ≡ count = omega (arith, apart.count_is, apart.there.counted) in
-    record { at = later_of from to own first steps count apart; end = end; guest = guest; ends = ap (first_end first) same ∙ is; step_is = refl }
+    record { at = later_of from to first recorded count apart; end = end; guest = guest; ends = ap (first_end first) same ∙ is; step_is = refl }
 
-pub differs_at : (from to own : List ℕ) (first guest : GuestState) (steps count offset : ℕ) → Apart from to own first steps count
-    → after first count ≡ Some guest → Some offset ≡ first_difference (second_text guest) own → DiffersAt from to offset
+pub differs_at : (from to : List ℕ) (first guest : GuestState) (recorded : Recorded) (count offset : ℕ) → Apart from to first recorded count
+    → after first count ≡ Some guest → Some offset ≡ first_difference (second_text guest) recorded.text → DiffersAt from to offset
 unfolding later_of
-differs_at from to own first guest steps count offset apart reached differs =
+differs_at from to first guest recorded count offset apart reached differs =
     let same : apart.there.guest.steps - first.steps ≡ count = omega (arith, apart.count_is, apart.there.counted) in
     record {
-      at = later_of from to own first steps count apart;
+      at = later_of from to first recorded count apart;
       guest = guest;
       reached = ap (after first) same ∙ reached;
       differs = ap (first_difference (second_text guest)) (sym apart.there.written) ∙ sym differs;
     }
 
-pub is_segment : (from to own : List ℕ) (first guest : GuestState) (steps count : ℕ) → Apart from to own first steps count
-    → after first count ≡ Some guest → own ≡ second_text guest → IsValid guest → guest.steps < 2 ^ 64 → IsSegment from to count
-is_segment from to own first guest steps count apart reached text valid small =
+pub is_segment : (from to : List ℕ) (first guest : GuestState) (recorded : Recorded) (count : ℕ) → Apart from to first recorded count
+    → after first count ≡ Some guest → recorded.text ≡ second_text guest → IsValid guest → guest.steps < 2 ^ 64 → IsSegment from to count
+is_segment from to first guest recorded count apart reached text valid small =
     let same : apart.there.guest ≡ guest = one_text apart.there.guest guest apart.there.valid valid apart.there.small small (sym apart.there.written ∙ text) in
     let counted : apart.there.guest.steps ≡ first.steps + count = omega (arith, apart.count_is, apart.there.counted, apart.later) in
     record {
@@ -78,18 +79,18 @@ is_segment from to own first guest steps count apart reached text valid small =
     }
 
 -- where the run of a piece begins: the former guest has taken so many steps, and the latter more, but not too many
-pub apart_by : (from to own : List ℕ) (first : GuestState) (steps counted : ℕ) → IsStateOf from first → Records to steps own → counted ≡ first.steps → counted < steps
-    → steps - counted ≤ 2 ^ 48 → Apart from to own first steps (steps - counted)
-apart_by from to own first steps counted here there is later near = record {
+pub apart_by : (from to : List ℕ) (first : GuestState) (recorded : Recorded) (counted : ℕ) → IsStateOf from first → Records to recorded → counted ≡ first.steps → counted < recorded.steps
+    → recorded.steps - counted ≤ 2 ^ 48 → Apart from to first recorded (recorded.steps - counted)
+apart_by from to first recorded counted here there is later near = record {
   here = here;
   there = there;
   later = omega (arith, is, later);
   near = near;
-  count_is = ap (λ n. steps - n) is;
+  count_is = ap (λ n. recorded.steps - n) is;
 }
 
 -- the step after those that the last guest has taken, as the code counts it
-pub ends_here : (from to own : List ℕ) (first guest : GuestState) (steps count number : ℕ) (end : End) → Apart from to own first steps count → number ≡ guest.steps
+pub ends_here : (from to : List ℕ) (first guest : GuestState) (recorded : Recorded) (count number : ℕ) (end : End) → Apart from to first recorded count → number ≡ guest.steps
     → first_end first count ≡ Some (end, guest) → EndsBetween from to (number + 1)
-ends_here from to own first guest steps count number end apart is ends =
-    subst (λ n. EndsBetween from to (n + 1)) (sym is) (ends_between from to own first guest steps count end apart ends)
+ends_here from to first guest recorded count number end apart is ends =
+    subst (λ n. EndsBetween from to (n + 1)) (sym is) (ends_between from to first guest recorded count end apart ends)

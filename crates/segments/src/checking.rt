@@ -1,6 +1,6 @@
 //! Two texts, and the first one.
 
-ghost use Rattle.std.specs.Prelude.{◌≡◌, ℕ, ◌<◌, ◌^◌, IfOk, None, Ok};
+ghost use Rattle.std.specs.Prelude.{◌≡◌, ◌<◌, ◌^◌, IfOk, None, Ok};
 ghost use Rattle.ddc_base.specs.Difference.{first_difference};
 ghost use Rattle.guest_run.specs.Start.{start_of};
 ghost use Rattle.guest_run.specs.Valid.{IsValid};
@@ -8,7 +8,7 @@ ghost use Rattle.segments.specs.Inside.Recorded.{Records};
 ghost use Rattle.segments.specs.Segments.{ChecksPiece, IsStateOf, StartChecks, second_text};
 
 use crate::answers::{SegmentAnswer, SegmentFault, StartAnswer, StartFault};
-use crate::reading::{Unread, guest_of, recorded_by};
+use crate::reading::{Recorded, Unread, guest_of, recorded_by};
 use checkpoints::write_state;
 use ddc_base::{OutOfMemory, first_difference};
 use guest_run::{Guest, RunBox, RunEnd, RunRam, StartRefusal};
@@ -33,30 +33,29 @@ fn check_from(alloc: Global, guest: &mut Guest<RunRam>, from: &[u8], to: &[u8]) 
     ensures { ChecksPiece from.now to.now result }
 {
     match recorded_by(alloc, to) {
-        Ok((steps, own)) => check_to(alloc, guest, steps, from, to, own.as_slice()),
+        Ok(recorded) => check_to(alloc, guest, from, to, &recorded),
         Err(Unread::Fault(why)) => SegmentAnswer::No(SegmentFault::To(why)),
         Err(Unread::OutOfMemory) => SegmentAnswer::OutOfMemory,
     }
 }
 
-/// The former guest goes on to the steps of the latter, whose text of the second form is `own`.
+/// The former guest goes on to the steps of the latter.
 fn check_to(
     alloc: Global,
     guest: &mut Guest<RunRam>,
-    steps: u64,
     from: &[u8],
     to: &[u8],
-    own: &[u8],
+    recorded: &Recorded,
 ) -> SegmentAnswer
     requires from { IsStateOf from.now guest.old }
-    requires to { Records to.now steps own.now }
+    requires to { Records to.now recorded.now }
     ensures { ChecksPiece from.now to.now result }
 {
     let first = guest.steps();
-    if steps <= first {
+    if recorded.steps <= first {
         return SegmentAnswer::No(SegmentFault::NotLater);
     }
-    let count = steps - first;
+    let count = recorded.steps - first;
     if count > MOST_STEPS {
         return SegmentAnswer::No(SegmentFault::TooFar);
     }
@@ -64,7 +63,7 @@ fn check_to(
         RunEnd::Exited(_) => SegmentAnswer::No(SegmentFault::EndsAt(guest.steps() + 1)),
         RunEnd::Trapped(_) => SegmentAnswer::No(SegmentFault::EndsAt(guest.steps() + 1)),
         RunEnd::UnknownCall(_) => SegmentAnswer::No(SegmentFault::EndsAt(guest.steps() + 1)),
-        RunEnd::Spent => match difference(alloc, guest, own) {
+        RunEnd::Spent => match difference(alloc, guest, recorded.text.as_slice()) {
             Ok(None) => SegmentAnswer::Yes(count),
             Ok(Some(offset)) => SegmentAnswer::No(SegmentFault::Differs(offset)),
             Err(OutOfMemory) => SegmentAnswer::OutOfMemory,
@@ -98,6 +97,7 @@ pub fn check_start(alloc: Global, program: &[u8], setting: &RunBox, first: &[u8]
     }
 }
 
+/// The program's start beside the state of the first text.
 fn check_first(
     alloc: Global,
     guest: &Guest<RunRam>,
@@ -109,28 +109,12 @@ fn check_first(
     ensures { StartChecks program.now setting.now first.now result }
 {
     match recorded_by(alloc, first) {
-        Ok((_, own)) => compare(alloc, guest, program, setting, first, own.as_slice()),
+        Ok(recorded) => match difference(alloc, guest, recorded.text.as_slice()) {
+            Ok(None) => StartAnswer::Yes,
+            Ok(Some(offset)) => StartAnswer::Differs(offset),
+            Err(OutOfMemory) => StartAnswer::OutOfMemory,
+        },
         Err(Unread::Fault(why)) => StartAnswer::NotState(why),
         Err(Unread::OutOfMemory) => StartAnswer::OutOfMemory,
-    }
-}
-
-/// The program's start beside the state of the first text, whose text of the second form is `own`.
-fn compare(
-    alloc: Global,
-    guest: &Guest<RunRam>,
-    program: &[u8],
-    setting: &RunBox,
-    first: &[u8],
-    own: &[u8],
-) -> StartAnswer
-    requires starts { start_of program.now setting.now ≡ Ok guest.now }
-    requires told { (steps : ℕ) × Records first.now steps own.now }
-    ensures { StartChecks program.now setting.now first.now result }
-{
-    match difference(alloc, guest, own) {
-        Ok(None) => StartAnswer::Yes,
-        Ok(Some(offset)) => StartAnswer::Differs(offset),
-        Err(OutOfMemory) => StartAnswer::OutOfMemory,
     }
 }

@@ -16,6 +16,13 @@ pub(crate) enum Unread {
     OutOfMemory,
 }
 
+/// A state that was read and is not kept: its steps, and its text of the second form.
+#[derive(Drop)]
+pub(crate) struct Recorded {
+    pub(crate) steps: u64,
+    pub(crate) text: Bytes,
+}
+
 /// The guest whose state the text says.
 pub(crate) fn guest_of(alloc: Global, text: &[u8]) -> Result<Guest<RunRam>, Unread>
     ensures { ReadBy text.now result }
@@ -29,8 +36,8 @@ pub(crate) fn guest_of(alloc: Global, text: &[u8]) -> Result<Guest<RunRam>, Unre
     }
 }
 
-/// The steps of the state that a text says, and that state's text of the second form. Its guest is not kept.
-pub(crate) fn recorded_by(alloc: Global, text: &[u8]) -> Result<(u64, Bytes), Unread>
+/// What is kept of the state that a text says.
+pub(crate) fn recorded_by(alloc: Global, text: &[u8]) -> Result<Recorded, Unread>
     ensures { RecordedBy text.now result }
 {
     match guest_of(alloc, text) {
@@ -39,13 +46,13 @@ pub(crate) fn recorded_by(alloc: Global, text: &[u8]) -> Result<(u64, Bytes), Un
     }
 }
 
-fn tell(alloc: Global, guest: &Guest<RunRam>, text: &[u8]) -> Result<(u64, Bytes), Unread>
+fn tell(alloc: Global, guest: &Guest<RunRam>, text: &[u8]) -> Result<Recorded, Unread>
     requires { ReadBy text.now (Ok guest.now) }
     ensures { RecordedBy text.now result }
 {
     let steps = guest.steps();
     match write_state(alloc, guest) {
-        Ok(own) => Ok((steps, own)),
+        Ok(own) => Ok(Recorded { steps, text: own }),
         Err(OutOfMemory) => Err(Unread::OutOfMemory),
     }
 }

@@ -6,8 +6,7 @@ use Rattle.std.proofs.lemmas.Option.{slice_get_within}
 use Rattle.recipe.specs.Kept.{IsRecipe}
 use Rattle.audit_run.specs.Stage.Rules.{IsStageOf}
 use Rattle.ddc_base.specs.declared.outside.PutFail.{PutFail}
-use Rattle.ddc_base.specs.Outside.{ShelfState, SinkState}
-use Rattle.prompt.specs.Prompts.{PromptState}
+use Rattle.ddc_base.specs.Outside.{ShelfState}
 use Rattle.recipe.specs.declared.contents.RecipeContents.{RecipeContents}
 use Rattle.recipe.specs.declared.parts.Stage.{Stage}
 use Rattle.step_debug.specs.Sessions.{SessionState}

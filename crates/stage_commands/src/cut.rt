@@ -18,7 +18,7 @@ ghost use Rattle.stage_commands.specs.Names.{piece_name};
 ghost use Rattle.stage_commands.specs.States.{state_after};
 ghost use Rattle.stage_commands.specs.Texts.{cut_line};
 
-use crate::exits::{output_left, run_failed};
+use crate::exits::{Exit, output_left, run_failed};
 use crate::names::{MOST_STATES, piece_name};
 use crate::ready::{Ready, make_ready, stage_after};
 use crate::texts;
@@ -151,7 +151,11 @@ fn go_on(
     let steps = guest.steps();
     match end {
         RunEnd::Exited(status) => {
-            Ok(Some(exited(alloc, stage, saved, status, steps + 1, guest.files())?))
+            let exit = Exit {
+                status,
+                step: steps + 1,
+            };
+            Ok(Some(exited(alloc, stage, saved, exit, guest.files())?))
         }
         RunEnd::Trapped(cause) => {
             Ok(Some(run_failed(alloc, stage, RunCause::Trap(cause), steps + 1)?))
@@ -170,19 +174,18 @@ fn exited(
     alloc: Global,
     stage: &Stage,
     saved: u32,
-    status: u8,
-    step: u64,
+    exit: Exit,
     files: &Files,
 ) -> Result<Answer, Stop>
     requires { kept.IsOutput stage.now.output }
-    ensures { Says (unless_refused (output_left stage.now status files.now) (λ cause. run_failed stage.now cause step)
-        (λ _. answers Yes (cut_line saved step))) result }
+    ensures { Says (unless_refused (output_left stage.now exit.status files.now) (λ cause. run_failed stage.now cause exit.step)
+        (λ _. answers Yes (cut_line saved exit.step))) result }
 {
-    match output_left(stage, status, files) {
+    match output_left(stage, exit.status, files) {
         Ok(_) => Ok(Answer {
             status: Status::Yes,
-            text: texts::cut(alloc, saved, step)?,
+            text: texts::cut(alloc, saved, exit.step)?,
         }),
-        Err(cause) => run_failed(alloc, stage, cause, step),
+        Err(cause) => run_failed(alloc, stage, cause, exit.step),
     }
 }

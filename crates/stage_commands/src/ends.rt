@@ -1,11 +1,12 @@
 //! `ends RECIPE STAGE PREFIX COUNT`: whether the first saved state is that of the stage's start, and how the run after the last one ends.
 
-ghost use Rattle.std.specs.Prelude.{◌≡◌, ◌≤◌, ◌<◌, ◌+◌, ◌-◌, ◌^◌, Err, map};
+ghost use Rattle.std.specs.Prelude.{◌≡◌, ◌≤◌, ◌<◌, ◌+◌, ◌-◌, ◌^◌, ℕ, Err, List, map};
 ghost use Rattle.audit_run.specs.Stage.Rules.{IsStageOf};
+ghost use Rattle.guest_run.specs.Setting.{Setting};
 ghost use Rattle.guest_run.specs.Start.{start_of};
 ghost use Rattle.recipe.specs.Kept as kept;
 ghost use Rattle.segments.specs.Faults.{start_refusal_of, state_fault_number};
-ghost use Rattle.segments.specs.Segments.{EndsWith};
+ghost use Rattle.segments.specs.Segments.{EndsWith, StartChecks};
 ghost use Rattle.command_plan.specs.declared.status.Status.TheVariants.{Refuted, Yes};
 ghost use Rattle.command_plan.specs.Performs.{Performs};
 ghost use Rattle.command_plan.specs.Plan.{answers, needs, unless_refused};
@@ -18,7 +19,7 @@ ghost use Rattle.stage_commands.specs.States.{end_after, state_said};
 ghost use Rattle.stage_commands.specs.Texts.{other_first_line, refuted_first_line, refuted_last_line, run_record};
 ghost use Rattle.audit_rules.specs.Stages.{contents, finished, start_cause, start_stage};
 
-use crate::exits::{output_left, run_failed};
+use crate::exits::{Exit, output_left, run_failed};
 use crate::names::fetch_state;
 use crate::ready::{Ready, make_ready, stage_after};
 use crate::texts;
@@ -27,7 +28,7 @@ use audit_rules::{RunCause, StartCause};
 use audit_run::stage::{box_of, content};
 use command_plan::{Answer, Status, Stop, usage};
 use ddc_base::Shelf;
-use guest_run::{Guest, RunBox, RunEnd, RunRam};
+use guest_run::{Guest, RunEnd, RunRam};
 use mem_files::Files;
 use recipe::Stage;
 use segments::{EndAnswer, StartAnswer, StartFault, StateFault, check_end, check_start};
@@ -97,24 +98,23 @@ fn judge_stage(
     let done = ready.done.as_slice();
     let given = box_of(alloc, &ready.recipe, stage, inputs, done)?;
     let program = content(&ready.recipe, inputs, done, &stage.program);
-    judge_first(alloc, stage, program, &given, first, last)
+    let found = check_start(alloc, program, &given, first);
+    judge_first(alloc, stage, found, last)
 }
 
-/// Judges the first text by a program and what it is given, and then the last one.
+/// Judges the first text by what its check found, and then the last one.
 fn judge_first(
     alloc: Global,
     stage: &Stage,
-    program: &[u8],
-    given: &RunBox,
-    first: &[u8],
+    found: StartAnswer,
     last: &[u8],
 ) -> Result<Answer, Stop>
     requires output { kept.IsOutput stage.now.output }
     requires few { stage.now.steps ≤ 2 ^ 48 }
-    ensures { Says (needs_first stage.now (start_of program.now given.now) (state_said first.now)
-        (needs_last stage.now (end_after last.now stage.now.steps))) result }
+    ensures { (program : List ℕ) (setting : Setting) (first : List ℕ) → StartChecks program setting first found
+        → Says (needs_first stage.now (start_of program setting) (state_said first) (needs_last stage.now (end_after last.now stage.now.steps))) result }
 {
-    match check_start(alloc, program, given, first) {
+    match found {
         StartAnswer::Yes => judge_last(alloc, stage, last),
         StartAnswer::Start(why) => { run_failed(alloc, stage, RunCause::Start(cause_of(why)), 0) }
         StartAnswer::NotState(why) => refuted_first(alloc, why),
@@ -193,7 +193,7 @@ fn ended(
 {
     let step = guest.steps() + 1;
     match end {
-        RunEnd::Exited(status) => exited(alloc, stage, status, step, guest.files()),
+        RunEnd::Exited(status) => exited(alloc, stage, Exit { status, step }, guest.files()),
         RunEnd::Trapped(cause) => run_failed(alloc, stage, RunCause::Trap(cause), step),
         RunEnd::UnknownCall(number) => run_failed(alloc, stage, RunCause::Call(number), step),
         RunEnd::Spent => unreachable!(),
@@ -202,22 +202,16 @@ fn ended(
 }
 
 /// Tells an exit: what the run did, where it left the stage's output.
-fn exited(
-    alloc: Global,
-    stage: &Stage,
-    status: u8,
-    step: u64,
-    files: &Files,
-) -> Result<Answer, Stop>
+fn exited(alloc: Global, stage: &Stage, exit: Exit, files: &Files) -> Result<Answer, Stop>
     requires { kept.IsOutput stage.now.output }
-    ensures { Says (unless_refused (output_left stage.now status files.now) (λ cause. run_failed stage.now cause step)
-        (λ made. answers Yes (run_record stage.now.name (finished step files.now made)))) result }
+    ensures { Says (unless_refused (output_left stage.now exit.status files.now) (λ cause. run_failed stage.now cause exit.step)
+        (λ made. answers Yes (run_record stage.now.name (finished exit.step files.now made)))) result }
 {
-    match output_left(stage, status, files) {
+    match output_left(stage, exit.status, files) {
         Ok(made) => Ok(Answer {
             status: Status::Yes,
-            text: texts::run(alloc, &stage.name, step, files, made)?,
+            text: texts::run(alloc, &stage.name, exit.step, files, made)?,
         }),
-        Err(cause) => run_failed(alloc, stage, cause, step),
+        Err(cause) => run_failed(alloc, stage, cause, exit.step),
     }
 }

@@ -15,6 +15,13 @@ use mem_files::Files;
 use recipe::{Output, Stage};
 use std::alloc::Global;
 
+/// An exit of a run: its status, and its step.
+#[derive(Clone, Copy)]
+pub(crate) struct Exit {
+    pub(crate) status: u8,
+    pub(crate) step: u64,
+}
+
 /// What stands at the stage's output after an exit with a status, or why nothing does.
 pub(crate) fn output_left<'a>(
     stage: &Stage,

@@ -28,6 +28,14 @@ use recipe_plan::{about_stage, apart, fetch_recipe, unfinished};
 use std::alloc::Global;
 use tool_commands::guest_file::{Wanted, bytes_left_at};
 
+/// How a run ended: the cause, the step, and the files before it.
+#[derive(Drop)]
+struct RunLeft<'a> {
+    cause: RunCause,
+    step: u64,
+    files: &'a Files,
+}
+
 /// Performs the command on the words after its name.
 pub fn perform<S: Shelf>(alloc: Global, shelf: &mut S, words: &[&str]) -> Result<Answer, Stop>
     ensures { Performs (left_plan (map (λ w. w.now) words.now)) (S.state shelf.old) (S.state shelf.new) result }
@@ -128,7 +136,11 @@ fn run_out<S: Shelf>(
 {
     let mut guest = guest;
     match end_of(&mut guest, stage.steps) {
-        Ok(end) => save_left(alloc, shelf, &stage.name, guest.files(), end, wanted),
+        Ok((cause, step)) => {
+            let files = guest.files();
+            let left = RunLeft { cause, step, files };
+            save_left(alloc, shelf, &stage.name, &left, wanted)
+        }
         Err(OutOfMemory) => Err(Stop::OutOfMemory),
     }
 }
@@ -156,25 +168,24 @@ fn save_left<S: Shelf>(
     alloc: Global,
     shelf: &mut S,
     stage: &Name,
-    files: &Files,
-    end: (RunCause, u64),
+    left: &RunLeft<'_>,
     wanted: &Wanted<'_>,
 ) -> Result<Answer, Stop>
-    ensures { Performs (ends_left stage.now wanted.now.file wanted.now.out (record { cause = end.0; step = end.1; files = files.now }))
+    ensures { Performs (ends_left stage.now wanted.now.file wanted.now.out (record { cause = left.now.cause; step = left.now.step; files = left.now.files.now }))
         (S.state shelf.old) (S.state shelf.new) result }
 {
     let file = wanted.file.text();
-    match bytes_left_at(files, &wanted.file) {
+    match bytes_left_at(left.files, &wanted.file) {
         Some(content) => {
             let answer = Answer {
-                status: left_status(end.0),
-                text: file_left_line(alloc, stage, file, content.len() as u64, end)?,
+                status: left_status(left.cause),
+                text: file_left_line(alloc, stage, file, content.len() as u64, left)?,
             };
             keep(alloc, shelf, &wanted.out, content, answer)
         }
         None => Ok(Answer {
-            status: absent_status(end.0),
-            text: none_left_line(alloc, stage, file, end)?,
+            status: absent_status(left.cause),
+            text: none_left_line(alloc, stage, file, left)?,
         }),
     }
 }
@@ -206,12 +217,12 @@ fn file_left_line(
     stage: &Name,
     file: &str,
     size: u64,
-    end: (RunCause, u64),
+    left: &RunLeft<'_>,
 ) -> Result<Bytes, OutOfMemory>
-    ensures { IfOk result (λ text. text ≡ file_left_line stage.now file.now size end.0 end.1) }
+    ensures { IfOk result (λ text. text ≡ file_left_line stage.now file.now size left.now.cause left.now.step) }
 {
-    let (cause, step) = end;
-    let cause = run_cause(alloc, cause)?;
+    let cause = run_cause(alloc, left.cause)?;
+    let step = left.step;
     let following = format!(in alloc; " {file} {size} {cause} step {step}\n")?;
     about_stage(alloc, b"left ", stage.bytes(), &following)
 }
@@ -222,12 +233,12 @@ fn none_left_line(
     alloc: Global,
     stage: &Name,
     file: &str,
-    end: (RunCause, u64),
+    left: &RunLeft<'_>,
 ) -> Result<Bytes, OutOfMemory>
-    ensures { IfOk result (λ text. text ≡ none_left_line stage.now file.now end.0 end.1) }
+    ensures { IfOk result (λ text. text ≡ none_left_line stage.now file.now left.now.cause left.now.step) }
 {
-    let (cause, step) = end;
-    let cause = run_cause(alloc, cause)?;
+    let cause = run_cause(alloc, left.cause)?;
+    let step = left.step;
     let following = format!(in alloc; " {file} {cause} step {step}\n")?;
     about_stage(alloc, b"not left ", stage.bytes(), &following)
 }

@@ -5,6 +5,7 @@ mod Looping
 mod MarkTests
 pub mod OneReport
 mod Placing
+mod Refused
 mod Rightness
 mod StageRules
 pub mod ConclusionLemmas

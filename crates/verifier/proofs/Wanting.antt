@@ -1,5 +1,5 @@
 -- Where the replay of a stage may want memory.
-use Rattle.std.proofs.Common.{◌≡◌, ℕ, ◌≤◌, true, false, List, Option, Some, Result, Ok, Err, refl, sym, ap, ◌∙◌, subst}
+use Rattle.std.proofs.Common.{◌≡◌, ℕ, true, false, List, Some, Result, Ok, Err, refl, sym, subst}
 use Rattle.std.specs.Prelude.{IsOk, is_err}
 use Rattle.ddc_base.specs.Results.{or_error}
 use Rattle.elf_load.specs.declared.Image.{Image}
@@ -12,7 +12,6 @@ use Rattle.recipe.specs.declared.contents.RecipeContents.{RecipeContents}
 use Rattle.recipe.specs.declared.parts.Stage.{Stage}
 use Rattle.report.specs.declared.types.StageLine.{StageLine}
 use Rattle.audit_rules.specs.Contents.{Contents, box_of, program_of}
-use Rattle.verifier.specs.declared.part.Part.{Part}
 use Rattle.verifier.specs.declared.part.Part.TheVariants as part
 use Rattle.verifier.specs.declared.stop.JudgingStop.{JudgingStop}
 use Rattle.verifier.specs.declared.stop.JudgingStop.TheVariants.{Refuted, OutOfMemory}

@@ -9,6 +9,7 @@ ghost use Rattle.hex_langs.specs.Link.Values.{linked};
 ghost use Rattle.audit_rules.specs.SourceCheck.Checks.{check, checked, first_other_item, hex_value, items_against, joined_files, same_item};
 ghost use Rattle.std.specs.Prelude.{◌≡◌, ◌≤◌, ◌^◌, is_none, ℕ, List, Result, IfOk};
 ghost use Rattle.verifier.specs.Inside.Holdings.{IsHeld, so_far};
+ghost use Rattle.verifier.specs.Inside.Refusing.{RefusesHex, RefusesM1};
 ghost use Rattle.audit_rules.specs.Contents.{check_of, text_of};
 
 use crate::held::Held;
@@ -98,16 +99,7 @@ fn gives(
         Language::Hex2 => links_to(alloc, items2(alloc, source), base, made),
         Language::M1 => match expand(alloc, source) {
             Ok(items) => reads_as(alloc, &items, made),
-            Err(M1Refusal::OutOfMemory) => Err(OutOfMemory),
-            Err(
-                M1Refusal::BadDefine(_)
-                | M1Refusal::DoubleDefine(_)
-                | M1Refusal::OpenString(_)
-                | M1Refusal::UnknownWord(_)
-                | M1Refusal::NumberRange(_)
-                | M1Refusal::Dangling(_)
-                | M1Refusal::TooLong,
-            ) => Ok(false),
+            Err(refusal) => m1_refused(refusal),
         },
     }
 }
@@ -124,16 +116,7 @@ fn links_to(
 {
     match items {
         Ok(items) => is_value(link(alloc, &items, base), made),
-        Err(HexRefusal::OutOfMemory) => Err(OutOfMemory),
-        Err(
-            HexRefusal::OddDigits(_)
-            | HexRefusal::BadField(_)
-            | HexRefusal::Dangling(_)
-            | HexRefusal::DoubleLabel(_)
-            | HexRefusal::NoLabel(_)
-            | HexRefusal::OutOfReach(_)
-            | HexRefusal::TooLong,
-        ) => Ok(false),
+        Err(refusal) => hex_refused(refusal),
     }
 }
 
@@ -143,16 +126,7 @@ fn is_value(value: Result<Bytes, HexRefusal>, made: &[u8]) -> Result<bool, OutOf
 {
     match value {
         Ok(bytes) => Ok(bytes.as_slice() == made),
-        Err(HexRefusal::OutOfMemory) => Err(OutOfMemory),
-        Err(
-            HexRefusal::OddDigits(_)
-            | HexRefusal::BadField(_)
-            | HexRefusal::Dangling(_)
-            | HexRefusal::DoubleLabel(_)
-            | HexRefusal::NoLabel(_)
-            | HexRefusal::OutOfReach(_)
-            | HexRefusal::TooLong,
-        ) => Ok(false),
+        Err(refusal) => hex_refused(refusal),
     }
 }
 
@@ -162,16 +136,39 @@ fn reads_as(alloc: Global, items: &Items<'_>, made: &[u8]) -> Result<bool, OutOf
 {
     match items2(alloc, made) {
         Ok(found) => Ok(same_items(items, &found)),
-        Err(HexRefusal::OutOfMemory) => Err(OutOfMemory),
-        Err(
-            HexRefusal::OddDigits(_)
-            | HexRefusal::BadField(_)
-            | HexRefusal::Dangling(_)
-            | HexRefusal::DoubleLabel(_)
-            | HexRefusal::NoLabel(_)
-            | HexRefusal::OutOfReach(_)
-            | HexRefusal::TooLong,
-        ) => Ok(false),
+        Err(refusal) => hex_refused(refusal),
+    }
+}
+
+/// No, unless the refusal is want of memory.
+fn hex_refused(refusal: HexRefusal) -> Result<bool, OutOfMemory>
+    ensures { RefusesHex refusal result }
+{
+    match refusal {
+        HexRefusal::OddDigits(_)
+        | HexRefusal::BadField(_)
+        | HexRefusal::Dangling(_)
+        | HexRefusal::DoubleLabel(_)
+        | HexRefusal::NoLabel(_)
+        | HexRefusal::OutOfReach(_)
+        | HexRefusal::TooLong => Ok(false),
+        HexRefusal::OutOfMemory => Err(OutOfMemory),
+    }
+}
+
+/// No, unless the refusal is want of memory.
+fn m1_refused(refusal: M1Refusal) -> Result<bool, OutOfMemory>
+    ensures { RefusesM1 refusal result }
+{
+    match refusal {
+        M1Refusal::BadDefine(_)
+        | M1Refusal::DoubleDefine(_)
+        | M1Refusal::OpenString(_)
+        | M1Refusal::UnknownWord(_)
+        | M1Refusal::NumberRange(_)
+        | M1Refusal::Dangling(_)
+        | M1Refusal::TooLong => Ok(false),
+        M1Refusal::OutOfMemory => Err(OutOfMemory),
     }
 }
 

@@ -14,7 +14,7 @@ ghost use Rattle.audit_rules.specs.Valid.{IsInputs};
 use crate::header::is_header;
 use crate::held::Held;
 use crate::part::{Part, Verdict};
-use crate::replay::replay;
+use crate::replay::{ReportedStage, replay};
 use crate::stop::JudgingStop;
 use audit_rules::all_equal;
 use ddc_base::{Bytes, ListOf, OutOfMemory, first_difference};
@@ -116,7 +116,8 @@ fn replay_all(
             inputs,
             artefacts: artefacts.as_slice(),
         };
-        match replay(alloc, &held, stage, line, total) {
+        let reported = ReportedStage { stage, line };
+        match replay(alloc, &held, &reported, total) {
             Ok(made) => {
                 total += made.len() as u64;
                 match artefacts.push(made) {

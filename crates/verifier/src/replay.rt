@@ -28,46 +28,51 @@ use recipe::{Output, Stage};
 use report::StageLine;
 use std::alloc::Global;
 
+/// A stage of the recipe, and the report's line on it.
+#[derive(Drop)]
+pub(crate) struct ReportedStage<'a> {
+    pub(crate) stage: &'a Stage,
+    pub(crate) line: &'a StageLine,
+}
+
 /// The artefact of a stage whose line is true; `total` is the bytes of the artefacts so far.
 #[tactic(auto, unfolding(crate::specs::Faults::replayed))]
 pub(crate) fn replay(
     alloc: Global,
     held: &Held<'_>,
-    stage: &Stage,
-    line: &StageLine,
+    reported: &ReportedStage<'_>,
     total: u64,
 ) -> Result<Bytes, JudgingStop>
     requires held { IsHeld held.now }
-    requires known { Contains held.now.recipe.now.stages stage.now }
+    requires known { Contains held.now.recipe.now.stages reported.now.stage.now }
     requires total { total ≡ size_of (so_far held.now) }
     requires small { total ≤ MAX_ARTEFACTS }
-    ensures value { Judged (λ made. made) (replayed held.now.recipe.now (so_far held.now) stage.now line.now) result }
-    ensures memory { OnStopWant result (CanWantAt held.now.recipe.now (so_far held.now) stage.now line.now) }
+    ensures value { Judged (λ made. made) (replayed held.now.recipe.now (so_far held.now) reported.now.stage.now reported.now.line.now) result }
+    ensures memory { OnStopWant result (CanWantAt held.now.recipe.now (so_far held.now) reported.now.stage.now reported.now.line.now) }
 {
-    let guest = exited(alloc, held, stage, line)?;
-    left(alloc, held, stage, line, total, guest.files())
+    let guest = exited(alloc, held, reported)?;
+    left(alloc, held, reported, total, guest.files())
 }
 
 /// The artefact among what a run left, where all of it is as the line says, and the artefact is what its source stands for.
 fn left(
     alloc: Global,
     held: &Held<'_>,
-    stage: &Stage,
-    line: &StageLine,
+    reported: &ReportedStage<'_>,
     total: u64,
     files: &Files,
 ) -> Result<Bytes, JudgingStop>
     requires held { IsHeld held.now }
-    requires known { Contains held.now.recipe.now.stages stage.now }
+    requires known { Contains held.now.recipe.now.stages reported.now.stage.now }
     requires total { total ≡ size_of (so_far held.now) }
     requires small { total ≤ MAX_ARTEFACTS }
-    ensures value { Judged (λ made. made) (judged_left held.now.recipe.now (so_far held.now) stage.now line.now files.now) result }
-    ensures memory { OnStopWant result (λ p. (p ≡ part.Assembled) × IsRecorded (so_far held.now) stage.now line.now files.now) }
+    ensures value { Judged (λ made. made) (judged_left held.now.recipe.now (so_far held.now) reported.now.stage.now reported.now.line.now files.now) result }
+    ensures memory { OnStopWant result (λ p. (p ≡ part.Assembled) × IsRecorded (so_far held.now) reported.now.stage.now reported.now.line.now files.now) }
 {
-    let Some(made) = recorded(stage, line, total, files) else {
+    let Some(made) = recorded(reported, total, files) else {
         return Err(JudgingStop::Refuted(Part::Files));
     };
-    match checked(alloc, held, stage, made) {
+    match checked(alloc, held, reported.stage, made) {
         Ok(Some(made)) => Ok(made),
         Ok(None) => Err(JudgingStop::Refuted(Part::Assembled)),
         Err(OutOfMemory) => Err(JudgingStop::OutOfMemory(Part::Assembled)),
@@ -95,15 +100,17 @@ fn checked(
 fn exited(
     alloc: Global,
     held: &Held<'_>,
-    stage: &Stage,
-    line: &StageLine,
+    reported: &ReportedStage<'_>,
 ) -> Result<Guest<RunRam>, JudgingStop>
     requires held { IsHeld held.now }
-    requires known { Contains held.now.recipe.now.stages stage.now }
-    ensures value { Judged (λ guest. guest.world) (or_error part.Run (left_at (start_of (program_of held.now.recipe.now (so_far held.now) stage.now) (box_of held.now.recipe.now (so_far held.now) stage.now)) stage.now.steps line.now.steps)) result }
-    ensures memory { OnStopWant result (CanWantAt held.now.recipe.now (so_far held.now) stage.now line.now) }
+    requires known { Contains held.now.recipe.now.stages reported.now.stage.now }
+    ensures value { let stage = reported.now.stage.now in
+        Judged (λ guest. guest.world) (or_error part.Run (left_at (start_of (program_of held.now.recipe.now (so_far held.now) stage) (box_of held.now.recipe.now (so_far held.now) stage)) stage.steps reported.now.line.now.steps)) result }
+    ensures memory { OnStopWant result (CanWantAt held.now.recipe.now (so_far held.now) reported.now.stage.now reported.now.line.now) }
 {
-    if line.steps == 0 || line.steps > stage.steps {
+    let stage = reported.stage;
+    let step = reported.line.steps;
+    if step == 0 || step > stage.steps {
         return Err(JudgingStop::Refuted(Part::Run));
     }
     let program = held.bytes(&stage.program);
@@ -115,7 +122,7 @@ fn exited(
         Err(OutOfMemory) => return Err(JudgingStop::OutOfMemory(Part::Run)),
     };
     match Guest::<RunRam>::start(alloc, program, &given) {
-        Ok(guest) => run_out(guest, line.steps),
+        Ok(guest) => run_out(guest, step),
         Err(StartRefusal::Elf(_)) => Err(JudgingStop::Refuted(Part::Run)),
         Err(StartRefusal::ArgsTooLong) => Err(JudgingStop::Refuted(Part::Run)),
         Err(StartRefusal::BoxTooLarge) => Err(JudgingStop::Refuted(Part::Run)),
@@ -162,16 +169,16 @@ fn run_to(guest: &mut Guest<RunRam>, step: u64) -> Result<(), JudgingStop>
 }
 
 /// The artefact among what a run left, where all of it is as the line says and the artefacts stay within their limit.
-fn recorded<'f>(stage: &Stage, line: &StageLine, total: u64, files: &'f Files) -> Option<&'f [u8]>
-    requires named { IsOutputName stage.now.output }
+fn recorded<'f>(reported: &ReportedStage<'_>, total: u64, files: &'f Files) -> Option<&'f [u8]>
+    requires named { IsOutputName reported.now.stage.now.output }
     requires small { total ≤ MAX_ARTEFACTS }
-    ensures { (so_far : Contents) → total ≡ size_of so_far → option_copied result ≡ recorded so_far stage.now line.now files.now }
+    ensures { (so_far : Contents) → total ≡ size_of so_far → option_copied result ≡ recorded so_far reported.now.stage.now reported.now.line.now files.now }
 {
-    if !has_left(line, files) {
+    if !has_left(reported.line, files) {
         return None;
     }
-    let made = artefact(&stage.output, files)?;
-    if line.made.is_of(made) && total + made.len() as u64 <= MAX_ARTEFACTS {
+    let made = artefact(&reported.stage.output, files)?;
+    if reported.line.made.is_of(made) && total + made.len() as u64 <= MAX_ARTEFACTS {
         Some(made)
     } else {
         None

@@ -3,6 +3,7 @@ use Rattle.std.specs.Prelude.{◌≡◌, ℕ, ◌<◌, ◌^◌, Result, Ok, Err,
 use Rattle.checkpoints.specs.Checkpoint.{MayWantMemory}
 use Rattle.guest_run.specs.State.{GuestState}
 use Rattle.guest_run.specs.Valid.{IsValid}
+use Rattle.segments.specs.declared.reading.Recorded.{Recorded}
 use Rattle.segments.specs.declared.reading.Unread.{Unread}
 use Rattle.segments.specs.declared.reading.Unread.TheVariants.{Fault, OutOfMemory}
 use Rattle.segments.specs.Segments.{IsNoState, IsStateOf, second_text}
@@ -15,15 +16,15 @@ abbrev pub ReadBy : List ℕ → Result GuestState Unread → Type 0
 ReadBy text (Ok guest) = IsStateOf text guest
 ReadBy text (Err why) = NotRead text why
 
--- the steps of the state that the bytes say, and its own text of the second form
-pub record Records (text : List ℕ) (steps : ℕ) (own : List ℕ) : Type 0 where
+-- what is recorded of the state that the bytes say
+pub record Records (text : List ℕ) (recorded : Recorded) : Type 0 where
   pub guest : GuestState
   pub is : IsStateOf text guest
   pub valid : IsValid guest
   pub small : guest.steps < 2 ^ 64
-  pub counted : steps ≡ guest.steps
-  pub written : own ≡ second_text guest
+  pub counted : recorded.steps ≡ guest.steps
+  pub written : recorded.text ≡ second_text guest
 
-abbrev pub RecordedBy : List ℕ → Result (ℕ × List ℕ) Unread → Type 0
-RecordedBy text (Ok told) = Records text told.0 told.1
+abbrev pub RecordedBy : List ℕ → Result Recorded Unread → Type 0
+RecordedBy text (Ok recorded) = Records text recorded
 RecordedBy text (Err why) = NotRead text why

@@ -1,4 +1,3 @@
-use Rattle.ddc_base.specs.Results.{or_error}
 use Rattle.guest_run.specs.Start.{start_of}
 use Rattle.audit_rules.specs.Contents.{box_of, program_of}
 use Rattle.verifier.specs.declared.part.Part.TheVariants as part
@@ -11,7 +10,7 @@ use Rattle.verifier.proofs.replay.replay.Goals as goal
 pub returns-clause-memory : goal.returns-clause-memory
 returns-clause-memory c =
     let recipe = c.args.held.now.recipe.now in
-    let stage = c.args.stage.now in
-    let ran = there-is part.Run (left_at (start_of (program_of recipe (so_far c.args.held.now) stage) (box_of recipe (so_far c.args.held.now) stage)) stage.steps c.args.line.now.steps) _
+    let stage = c.args.reported.now.stage.now in
+    let ran = there-is part.Run (left_at (start_of (program_of recipe (so_far c.args.held.now) stage) (box_of recipe (so_far c.args.held.now) stage)) stage.steps c.args.reported.now.line.now.steps) _
     c.in_ok-guest.ensures.value in
-    wants-check recipe (so_far c.args.held.now) stage c.args.line.now c.left.result _ ran (rw c.files.ensures at c.left.ensures.memory)
+    wants-check recipe (so_far c.args.held.now) stage c.args.reported.now.line.now c.left.result _ ran (rw c.files.ensures at c.left.ensures.memory)
