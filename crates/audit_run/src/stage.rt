@@ -13,7 +13,8 @@ mod sources;
 
 pub use contents::content;
 pub use done::Done;
-pub(crate) use ending::{Exit, exited};
+pub(crate) use ending::exited;
+pub use ending::{Exit, made_by};
 pub use given::{box_of, start_stage};
 pub use reporting::report_of;
 pub(crate) use so_far::SoFar;

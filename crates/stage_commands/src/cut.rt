@@ -18,13 +18,13 @@ ghost use Rattle.stage_commands.specs.Names.{piece_name};
 ghost use Rattle.stage_commands.specs.States.{state_after};
 ghost use Rattle.stage_commands.specs.Texts.{cut_line};
 
-use crate::exits::{Exit, output_left, run_failed};
+use crate::exits::{output_left, run_failed};
 use crate::names::{MOST_STATES, piece_name};
 use crate::ready::{Ready, make_ready, stage_after};
 use crate::texts;
 use crate::words::{CutWords, Prefix, Spacing};
 use audit_rules::RunCause;
-use audit_run::stage::start_stage;
+use audit_run::stage::{Exit, start_stage};
 use checkpoints::write_state;
 use command_plan::{Answer, FileName, Status, StepCount, Stop, store, usage};
 use ddc_base::Shelf;

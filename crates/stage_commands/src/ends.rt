@@ -19,13 +19,13 @@ ghost use Rattle.stage_commands.specs.States.{end_after, state_said};
 ghost use Rattle.stage_commands.specs.Texts.{other_first_line, refuted_first_line, refuted_last_line, run_record};
 ghost use Rattle.audit_rules.specs.Stages.{contents, finished, start_cause, start_stage};
 
-use crate::exits::{Exit, output_left, run_failed};
+use crate::exits::{output_left, run_failed};
 use crate::names::fetch_state;
 use crate::ready::{Ready, make_ready, stage_after};
 use crate::texts;
 use crate::words::{EndsWords, Prefix, StateCount};
 use audit_rules::{RunCause, StartCause};
-use audit_run::stage::{box_of, content};
+use audit_run::stage::{Exit, box_of, content};
 use command_plan::{Answer, Status, Stop, usage};
 use ddc_base::Shelf;
 use guest_run::{Guest, RunEnd, RunRam};

@@ -72,7 +72,7 @@ pub(crate) fn fetch_state<S: Shelf>(
 }
 
 /// Ends the command where the name of a state clashes with RECIPE.
-pub(crate) fn names_relative(
+pub(crate) fn names_other(
     alloc: Global,
     file: &FileName<'_>,
     prefix: &Prefix<'_>,

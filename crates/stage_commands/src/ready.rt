@@ -14,7 +14,7 @@ ghost use Rattle.stage_commands.specs.Names.{each_name};
 ghost use Rattle.stage_commands.specs.Ready.{needs_ready};
 
 use crate::earlier::{run_before, stages_before};
-use crate::names::{names_apart, names_relative};
+use crate::names::{names_apart, names_other};
 use crate::words::{Prefix, StageWord, StageWords};
 use audit_run::stage::Done;
 use command_plan::Stop;
@@ -41,7 +41,7 @@ pub(crate) fn make_ready<S: Shelf>(
     ensures obtained { Obtains (needs_ready place.now.recipe place.now.stage prefix.now) (S.state shelf.old) (S.state shelf.new) result }
     ensures ready { IfOk result IsReady }
 {
-    names_relative(alloc, &place.recipe, prefix)?;
+    names_other(alloc, &place.recipe, prefix)?;
     let recipe = fetch_recipe(alloc, shelf, &place.recipe)?;
     let (inputs, done) = run_apart(alloc, shelf, &recipe, &place.stage, prefix)?;
     Ok(Ready {

@@ -21,9 +21,9 @@ use std::alloc::Global;
 
 /// How a program exited: its status, and the step, counted from 1.
 #[derive(Clone, Copy)]
-pub(crate) struct Exit {
-    pub(crate) status: u8,
-    pub(crate) step: u64,
+pub struct Exit {
+    pub status: u8,
+    pub step: u64,
 }
 
 /// What a stage's run comes to whose program exited.
@@ -60,7 +60,7 @@ pub(crate) fn exited(
 }
 
 /// The bytes at a stage's output.
-fn made_by<'a>(stage: &Stage, files: &'a Files) -> Option<&'a [u8]>
+pub fn made_by<'a>(stage: &Stage, files: &'a Files) -> Option<&'a [u8]>
     requires { kept.IsOutput stage.now.output }
     ensures { option_copied result ≡ out files.now (output_of stage.now.output) }
 {

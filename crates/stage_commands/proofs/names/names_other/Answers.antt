@@ -4,7 +4,7 @@ use Rattle.command_plan.proofs.Obtaining.{stops_with, wants_at_once}
 use Rattle.stage_commands.specs.Names.{needs_other}
 use Rattle.stage_commands.specs.Names.{each_name}
 use Rattle.stage_commands.proofs.PieceNames.{ends_at_name, none_judged, one_judged}
-use Rattle.stage_commands.proofs.names.names_relative.Goals as goal
+use Rattle.stage_commands.proofs.names.names_other.Goals as goal
 
 pub loop-number-init : goal.loop-number-init
 loop-number-init c = (omega arith, λ shelf. none_judged (needs_other c.args.file.now) c.args.prefix.now shelf)
