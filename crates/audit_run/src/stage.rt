@@ -14,6 +14,7 @@ mod sources;
 pub use contents::content;
 pub use done::Done;
 pub(crate) use ending::exited;
+pub use ending::made_by;
 pub use given::{box_of, start_stage};
 pub use reporting::report_of;
 pub(crate) use so_far::SoFar;

@@ -53,7 +53,7 @@ pub(crate) fn exited(
 }
 
 /// The bytes at a stage's output.
-fn made_by<'a>(stage: &Stage, files: &'a Files) -> Option<&'a [u8]>
+pub fn made_by<'a>(stage: &Stage, files: &'a Files) -> Option<&'a [u8]>
     requires { kept.IsOutput stage.now.output }
     ensures { option_copied result ≡ out files.now (output_of stage.now.output) }
 {
