@@ -1,18 +1,15 @@
 //! How the run of a stage ended.
 
-ghost use Rattle.std.specs.Prelude.{◌≡◌, ◌<◌};
-ghost use Rattle.std.specs.Option.{option_copied};
-ghost use Rattle.mem_files.specs.Outputs.{out};
 ghost use Rattle.recipe.specs.Kept as kept;
-ghost use Rattle.audit_rules.specs.Stages.{output_of};
 ghost use Rattle.command_plan.specs.Steps.{Says};
 ghost use Rattle.stage_commands.specs.Exits.{output_left, run_failed};
 ghost use Rattle.stage_commands.specs.Inside.Going.{IsLeft};
 
 use audit_rules::RunCause;
+use audit_run::stage::made_by;
 use command_plan::{Answer, Stop};
 use mem_files::Files;
-use recipe::{Output, Stage};
+use recipe::Stage;
 use std::alloc::Global;
 
 /// An exit of a run: its status, and its step.
@@ -34,20 +31,9 @@ pub(crate) fn output_left<'a>(
     if status != 0 {
         return Err(RunCause::Status(status));
     }
-    match at_output(stage, files) {
+    match made_by(stage, files) {
         Some(made) => Ok(made),
         None => Err(RunCause::NoOutput),
-    }
-}
-
-/// The bytes at the stage's output.
-fn at_output<'a>(stage: &Stage, files: &'a Files) -> Option<&'a [u8]>
-    requires { kept.IsOutput stage.now.output }
-    ensures { option_copied result ≡ out files.now (output_of stage.now.output) }
-{
-    match &stage.output {
-        Output::Stream => Some(files.stream(1)),
-        Output::File(path) => files.content(path.as_slice()),
     }
 }
 
