@@ -1,6 +1,5 @@
 //! How the run of a stage ended.
 
-ghost use Rattle.std.specs.Prelude.{◌≡◌, ◌<◌};
 ghost use Rattle.recipe.specs.Kept as kept;
 ghost use Rattle.command_plan.specs.Steps.{Says};
 ghost use Rattle.stage_commands.specs.Exits.{output_left, run_failed};
