@@ -6,7 +6,7 @@ ghost use Rattle.recipe.specs.Inside.Views.{top_view};
 ghost use Rattle.recipe.specs.Tables.{top_table};
 
 use crate::text::{
-    Key, Place, RecipeRefusal, find, no_other_key, required, required_number, table, tables,
+    Key, Place, RecipeRefusal, array, find, no_other_key, required, required_number, table, tables,
 };
 use crate::top_tables::Top;
 use std::alloc::Global;
@@ -58,7 +58,7 @@ fn format_of(top: &Table) -> Result<u32, RecipeRefusal>
 }
 
 /// 1 to 256 tables at a key of the top.
-#[tactic(auto, unfolding(crate::specs::Text::Reading::required))]
+#[tactic(auto, unfolding(crate::specs::Text::Reading::required, crate::specs::Text::Reading::a_list))]
 fn required_tables<'a>(
     alloc: Global,
     key: Key,
@@ -67,11 +67,12 @@ fn required_tables<'a>(
     ensures tables { Gives (λ x. tables_view x.items) result (required (a_list a_table 1 256) TOP key (table_view top.now)) }
     ensures few { IfOk result (λ x. length x.items ≤ 256) }
 {
-    tables(alloc, 1, 256, TOP, key, required(TOP, key, top)?)
+    let values = array(1, 256, TOP, key, required(TOP, key, top)?)?;
+    tables(alloc, TOP, key, values)
 }
 
 /// Up to 256 tables at a key of the top, where it is there.
-#[tactic(auto, unfolding(crate::specs::Text::Reading::optional))]
+#[tactic(auto, unfolding(crate::specs::Text::Reading::optional, crate::specs::Text::Reading::a_list))]
 fn optional_tables<'a>(
     alloc: Global,
     key: Key,
@@ -81,7 +82,10 @@ fn optional_tables<'a>(
     ensures few { IfOk result (λ x. IfSome x (λ t. length t.items ≤ 256)) }
 {
     match find(top, key) {
-        Some(value) => Ok(Some(tables(alloc, 0, 256, TOP, key, value)?)),
+        Some(value) => {
+            let values = array(0, 256, TOP, key, value)?;
+            Ok(Some(tables(alloc, TOP, key, values)?))
+        }
         None => Ok(None),
     }
 }

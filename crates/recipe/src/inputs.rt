@@ -4,7 +4,7 @@ ghost use Rattle.recipe.specs.Text.Inside.Views.{tables_view};
 ghost use Rattle.recipe.specs.Text.Reading.{Gives, a_path, gathered, required};
 ghost use Rattle.recipe.specs.Tables.{input_table, next_input};
 
-use crate::names::required_new_name;
+use crate::names::{Above, required_new_name};
 use crate::parts::Input;
 use crate::text::{Key, Path, Place, RecipeRefusal, no_other_key, optional_name, path, required};
 use ddc_base::ListOf;
@@ -47,7 +47,12 @@ fn input_of(
 ) -> Result<Input, RecipeRefusal>
     ensures { Gives (λ x. x) result (input_table inputs.now place (table_view table.now)) }
 {
-    let name = required_new_name(inputs, &[], &[], place, table)?;
+    let above = Above {
+        inputs,
+        sources: &[],
+        stages: &[],
+    };
+    let name = required_new_name(&above, place, table)?;
     let path = required_path(alloc, place, table)?;
     let implements = optional_name(place, Key::Implements, table)?;
     no_other_key(place, &[Key::Name, Key::Path, Key::Implements], table)?;

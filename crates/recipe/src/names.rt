@@ -10,53 +10,49 @@ use crate::text::{Key, Place, RecipeRefusal, name, required};
 use ddc_base::Name;
 use toml::{Table, Value};
 
-/// The name of a table, which none of these has.
+/// What stands above a table: the inputs, sources and stages that are read by then.
+#[derive(Clone, Copy)]
+pub(crate) struct Above<'a> {
+    pub(crate) inputs: &'a [Input],
+    pub(crate) sources: &'a [Source],
+    pub(crate) stages: &'a [Stage],
+}
+
+/// The name of a table, which none above has.
 #[tactic(auto, unfolding(crate::specs::Text::Reading::required))]
 pub(crate) fn required_new_name(
-    inputs: &[Input],
-    sources: &[Source],
-    stages: &[Stage],
+    above: &Above<'_>,
     place: Place,
     table: &Table,
 ) -> Result<Name, RecipeRefusal>
-    ensures value { Gives (λ x. x) result (required (a_new_name inputs.now sources.now stages.now) place Key.Name (table_view table.now)) }
+    ensures value { Gives (λ x. x) result (required (a_new_name above.now.inputs.now above.now.sources.now above.now.stages.now) place Key.Name (table_view table.now)) }
     ensures memory { NeverWants result }
 {
-    new_name(
-        inputs,
-        sources,
-        stages,
-        place,
-        required(place, Key::Name, table)?,
-    )
+    new_name(above, place, required(place, Key::Name, table)?)
 }
 
 /// The same, of the value.
 #[tactic(auto, unfolding(crate::specs::Tables::a_new_name))]
-fn new_name(
-    inputs: &[Input],
-    sources: &[Source],
-    stages: &[Stage],
-    place: Place,
-    value: &Value,
-) -> Result<Name, RecipeRefusal>
-    ensures value { Gives (λ x. x) result (a_new_name inputs.now sources.now stages.now place Key.Name (view value.now)) }
+fn new_name(above: &Above<'_>, place: Place, value: &Value) -> Result<Name, RecipeRefusal>
+    ensures value { Gives (λ x. x) result (a_new_name above.now.inputs.now above.now.sources.now above.now.stages.now place Key.Name (view value.now)) }
     ensures memory { NeverWants result }
 {
     let name = name(place, Key::Name, value)?;
-    if is_taken(inputs, sources, stages, &name) {
+    if is_taken(above, &name) {
         Err(RecipeRefusal::DoubleName(place, Key::Name))
     } else {
         Ok(name)
     }
 }
 
-/// Whether one of these has the name.
+/// Whether a table above has the name.
 #[tactic(auto, unfolding(crate::specs::Tables::is_taken))]
-fn is_taken(inputs: &[Input], sources: &[Source], stages: &[Stage], name: &Name) -> bool
-    ensures { result ≡ is_taken inputs.now sources.now stages.now name.now }
+fn is_taken(above: &Above<'_>, name: &Name) -> bool
+    ensures { result ≡ is_taken above.now.inputs.now above.now.sources.now above.now.stages.now name.now }
 {
-    is_input_name(inputs, name) || is_source_name(sources, name) || is_stage_name(stages, name)
+    is_input_name(above.inputs, name)
+        || is_source_name(above.sources, name)
+        || is_stage_name(above.stages, name)
 }
 
 fn is_input_name(inputs: &[Input], name: &Name) -> bool

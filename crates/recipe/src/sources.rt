@@ -4,10 +4,10 @@ ghost use Rattle.recipe.specs.Text.Inside.Views.{tables_view};
 ghost use Rattle.recipe.specs.Text.Reading.{Gives, NeverWants, a_list, a_name, gathered, required};
 ghost use Rattle.recipe.specs.Tables.{a_language, next_source, source_language, source_table};
 
-use crate::names::required_new_name;
+use crate::names::{Above, required_new_name};
 use crate::parts::{Input, Source, SourceLanguage};
 use crate::text::{
-    Key, Place, RecipeRefusal, names, no_other_key, optional_number, required, text,
+    Key, Place, RecipeRefusal, array, names, no_other_key, optional_number, required, text,
 };
 use ddc_base::languages::Language;
 use ddc_base::{ListOf, Name};
@@ -63,7 +63,12 @@ fn source_of(
 ) -> Result<Source, RecipeRefusal>
     ensures { Gives (λ x. x) result (source_table inputs.now sources.now place (table_view table.now)) }
 {
-    let name = required_new_name(inputs, sources, &[], place, table)?;
+    let above = Above {
+        inputs,
+        sources,
+        stages: &[],
+    };
+    let name = required_new_name(&above, place, table)?;
     let lang = required_language(place, table)?;
     let base = optional_number(0, 1 << 37, place, Key::Base, table)?.unwrap_or(DEFAULT_BASE);
     let files = required_names(alloc, place, table)?;
@@ -109,16 +114,11 @@ fn source_language(word: &[u8]) -> Option<SourceLanguage>
 }
 
 /// The files of a source.
-#[tactic(auto, unfolding(crate::specs::Text::Reading::required))]
+#[tactic(auto, unfolding(crate::specs::Text::Reading::required, crate::specs::Text::Reading::a_list))]
 fn required_names(alloc: Global, place: Place, table: &Table) -> Result<ListOf<Name>, RecipeRefusal>
     ensures { Gives (λ x. x) result (required (a_list a_name 1 64) place Key.Files (table_view table.now)) }
 {
-    names(
-        alloc,
-        1,
-        64,
-        place,
-        Key::Files,
-        required(place, Key::Files, table)?,
-    )
+    let value = required(place, Key::Files, table)?;
+    let values = array(1, 64, place, Key::Files, value)?;
+    names(alloc, place, Key::Files, values)
 }

@@ -4,11 +4,11 @@ ghost use Rattle.recipe.specs.Text.Inside.Views.{tables_view};
 ghost use Rattle.recipe.specs.Text.Reading.{Gives, a_list, a_word, gathered, optional, required};
 ghost use Rattle.recipe.specs.Tables.{next_stage, stage_table};
 
-use crate::names::required_new_name;
+use crate::names::{Above, required_new_name};
 use crate::parts::{Input, Source, Stage};
 use crate::stage_files::{optional_files, required_output};
 use crate::text::{
-    Key, Place, RecipeRefusal, find, no_other_key, optional_name, optional_number, required,
+    Key, Place, RecipeRefusal, array, find, no_other_key, optional_name, optional_number, required,
     required_name, required_number, words,
 };
 use ddc_base::{Bytes, ListOf};
@@ -66,22 +66,25 @@ fn next_stage(
         table: crate::text::Table::Stage,
         number: stages.len() as u32 + 1,
     };
-    stage_of(alloc, inputs, sources, stages.as_slice(), place, table)
+    let above = Above {
+        inputs,
+        sources,
+        stages: stages.as_slice(),
+    };
+    stage_of(alloc, &above, place, table)
 }
 
 /// The stage that a table says at its place.
 #[tactic(auto, unfolding(crate::specs::Tables::stage_table))]
 fn stage_of(
     alloc: Global,
-    inputs: &[Input],
-    sources: &[Source],
-    stages: &[Stage],
+    above: &Above<'_>,
     place: Place,
     table: &Table,
 ) -> Result<Stage, RecipeRefusal>
-    ensures { Gives (λ x. x) result (stage_table inputs.now sources.now stages.now place (table_view table.now)) }
+    ensures { Gives (λ x. x) result (stage_table above.now.inputs.now above.now.sources.now above.now.stages.now place (table_view table.now)) }
 {
-    let name = required_new_name(inputs, sources, stages, place, table)?;
+    let name = required_new_name(above, place, table)?;
     let program = required_name(place, Key::Program, table)?;
     let args = required_args(alloc, place, table)?;
     let env = optional_env(alloc, place, table)?.unwrap_or(ListOf::new(alloc));
@@ -107,22 +110,17 @@ fn stage_of(
 }
 
 /// The arguments of a stage's program.
-#[tactic(auto, unfolding(crate::specs::Text::Reading::required))]
+#[tactic(auto, unfolding(crate::specs::Text::Reading::required, crate::specs::Text::Reading::a_list))]
 fn required_args(alloc: Global, place: Place, table: &Table) -> Result<ListOf<Bytes>, RecipeRefusal>
     ensures { Gives (λ x. x) result (required (a_list a_word 1 64) place Key.Args (table_view table.now)) }
 {
-    words(
-        alloc,
-        1,
-        64,
-        place,
-        Key::Args,
-        required(place, Key::Args, table)?,
-    )
+    let value = required(place, Key::Args, table)?;
+    let values = array(1, 64, place, Key::Args, value)?;
+    words(alloc, place, Key::Args, values)
 }
 
 /// The environment of a stage's program, where it names one.
-#[tactic(auto, unfolding(crate::specs::Text::Reading::optional))]
+#[tactic(auto, unfolding(crate::specs::Text::Reading::optional, crate::specs::Text::Reading::a_list))]
 fn optional_env(
     alloc: Global,
     place: Place,
@@ -131,7 +129,10 @@ fn optional_env(
     ensures { Gives (λ x. x) result (optional (a_list a_word 0 64) place Key.Env (table_view table.now)) }
 {
     match find(table, Key::Env) {
-        Some(value) => Ok(Some(words(alloc, 0, 64, place, Key::Env, value)?)),
+        Some(value) => {
+            let values = array(0, 64, place, Key::Env, value)?;
+            Ok(Some(words(alloc, place, Key::Env, values)?))
+        }
         None => Ok(None),
     }
 }

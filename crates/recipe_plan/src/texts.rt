@@ -73,49 +73,23 @@ pub fn compared_lines(alloc: Global, lines: &[CompareLine]) -> Result<Bytes, Out
     Ok(text)
 }
 
-/// Adds how a compared artefact and the binary compare.
-#[tactic(auto, unfolding(crate::specs::Texts::compared_line))]
+/// Adds how a compared artefact and the binary compare: of an equal one its length, else the first offset and both lengths.
+#[tactic(auto, using(crate::proofs::Written::written), unfolding(crate::specs::Texts::compared_line))]
 fn put_compared(alloc: Global, text: &mut Bytes, line: &CompareLine) -> Result<(), OutOfMemory>
     ensures { OnOk result (text.new ≡ text.old ++ compared_line line.now) }
 {
     match line.result {
-        Compared::Equal(size) => put_equal(alloc, text, line, size),
+        Compared::Equal(size) => {
+            text.extend(b"equal ")?;
+            put_names(text, line)?;
+            text.extend(format!(in alloc; "{size}\n")?.as_bytes())
+        }
         Compared::Differs(offset, made, given) => {
-            put_differs(alloc, text, line, offset, made, given)
+            text.extend(b"differs ")?;
+            put_names(text, line)?;
+            text.extend(format!(in alloc; "{offset} {made} {given}\n")?.as_bytes())
         }
     }
-}
-
-/// They are equal, of this length.
-#[tactic(auto, using(crate::proofs::Written::written))]
-fn put_equal(
-    alloc: Global,
-    text: &mut Bytes,
-    names: &CompareLine,
-    size: u64,
-) -> Result<(), OutOfMemory>
-    ensures { OnOk result (text.new ≡ text.old ++ line (codes "equal" ∷ names.now.stage ∷ names.now.binary ∷ decimal size ∷ [])) }
-{
-    text.extend(b"equal ")?;
-    put_names(text, names)?;
-    text.extend(format!(in alloc; "{size}\n")?.as_bytes())
-}
-
-/// They differ first at this offset, and have these lengths.
-#[tactic(auto, using(crate::proofs::Written::written))]
-fn put_differs(
-    alloc: Global,
-    text: &mut Bytes,
-    names: &CompareLine,
-    offset: u64,
-    made: u64,
-    given: u64,
-) -> Result<(), OutOfMemory>
-    ensures { OnOk result (text.new ≡ text.old ++ line (codes "differs" ∷ names.now.stage ∷ names.now.binary ∷ decimal offset ∷ decimal made ∷ decimal given ∷ [])) }
-{
-    text.extend(b"differs ")?;
-    put_names(text, names)?;
-    text.extend(format!(in alloc; "{offset} {made} {given}\n")?.as_bytes())
 }
 
 /// Adds the names of the stage and of the binary, with a blank after each.

@@ -14,6 +14,7 @@ use Rattle.report.specs.declared.types.StageLine.{StageLine}
 use Rattle.report.specs.declared.types.CompareLine.{CompareLine}
 use Rattle.report.specs.declared.types.Compared.TheVariants.{Equal}
 use Rattle.report.specs.declared.types.Report.{Report}
+use Rattle.report.specs.declared.state.BlockFront.{BlockFront}
 use Rattle.report.specs.declared.state.Front.{Front}
 use Rattle.report.specs.declared.state.Opened.{Opened}
 use Rattle.report.specs.declared.state.State.{State}
@@ -56,7 +57,7 @@ Good Start = Unit {0}
 Good (Titled form) = IsForm form
 Good (Inputs form recipe inputs) = IsDigest recipe × (length inputs ≤ 256) × All IsInputLine inputs × IsForm form
 Good (Named front name steps) = HasRoom front × IsName name × (steps < 2 ^ 64)
-Good (Heard front name steps stream1) = HasRoom front × IsName name × (steps < 2 ^ 64) × IsMark stream1
+Good (Heard front stage) = HasRoom front × IsName stage.name × (stage.steps < 2 ^ 64) × IsMark stage.stream1
 Good (Leaving front stage) = HasRoom front × IsOpened stage
 Good (Closing front stage made) = HasRoom front × IsOpened stage × IsMark made
 Good (Stages front) = IsFront front × (1 ≤ length front.stages)
@@ -97,9 +98,10 @@ step_keeps (Inputs form recipe inputs) (Stage name steps) t good is e =
     let some : 1 ≤ length inputs = omega (arith, is_below _ _ p.0) in
     let fits : IsFront front = record { form = good.3; recipe = good.0; inputs = (some, good.1); each_input = good.2; stages = omega arith; each_stage = All-nil IsStageLine } in
     subst Good (same_some (Named front name steps) t p.1) (record { fits = fits; room = lit< tt }, is.0, is.1)
-step_keeps (Named front name steps) (Stream1 mark) t good is e = subst Good (same_some (Heard front name steps mark) t e) (good.0, good.1, good.2, is)
-step_keeps (Heard front name steps stream1) (Stream2 mark) t good is e =
-    let opened : Opened = record { name = name; steps = steps; stream1 = stream1; stream2 = mark; left = [] } in
+step_keeps (Named front name steps) (Stream1 mark) t good is e =
+    subst Good (same_some (Heard front (record { name = name; steps = steps; stream1 = mark })) t e) (good.0, good.1, good.2, is)
+step_keeps (Heard front stage) (Stream2 mark) t good is e =
+    let opened : Opened = record { name = stage.name; steps = stage.steps; stream1 = stage.stream1; stream2 = mark; left = [] } in
     let fits : IsOpened opened = record { name = good.1; steps = good.2; stream1 = good.3; stream2 = is; count = omega arith; each_left = All-nil IsLeft; ascending = refl } in
     subst Good (same_some (Leaving front opened) t e) (good.0, fits)
 step_keeps (Leaving front stage) (Left file) t good is e =
@@ -204,13 +206,14 @@ from_leaving : (front : Front) (stage : Opened) → Good (Leaving front stage) �
 unfolding step
 from_leaving front stage good = by (Leaving front stage) (Made some_mark) _ some_mark_is refl good (from_closing front stage some_mark)
 
-from_heard : (front : Front) (name : List ℕ) (steps : ℕ) (mark : Mark) → Good (Heard front name steps mark) → Finished (Heard front name steps mark)
+from_heard : (front : Front) (stage : BlockFront) → Good (Heard front stage) → Finished (Heard front stage)
 unfolding step
-from_heard front name steps mark good = by (Heard front name steps mark) (Stream2 some_mark) _ some_mark_is refl good (from_leaving front _)
+from_heard front stage good = by (Heard front stage) (Stream2 some_mark) _ some_mark_is refl good (from_leaving front _)
 
 from_named : (front : Front) (name : List ℕ) (steps : ℕ) → Good (Named front name steps) → Finished (Named front name steps)
 unfolding step
-from_named front name steps good = by (Named front name steps) (Stream1 some_mark) _ some_mark_is refl good (from_heard front name steps some_mark)
+from_named front name steps good =
+    by (Named front name steps) (Stream1 some_mark) _ some_mark_is refl good (from_heard front (record { name = name; steps = steps; stream1 = some_mark }))
 
 from_inputs : (form : ℕ) (recipe : Digest) (input : InputLine) (inputs : List InputLine) → Good (Inputs form recipe (input ∷ inputs))
     → Finished (Inputs form recipe (input ∷ inputs))
@@ -238,7 +241,7 @@ finished (Titled form) good = from_titled form good
 finished (Inputs form recipe []) good = from_no_input form recipe good
 finished (Inputs form recipe (input ∷ inputs)) good = from_inputs form recipe input inputs good
 finished (Named front name steps) good = from_named front name steps good
-finished (Heard front name steps mark) good = from_heard front name steps mark good
+finished (Heard front stage) good = from_heard front stage good
 finished (Leaving front stage) good = from_leaving front stage good
 finished (Closing front stage made) good = from_closing front stage made good
 finished (Stages front) good = from_stages front good

@@ -27,7 +27,7 @@ so_far Start = []
 so_far (Titled form) = Header form ∷ []
 so_far (Inputs form recipe inputs) = Header form ∷ Recipe recipe ∷ map Input inputs
 so_far (Named front name steps) = front_of front ++ Stage name steps ∷ []
-so_far (Heard front name steps stream1) = front_of front ++ Stage name steps ∷ Stream1 stream1 ∷ []
+so_far (Heard front stage) = front_of front ++ Stage stage.name stage.steps ∷ Stream1 stage.stream1 ∷ []
 so_far (Leaving front stage) = front_of front ++ opened_lines stage
 so_far (Closing front stage made) = front_of front ++ (opened_lines stage ++ Made made ∷ [])
 so_far (Stages front) = front_of front
@@ -59,10 +59,11 @@ step_takes (Inputs form recipe inputs) (Stage name steps) t e =
     let p = if_some (ltb 0 (length inputs)) (Some (Named front name steps)) t e in
     grows t (Named front name steps) (Stage name steps) p.1 (Header form ∷ Recipe recipe ∷ map Input inputs) (ap (λ (ls : List ReportLine). ls ++ Stage name steps ∷ []) (no_stages form recipe inputs))
 step_takes (Named front name steps) (Stream1 mark) t e =
-    grows t (Heard front name steps mark) (Stream1 mark) e (front_of front ++ Stage name steps ∷ []) (sym (append_assoc (front_of front) (Stage name steps ∷ []) (Stream1 mark ∷ [])))
-step_takes (Heard front name steps stream1) (Stream2 mark) t e =
-    grows t (Leaving front (record { name = name; steps = steps; stream1 = stream1; stream2 = mark; left = [] })) (Stream2 mark) e
-    (front_of front ++ Stage name steps ∷ Stream1 stream1 ∷ []) (sym (append_assoc (front_of front) (Stage name steps ∷ Stream1 stream1 ∷ []) (Stream2 mark ∷ [])))
+    grows t (Heard front (record { name = name; steps = steps; stream1 = mark })) (Stream1 mark) e (front_of front ++ Stage name steps ∷ []) (sym (append_assoc (front_of front) (Stage name steps ∷ []) (Stream1 mark ∷ [])))
+step_takes (Heard front stage) (Stream2 mark) t e =
+    grows t (Leaving front (record { name = stage.name; steps = stage.steps; stream1 = stage.stream1; stream2 = mark; left = [] })) (Stream2 mark) e
+    (front_of front ++ Stage stage.name stage.steps ∷ Stream1 stage.stream1 ∷ [])
+    (sym (append_assoc (front_of front) (Stage stage.name stage.steps ∷ Stream1 stage.stream1 ∷ []) (Stream2 mark ∷ [])))
 step_takes (Leaving front stage) (Left file) t e =
     let next = Leaving front (record stage { left = stage.left ++ file ∷ [] }) in
     let p = if_some (ltb (length stage.left) 4096) (cond (follows stage.left file.name) (Some next) None) t e in

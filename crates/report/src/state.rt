@@ -35,6 +35,14 @@ pub struct Front {
     pub stages: StageLines,
 }
 
+/// A stage's block up to its first stream.
+#[derive(Drop)]
+pub struct BlockFront {
+    pub name: Name,
+    pub steps: u64,
+    pub stream1: Mark,
+}
+
 /// A stage's block up to its left files.
 #[derive(Drop)]
 pub struct Opened {
@@ -57,7 +65,7 @@ pub enum State {
     /// In a block: the stage's name and steps.
     Named(Front, Name, u64),
     /// In a block: its first stream too.
-    Heard(Front, Name, u64, Mark),
+    Heard(Front, BlockFront),
     /// In a block: both streams, and these left files.
     Leaving(Front, Opened),
     /// In a block: what it made too.
@@ -83,9 +91,7 @@ impl State {
                 after_inputs(alloc, form, recipe, inputs, line)
             }
             State::Named(front, name, steps) => Ok(after_name(front, name, steps, line)),
-            State::Heard(front, name, steps, stream1) => {
-                Ok(after_stream1(alloc, front, name, steps, stream1, line))
-            }
+            State::Heard(front, stage) => Ok(after_stream1(alloc, front, stage, line)),
             State::Leaving(front, stage) => after_stream2(front, stage, line),
             State::Closing(front, stage, made) => after_made(front, stage, made, line),
             State::Stages(front) => after_stages(alloc, front, line),
@@ -155,28 +161,28 @@ fn after_name(front: Front, name: Name, steps: u64, line: ReportLine) -> Option<
     ensures { result ≡ step (state.Named front name steps) line }
 {
     match line {
-        ReportLine::Stream1(mark) => Some(State::Heard(front, name, steps, mark)),
+        ReportLine::Stream1(stream1) => {
+            let stage = BlockFront {
+                name,
+                steps,
+                stream1,
+            };
+            Some(State::Heard(front, stage))
+        }
         _ => None,
     }
 }
 
 #[tactic(auto, unfolding(crate::specs::Inside::States::step))]
-fn after_stream1(
-    alloc: Global,
-    front: Front,
-    name: Name,
-    steps: u64,
-    stream1: Mark,
-    line: ReportLine,
-) -> Option<State>
-    ensures { result ≡ step (state.Heard front name steps stream1) line }
+fn after_stream1(alloc: Global, front: Front, stage: BlockFront, line: ReportLine) -> Option<State>
+    ensures { result ≡ step (state.Heard front stage) line }
 {
     match line {
         ReportLine::Stream2(stream2) => {
             let opened = Opened {
-                name,
-                steps,
-                stream1,
+                name: stage.name,
+                steps: stage.steps,
+                stream1: stage.stream1,
                 stream2,
                 left: ListOf::new(alloc),
             };

@@ -10,3 +10,4 @@ mod ScriptEnds
 mod ScriptPlaces
 mod PlaceSteps
 mod Worded
+pub mod Written

@@ -1,13 +1,11 @@
 //! The texts of the command `run`, and its answers where a run failed.
 
-ghost use Rattle.std.specs.Prelude.{◌≡◌, ◌∷◌, ◌++◌, [], OnOk, IfOk, codes, decimal, string_bytes, unwrap_or, IsTrue};
+ghost use Rattle.std.specs.Prelude.{◌≡◌, ◌++◌, [], OnOk, IfOk, unwrap_or, IsTrue};
 ghost use Rattle.std.specs.List.{flat_map};
-ghost use Rattle.hex.specs.Hex.{encode_lower};
 ghost use Rattle.mem_files.specs.Calls.{content_at};
 ghost use Rattle.mem_files.specs.Names.{is_stripped_name};
 ghost use Rattle.mem_files.specs.Outputs.{left};
 ghost use Rattle.mem_files.specs.Sound.{IsSound};
-ghost use Rattle.ddc_base.specs.Lines.{line};
 ghost use Rattle.command_plan.specs.declared.status.Status.TheVariants.{RunFailed};
 ghost use Rattle.command_plan.specs.Plan.{answers};
 ghost use Rattle.command_plan.specs.Steps.{Says};
@@ -20,13 +18,6 @@ use elf_load::ElfRefusal;
 use mem_files::Files;
 use rv64_machine::Cause;
 use std::alloc::Global;
-
-/// Bytes in hexadecimal.
-fn hex_text(alloc: Global, bytes: &[u8]) -> Result<String, OutOfMemory>
-    ensures { IfOk result (λ text. string_bytes text ≡ encode_lower bytes.now) }
-{
-    Ok(hex::encode(alloc, bytes)?)
-}
 
 /// The line of a run that failed.
 #[tactic(auto, unfolding(crate::specs::RunProgram::failed_line))]
@@ -99,28 +90,15 @@ fn exited(alloc: Global, status: u8, step: u64) -> Result<Bytes, OutOfMemory>
     Ok(Bytes::from_vec(format!(in alloc; "exited {status} step {step}\n")?.into_bytes()))
 }
 
-/// The line of a stream.
-#[tactic(auto, unfolding(crate::specs::RunProgram::stream_line))]
-fn stream(alloc: Global, which: u8, bytes: &[u8]) -> Result<Bytes, OutOfMemory>
-    ensures { IfOk result (λ text. text ≡ stream_line which bytes.now) }
-{
-    let digest = hex_text(alloc, &digest(bytes).0)?;
-    stream_words(alloc, which, bytes.len(), digest.as_str())
-}
-
-/// The line of a stream, by its length and its digest.
-fn stream_words(alloc: Global, which: u8, size: usize, digest: &str) -> Result<Bytes, OutOfMemory>
-    ensures { IfOk result (λ text. text ≡ line (codes "stream" ∷ decimal which ∷ decimal size ∷ digest.now ∷ [])) }
-{
-    Ok(Bytes::from_vec(format!(in alloc; "stream {which} {size} {digest}\n")?.into_bytes()))
-}
-
 /// Adds the line of a stream.
+#[tactic(auto, using(crate::proofs::Written::written), unfolding(crate::specs::RunProgram::stream_line))]
 fn put_stream(alloc: Global, text: &mut Bytes, which: u8, bytes: &[u8]) -> Result<(), OutOfMemory>
     ensures { OnOk result (text.new ≡ text.old ++ stream_line which bytes.now) }
 {
-    let line = stream(alloc, which, bytes)?;
-    text.extend(line.as_slice())
+    let size = bytes.len();
+    text.extend(format!(in alloc; "stream {which} {size} ")?.as_bytes())?;
+    put_hex(text, &digest(bytes).0)?;
+    text.push(b'\n')
 }
 
 /// Adds the line of a file that is left.

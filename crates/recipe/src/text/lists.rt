@@ -2,7 +2,7 @@
 
 ghost use Rattle.std.specs.Prelude.{◌≤◌, IfOk, length, map, []};
 ghost use Rattle.toml.specs.View.{view};
-ghost use Rattle.recipe.specs.Text.Reading.{Gives, NeverWants, a_list, a_name, a_table, a_word, an_array, gathered};
+ghost use Rattle.recipe.specs.Text.Reading.{Gives, NeverWants, a_name, a_table, a_word, an_array, gathered};
 ghost use Rattle.recipe.specs.Text.Inside.Views.{tables_view};
 
 use crate::text::keys::{Key, Place};
@@ -39,23 +39,8 @@ pub fn array(
     }
 }
 
-/// A list of `least` to `most` names.
-#[tactic(auto, unfolding(crate::specs::Text::Reading::a_list))]
-pub fn names(
-    alloc: Global,
-    least: usize,
-    most: usize,
-    place: Place,
-    key: Key,
-    value: &Value,
-) -> Result<ListOf<Name>, RecipeRefusal>
-    ensures { Gives (λ x. x) result (a_list a_name least most place key (view value.now)) }
-{
-    names_of(alloc, place, key, array(least, most, place, key, value)?)
-}
-
 /// Names, one a value.
-fn names_of(
+pub fn names(
     alloc: Global,
     place: Place,
     key: Key,
@@ -71,23 +56,8 @@ fn names_of(
     Ok(names)
 }
 
-/// A list of `least` to `most` words for a program.
-#[tactic(auto, unfolding(crate::specs::Text::Reading::a_list))]
-pub fn words(
-    alloc: Global,
-    least: usize,
-    most: usize,
-    place: Place,
-    key: Key,
-    value: &Value,
-) -> Result<ListOf<Bytes>, RecipeRefusal>
-    ensures { Gives (λ x. x) result (a_list a_word least most place key (view value.now)) }
-{
-    words_of(alloc, place, key, array(least, most, place, key, value)?)
-}
-
 /// Words for a program, one a value.
-fn words_of(
+pub fn words(
     alloc: Global,
     place: Place,
     key: Key,
@@ -103,24 +73,8 @@ fn words_of(
     Ok(words)
 }
 
-/// A list of `least` to `most` tables.
-#[tactic(auto, unfolding(crate::specs::Text::Reading::a_list))]
-pub fn tables(
-    alloc: Global,
-    least: usize,
-    most: usize,
-    place: Place,
-    key: Key,
-    value: &Value,
-) -> Result<Vec<&Table>, RecipeRefusal>
-    ensures tables { Gives (λ x. tables_view x.items) result (a_list a_table least most place key (view value.now)) }
-    ensures few { IfOk result (λ x. length x.items ≤ most) }
-{
-    tables_of(alloc, place, key, array(least, most, place, key, value)?)
-}
-
 /// Tables, one a value.
-fn tables_of(
+pub fn tables(
     alloc: Global,
     place: Place,
     key: Key,

@@ -46,9 +46,9 @@ step (Inputs form recipe inputs) (Input input) =
     if nat_lt (length inputs) 256 then Some (Inputs form recipe (inputs ++ input ∷ [])) else None
 step (Inputs form recipe inputs) (Stage name steps) =
     if nat_lt 0 (length inputs) then Some (Named (record { form = form; recipe = recipe; inputs = inputs; stages = [] }) name steps) else None
-step (Named front name steps) (Stream1 mark) = Some (Heard front name steps mark)
-step (Heard front name steps stream1) (Stream2 mark) =
-    Some (Leaving front (record { name = name; steps = steps; stream1 = stream1; stream2 = mark; left = [] }))
+step (Named front name steps) (Stream1 mark) = Some (Heard front (record { name = name; steps = steps; stream1 = mark }))
+step (Heard front stage) (Stream2 mark) =
+    Some (Leaving front (record { name = stage.name; steps = stage.steps; stream1 = stage.stream1; stream2 = mark; left = [] }))
 step (Leaving front stage) (Left file) =
     if nat_lt (length stage.left) 4096
     then (if follows stage.left file.name then Some (Leaving front (record stage { left = stage.left ++ file ∷ [] })) else None)

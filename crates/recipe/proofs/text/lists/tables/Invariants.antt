@@ -3,7 +3,7 @@ use Rattle.toml.specs.View.{view}
 use Rattle.recipe.specs.Text.Inside.Views.{tables_view}
 use Rattle.recipe.specs.Text.Reading.{a_table}
 use Rattle.recipe.proofs.TextLemmas.Walks.{Gathers}
-use Rattle.recipe.proofs.text.lists.tables_of.Given as goal
+use Rattle.recipe.proofs.text.lists.tables.Given as goal
 
 abbrev pub invariant-loop-value : goal.invariant-loop-value
 invariant-loop-value l = record {

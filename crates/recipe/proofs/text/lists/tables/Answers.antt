@@ -5,7 +5,7 @@ use Rattle.toml.specs.View.{view, table_view}
 use Rattle.recipe.specs.Text.Inside.Views.{TableRef, tables_view}
 use Rattle.recipe.specs.Text.Reading.{a_table}
 use Rattle.recipe.proofs.TextLemmas.Walks.{gathers_more, gathers_fails, gathers_all}
-use Rattle.recipe.proofs.text.lists.tables_of.Goals as goal
+use Rattle.recipe.proofs.text.lists.tables.Goals as goal
 
 pub returns-in_err-table-clause-tables : goal.returns-in_err-table-clause-tables
 returns-in_err-table-clause-tables c =

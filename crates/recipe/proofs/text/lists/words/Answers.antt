@@ -2,7 +2,7 @@ use Rattle.std.proofs.lemmas.Result.{err_from_is_err_and}
 use Rattle.toml.specs.View.{view}
 use Rattle.recipe.specs.Text.Reading.{a_word}
 use Rattle.recipe.proofs.TextLemmas.Walks.{gathers_more, gathers_fails, gathers_all}
-use Rattle.recipe.proofs.text.lists.words_of.Goals as goal
+use Rattle.recipe.proofs.text.lists.words.Goals as goal
 
 pub returns-in_err-word : goal.returns-in_err-word
 returns-in_err-word c =

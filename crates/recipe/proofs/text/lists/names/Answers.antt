@@ -2,7 +2,7 @@ use Rattle.std.proofs.lemmas.Result.{err_from_is_err_and}
 use Rattle.toml.specs.View.{view}
 use Rattle.recipe.specs.Text.Reading.{a_name}
 use Rattle.recipe.proofs.TextLemmas.Walks.{gathers_more, gathers_fails, gathers_all}
-use Rattle.recipe.proofs.text.lists.names_of.Goals as goal
+use Rattle.recipe.proofs.text.lists.names.Goals as goal
 
 pub returns-in_err-name : goal.returns-in_err-name
 returns-in_err-name c =
