@@ -84,20 +84,20 @@ pub(crate) fn place_of_item(
         let byte = source[at];
         if opens_gap(byte) {
             at += gap_length(&source[at..]);
-        } else {
-            match token_at(dialect, byte, &source[at + 1..]) {
-                Err(_) => return Ok(None),
-                Ok((token, more)) => {
-                    let first = first_offset(&word, at);
-                    match take(&mut items, word, at, token) {
-                        Err(halt) => return stopped(halt),
-                        Ok(next) => {
-                            if index < items.len() as u64 {
-                                return Ok(Some(first));
-                            }
-                            word = next;
-                            at += 1 + more;
+            continue;
+        }
+        match token_at(dialect, byte, &source[at + 1..]) {
+            Err(_) => return Ok(None),
+            Ok((token, more)) => {
+                let first = first_offset(&word, at);
+                match take(&mut items, word, at, token) {
+                    Err(halt) => return stopped(halt),
+                    Ok(next) => {
+                        if index < items.len() as u64 {
+                            return Ok(Some(first));
                         }
+                        word = next;
+                        at += 1 + more;
                     }
                 }
             }
