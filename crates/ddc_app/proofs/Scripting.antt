@@ -18,7 +18,6 @@ use Rattle.report.specs.declared.script.types.ScriptReport.{ScriptReport}
 use Rattle.report.proofs.ScriptLemmas.Lengths.{short}
 use Rattle.report.proofs.LineByLine.Readings.{is_reading, read_its_text}
 use Rattle.report.proofs.ScriptLemmas.Readings.{script_rules}
-use Rattle.kaem_script.specs.declared.auditing.ScriptEnd.TheVariants.{Done}
 use Rattle.kaem_script.specs.declared.cause.CommandCause.{CommandCause}
 use Rattle.kaem_script.specs.declared.cause.CommandCause.TheVariants as cause
 use Rattle.kaem_script.specs.declared.leaving.CommandLeft.{CommandLeft}
@@ -293,7 +292,7 @@ module _ (script list report : List ℕ) (files : NamedFiles) where
   shows_true said listed text made held reads none =
       by (folded (2 ^ 48) listed.world said.commands) refl (no_fault_reports said listed made none)
     where
-      by : (f : Folded) → folded (2 ^ 48) listed.world said.commands ≡ f → script_ended said listed f ≡ Done made → IsScriptTrue report files said listed
+      by : (f : Folded) → folded (2 ^ 48) listed.world said.commands ≡ f → script_ended said listed f ≡ Ok made → IsScriptTrue report files said listed
       by (Stopped number cause step) was ends = absurd cc
       by (RanAll ran world) was ends =
           let same : script_report said listed ran world ≡ made = cc in

@@ -3,8 +3,9 @@
 use crate::exit_program::EXIT;
 use crate::scripts::listed;
 use ddc_base::{Bytes, OutOfMemory};
-use kaem_script::{FileList, Script, ScriptEnd, ScriptPart, ScriptVerdict, audit, read, verify};
+use kaem_script::{FileList, Script, ScriptPart, ScriptStop, ScriptVerdict, audit, read, verify};
 use report::script;
+use report::script::ScriptReport;
 use std::alloc::Global;
 use std::process::Abort;
 
@@ -267,16 +268,16 @@ fn a_program_that_does_not_start_has_no_run(rt: HostRuntime) {
 fn is_verified_end(
     alloc: Global,
     script: &Script,
-    end: &ScriptEnd,
+    end: &Result<ScriptReport, ScriptStop>,
     files: &FileList,
     others: &FileList,
 ) -> bool {
     match end {
-        ScriptEnd::Done(report) => {
+        Ok(report) => {
             verify(alloc, script, files, report) == ScriptVerdict::Yes
                 && verify(alloc, script, others, report) != ScriptVerdict::Yes
         }
-        _ => false,
+        Err(_) => false,
     }
 }
 

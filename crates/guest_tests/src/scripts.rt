@@ -7,7 +7,7 @@ use ddc_base::digests::Digest;
 use ddc_base::{Bytes, OutOfMemory, read_hex};
 use elf_load::ElfRefusal;
 use kaem_script::{
-    CommandCause, FileList, Script, ScriptEnd, ScriptFault, ScriptRefusal, audit, read,
+    CommandCause, FileList, Script, ScriptFault, ScriptRefusal, ScriptStop, audit, read,
 };
 use mem_files::PlaceRefusal;
 use report::LeftLine;
@@ -265,15 +265,22 @@ fn is_report(alloc: Global, report: &ScriptReport, wanted: Ending) -> bool {
     }
 }
 
-fn is_end(alloc: Global, end: &ScriptEnd, wanted: Ending) -> bool {
-    match end {
-        ScriptEnd::Done(report) => is_report(alloc, report, wanted),
-        ScriptEnd::Failed {
+/// Whether a script that did not go on has to stop there.
+fn is_stopped(stop: ScriptStop, wanted: Ending) -> bool {
+    match stop {
+        ScriptStop::Failed {
             command,
             cause,
             step,
-        } => is_stop((*command, *cause, *step), wanted),
-        ScriptEnd::OutOfMemory { .. } => false,
+        } => is_stop((command, cause, step), wanted),
+        ScriptStop::OutOfMemory { .. } => false,
+    }
+}
+
+fn is_end(alloc: Global, end: &Result<ScriptReport, ScriptStop>, wanted: Ending) -> bool {
+    match end {
+        Ok(report) => is_report(alloc, report, wanted),
+        Err(stop) => is_stopped(*stop, wanted),
     }
 }
 

@@ -3,11 +3,13 @@ use Rattle.std.proofs.Common.{◌≡◌, ℕ, suc, ◌+◌, ◌<◌, ◌≤◌, 
 use Rattle.std.proofs.lemmas.List.{at_drop_more, drop_all, map_push, take-append-drop, take_more}
 use Rattle.mem_files.specs.World.{World}
 use Rattle.kaem_script.specs.declared.cause.CommandCause.{CommandCause}
+use Rattle.kaem_script.specs.declared.fold.ScriptStop.{ScriptStop}
+use Rattle.kaem_script.specs.declared.fold.ScriptStop.TheVariants.{Failed, OutOfMemory}
 use Rattle.report.specs.declared.script.types.CommandLine.{CommandLine}
-use Rattle.kaem_script.specs.Fold.{CommandResult, Folded, Ran, RanAll, Stopped, after_command, command, fold_from, folded}
-use Rattle.kaem_script.specs.Inside.Commands.{Finishes, IsRun, UnlessStopped, ran_with}
+use Rattle.kaem_script.specs.Fold.{AnswersScript, CommandResult, Folded, Ran, RanAll, ScriptResult, Stopped, after_command, command, fold_from, folded}
+use Rattle.kaem_script.specs.Inside.Commands.{Finishes, Folds, IsRun, UnlessStopped, WantsWithin, ran_with}
 use Rattle.kaem_script.specs.Reported.{command_line}
-use Rattle.kaem_script.specs.Wants.{FirstHasProgram, HasProgram, WantsAt}
+use Rattle.kaem_script.specs.Wants.{FirstHasProgram, HasProgram, OnScriptWant, WantsAt}
 
 -- ---- commands after others that ran
 
@@ -120,3 +122,18 @@ wants-last most first world commands lines finished =
       before = ap (fold_from most [] first) (take_all (length finished.done) commands (omega (arith, count))) ∙ finished.is;
       here = subst (FirstHasProgram world) (sym (drop_all (length finished.done) commands (omega (arith, count)))) tt;
     }
+
+-- ---- commands that did not all run
+
+-- what stopped them is what the script comes to
+pub stopped_so : {A : Type 0} (ended : Folded → ScriptResult A) (found meant : Folded) (stop : ScriptStop) → found ≡ meant
+    → ((number : ℕ) (why : CommandCause) (step : ℕ) → ended (Stopped number why step) ≡ Err (number, why, step)) → Folds found (Err stop)
+    → AnswersScript (ended meant) (Err stop)
+stopped_so ended found meant (Failed number why step) same stops is = ap ended (sym same ∙ is) ∙ stops number why step
+stopped_so ended found meant (OutOfMemory number) same stops is = tt
+
+-- where memory was wanting for them, it was for more of them
+pub wants_so : (count : ℕ) (former latter : ℕ → Type 0) (stop : ScriptStop) → ((number : ℕ) → number ≤ count → former number → latter number)
+    → WantsWithin count stop → OnScriptWant stop former → OnScriptWant stop latter
+wants_so count former latter (Failed number why step) more within at = tt
+wants_so count former latter (OutOfMemory number) more within at = more number within at

@@ -15,7 +15,6 @@ use Rattle.report.specs.declared.types.LeftLine.{LeftLine}
 use Rattle.report.specs.declared.types.Mark.{Mark}
 use Rattle.report.specs.declared.script.types.CommandLine.{CommandLine}
 use Rattle.report.specs.declared.script.types.ScriptReport.{ScriptReport}
-use Rattle.kaem_script.specs.declared.auditing.ScriptEnd.TheVariants.{Done}
 use Rattle.kaem_script.specs.declared.verdict.ScriptPart.{ScriptPart}
 use Rattle.kaem_script.specs.declared.verdict.ScriptPart.TheVariants as part
 use Rattle.report.specs.Marks.{is_mark_of}
@@ -287,7 +286,7 @@ headed : (b : Bool) (rest : Option (ScriptPart × ℕ)) → cond b rest (Some (p
 headed true rest e = (refl, e)
 headed false rest e = absurd cc
 
-pub no_fault_reports : (script : ScriptContents) (listed : FilesListed) (report : ScriptReport) → first_script_fault script listed report ≡ None → end_of_script (2 ^ 48) script listed ≡ Done report
+pub no_fault_reports : (script : ScriptContents) (listed : FilesListed) (report : ScriptReport) → first_script_fault script listed report ≡ None → end_of_script (2 ^ 48) script listed ≡ Ok report
 unfolding first_script_fault folded script_report
 no_fault_reports script listed report is =
     let files = files_fault (listed_files listed) report.files in
@@ -300,7 +299,7 @@ no_fault_reports script listed report is =
     let left_is = left-said report.left (left right.last) (left-none report.left right.last right.rest) in
     let lines_are = right.lines_are in
     ap (script_ended script listed) (run-folded (2 ^ 48) [] listed.world script.commands right.rans right.last right.are)
-    ∙ (λ i. Done (record { script = record { 0 = digest_is i }; files = sym files_are i; commands = sym lines_are i; left = sym left_is i }))
+    ∙ (λ i. Ok (record { script = record { 0 = digest_is i }; files = sym files_are i; commands = sym lines_are i; left = sym left_is i }))
 
 -- the report of an audit that is done
 record IsDone (most : ℕ) (script : ScriptContents) (listed : FilesListed) (report : ScriptReport) : Type 0 where
@@ -309,11 +308,11 @@ record IsDone (most : ℕ) (script : ScriptContents) (listed : FilesListed) (rep
   are : AreRun most listed.world script.commands rans last
   is : script_report script listed rans last ≡ report
 
-done-is : (most : ℕ) (script : ScriptContents) (listed : FilesListed) (report : ScriptReport) → end_of_script most script listed ≡ Done report → IsDone most script listed report
+done-is : (most : ℕ) (script : ScriptContents) (listed : FilesListed) (report : ScriptReport) → end_of_script most script listed ≡ Ok report → IsDone most script listed report
 unfolding folded
 done-is most script listed report is = on (folded most listed.world script.commands) refl is
   where
-    on : (f : Folded) → folded most listed.world script.commands ≡ f → script_ended script listed f ≡ Done report → IsDone most script listed report
+    on : (f : Folded) → folded most listed.world script.commands ≡ f → script_ended script listed f ≡ Ok report → IsDone most script listed report
     on (Stopped number why step) was here = absurd cc
     on (RanAll all last) was here =
         let went = folded-run most [] listed.world script.commands all last was in
@@ -333,7 +332,7 @@ run_has_none script listed rans last are =
     ∙ ap (λ (o : Option ℕ). fault_or (option_map (λ number. (part.File, number)) o) (commands_fault at_end 1 listed.world script.commands lines)) (said-files 1 (listed_files listed))
     ∙ right-lines at_end 1 listed.world script.commands rans last are none_left
 
-pub reported_without_fault : (most : ℕ) (script : ScriptContents) (listed : FilesListed) (report : ScriptReport) → most ≤ 2 ^ 48 → end_of_script most script listed ≡ Done report
+pub reported_without_fault : (most : ℕ) (script : ScriptContents) (listed : FilesListed) (report : ScriptReport) → most ≤ 2 ^ 48 → end_of_script most script listed ≡ Ok report
     → first_script_fault script listed report ≡ None
 reported_without_fault most script listed report few is =
     let done = done-is most script listed report is in

@@ -1,5 +1,5 @@
 -- The commands of a script, one after the other over one world of files. docs/reference/kaem.md says the same for people.
-use Rattle.std.specs.Prelude.{ℕ, ◌+◌, ◌==◌, if◌then◌else◌, Option, None, Some, Result, Ok, Err, List, [], ◌∷◌, ◌++◌, length}
+use Rattle.std.specs.Prelude.{◌≡◌, ℕ, ◌+◌, ◌==◌, if◌then◌else◌, Option, None, Some, Result, Ok, Err, List, [], ◌∷◌, ◌++◌, length}
 use Rattle.std.specs.FinMap as files
 use Rattle.mem_files.specs.World.{World}
 use Rattle.mem_files.specs.Calls.{content_at}
@@ -11,6 +11,8 @@ use Rattle.guest_run.specs.Start.{ArgsTooLong, BoxTooLarge, Elf, Refusal, start_
 use Rattle.guest_run.specs.State.{GuestState}
 use Rattle.kaem_script.specs.declared.cause.CommandCause.{CommandCause}
 use Rattle.kaem_script.specs.declared.cause.CommandCause.TheVariants as cause
+use Rattle.kaem_script.specs.declared.fold.ScriptStop.{ScriptStop}
+use Rattle.kaem_script.specs.declared.fold.ScriptStop.TheVariants.{Failed, OutOfMemory}
 
 -- ---- one command
 
@@ -81,3 +83,13 @@ fold_from most done world (words ∷ commands) =
 -- a script's commands over these files, each within so many steps
 unfoldable pub folded : ℕ → World → List (List (List ℕ)) → Folded
 folded most world commands = fold_from most [] world commands
+
+-- what a script comes to, or a part of it; or the command of this number, from 1, stopped it for a cause, at a step
+abbrev pub ScriptResult : Type 0 → Type 0
+ScriptResult A = Result A (ℕ × CommandCause × ℕ)
+
+-- what a call answered: what the script comes to, or memory was wanting
+abbrev pub AnswersScript : {A : Type 0} → ScriptResult A → Result A ScriptStop → Type 0
+AnswersScript meant (Ok found) = meant ≡ Ok found
+AnswersScript meant (Err (Failed number why step)) = meant ≡ Err (number, why, step)
+AnswersScript meant (Err (OutOfMemory number)) = Unit {0}

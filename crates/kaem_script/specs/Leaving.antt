@@ -8,10 +8,8 @@ use Rattle.guest_run.specs.Start.{Refusal, start_of}
 use Rattle.guest_run.specs.State.{GuestState}
 use Rattle.kaem_script.specs.declared.cause.CommandCause.{CommandCause}
 use Rattle.kaem_script.specs.declared.cause.CommandCause.TheVariants as cause
-use Rattle.kaem_script.specs.declared.leaving.CommandEnd.{CommandEnd}
-use Rattle.kaem_script.specs.declared.leaving.CommandEnd.TheVariants.{Left, Failed, OutOfMemory}
 use Rattle.kaem_script.specs.declared.leaving.CommandLeft.{CommandLeft}
-use Rattle.kaem_script.specs.Fold.{CommandResult, Folded, RanAll, Ran, Stopped, by_status, command_box, folded, program_name, refused_start}
+use Rattle.kaem_script.specs.Fold.{CommandResult, Folded, RanAll, Ran, ScriptResult, Stopped, by_status, command_box, folded, program_name, refused_start}
 
 -- an end within the steps, of an exit by any status
 abbrev pub end_cause : End → CommandCause
@@ -27,9 +25,9 @@ end_of_run_by start most None = record { cause = cause.Spent; step = most; files
 unfoldable pub end_of_run : GuestState → ℕ → CommandLeft
 end_of_run start most = end_of_run_by start most (first_end start most)
 
--- what a command comes to: what it left; or the command of this number, from 1, which stops the script for a cause, at a step
+-- what a command comes to: what it left, unless one stops the script
 abbrev pub LeftResult : Type 0
-LeftResult = Result CommandLeft (ℕ × CommandCause × ℕ)
+LeftResult = ScriptResult CommandLeft
 
 -- a program that does not start leaves nothing: its command, of this number, stops the script at step 0
 abbrev pub left_by_start : ℕ → ℕ → Result GuestState Refusal → LeftResult
@@ -52,17 +50,6 @@ after_earlier most number words (Stopped earlier why step) = Err (earlier, why, 
 -- the command that follows these, the first of which is given these files
 unfoldable pub left_of_command : ℕ → World → List (List (List ℕ)) → List (List ℕ) → LeftResult
 left_of_command most world earlier words = after_earlier most (length earlier + 1) words (folded most world earlier)
-
--- what a call answered: what the command comes to, or memory was wanting
-abbrev pub SaysLeft : LeftResult → CommandEnd → Type 0
-SaysLeft meant (Left left) = meant ≡ Ok left
-SaysLeft meant (Failed number why step) = meant ≡ Err (number, why, step)
-SaysLeft meant (OutOfMemory number) = Unit {0}
-
--- a fact on the number at which memory was wanting
-abbrev pub OnCommandWant : CommandEnd → (ℕ → Type 0) → Type 0
-OnCommandWant (OutOfMemory number) fact = fact number
-OnCommandWant end fact = Unit {0}
 
 -- ---- beside what all commands come to
 

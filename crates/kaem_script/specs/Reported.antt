@@ -1,18 +1,15 @@
 -- What is reported of a script's commands, and how an audit of a script ends. docs/reference/kaem.md says the same for people. Digests are
 -- SHA-256 (FIPS 180-4).
-use Rattle.std.specs.Prelude.{◌≡◌, ℕ, List, map}
+use Rattle.std.specs.Prelude.{ℕ, Ok, Err, List, map}
 use Rattle.mem_files.specs.World.{World}
 use Rattle.mem_files.specs.Outputs.{left}
-use Rattle.report.specs.Script.Reports.{IsScriptReport}
 use Rattle.report.specs.declared.types.LeftLine.{LeftLine}
 use Rattle.report.specs.Marks.{mark_of}
 use Rattle.report.specs.declared.script.types.CommandLine.{CommandLine}
 use Rattle.report.specs.declared.script.types.ScriptReport.{ScriptReport}
-use Rattle.kaem_script.specs.declared.auditing.ScriptEnd.{ScriptEnd}
-use Rattle.kaem_script.specs.declared.auditing.ScriptEnd.TheVariants.{Done, Failed, OutOfMemory}
 use Rattle.kaem_script.specs.Script.{ScriptContents}
 use Rattle.kaem_script.specs.FilesListed.{FilesListed, listed_files}
-use Rattle.kaem_script.specs.Fold.{RanAll, Folded, Ran, Stopped, folded}
+use Rattle.kaem_script.specs.Fold.{RanAll, Folded, Ran, ScriptResult, Stopped, folded}
 
 -- a file by its name, with the mark of its bytes
 abbrev pub marked : List ℕ × List ℕ → LeftLine
@@ -31,22 +28,10 @@ script_report script listed ran world = record {
   left = map marked (left world);
 }
 
-abbrev pub script_ended : ScriptContents → FilesListed → Folded → ScriptEnd
-script_ended script listed (RanAll ran world) = Done (script_report script listed ran world)
-script_ended script listed (Stopped number why step) = Failed number why step
+abbrev pub script_ended : ScriptContents → FilesListed → Folded → ScriptResult ScriptReport
+script_ended script listed (RanAll ran world) = Ok (script_report script listed ran world)
+script_ended script listed (Stopped number why step) = Err (number, why, step)
 
 -- what a script over the listed files comes to, each of its commands within so many steps
-abbrev pub end_of_script : ℕ → ScriptContents → FilesListed → ScriptEnd
+abbrev pub end_of_script : ℕ → ScriptContents → FilesListed → ScriptResult ScriptReport
 end_of_script most script listed = script_ended script listed (folded most listed.world script.commands)
-
--- what a call answered: the end, or memory was wanting
-abbrev pub Audits : ScriptEnd → ScriptEnd → Type 0
-Audits meant (Done report) = meant ≡ Done report
-Audits meant (Failed number why step) = meant ≡ Failed number why step
-Audits meant (OutOfMemory number) = Unit {0}
-
--- the report of a script that is done has a text
-abbrev pub HasReport : ScriptEnd → Type 0
-HasReport (Done report) = IsScriptReport report
-HasReport (Failed number why step) = Unit {0}
-HasReport (OutOfMemory number) = Unit {0}

@@ -1,5 +1,5 @@
 -- What a replay answers by the first fault of a script's report. docs/reference/kaem.md says the same for people.
-use Rattle.std.specs.Prelude.{◌≡◌, ◌≤◌, ◌^◌, ℕ, zero, suc, true, bytes_eq, Option, None, Some, Ok, List, [], ◌∷◌}
+use Rattle.std.specs.Prelude.{◌≡◌, ◌≤◌, ◌^◌, ℕ, zero, suc, true, bytes_eq, Option, None, Some, Ok, List, ◌∷◌}
 use Rattle.mem_files.specs.World.{World}
 use Rattle.report.specs.declared.script.types.CommandLine.{CommandLine}
 use Rattle.report.specs.declared.script.types.ScriptReport.{ScriptReport}

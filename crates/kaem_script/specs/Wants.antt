@@ -3,8 +3,8 @@ use Rattle.std.specs.Prelude.{◌≡◌, ℕ, ◌+◌, Some, IsOk, List, [], ◌
 use Rattle.elf_load.specs.Image.{image_of}
 use Rattle.mem_files.specs.World.{World}
 use Rattle.mem_files.specs.Calls.{content_at}
-use Rattle.kaem_script.specs.declared.auditing.ScriptEnd.{ScriptEnd}
-use Rattle.kaem_script.specs.declared.auditing.ScriptEnd.TheVariants.{OutOfMemory}
+use Rattle.kaem_script.specs.declared.fold.ScriptStop.{ScriptStop}
+use Rattle.kaem_script.specs.declared.fold.ScriptStop.TheVariants.{Failed, OutOfMemory}
 use Rattle.kaem_script.specs.Fold.{RanAll, Ran, folded, program_name}
 
 -- a command's program is there, and can be loaded: so much is judged before memory is taken
@@ -28,6 +28,6 @@ pub record WantsAt (most : ℕ) (world : World) (commands : List (List (List ℕ
   pub here : FirstHasProgram left (drop (length ran) commands)
 
 -- a fact on the number at which memory was wanting
-abbrev pub OnScriptWant : ScriptEnd → (ℕ → Type 0) → Type 0
+abbrev pub OnScriptWant : ScriptStop → (ℕ → Type 0) → Type 0
+OnScriptWant (Failed number why step) fact = Unit {0}
 OnScriptWant (OutOfMemory number) fact = fact number
-OnScriptWant end fact = Unit {0}

@@ -1,16 +1,16 @@
 //! The audit of a script.
 
 ghost use Rattle.kaem_script.specs.FilesListed.{listed_files};
-ghost use Rattle.kaem_script.specs.Reported.{Audits, HasReport, end_of_script, marked};
+ghost use Rattle.kaem_script.specs.Fold.{AnswersScript};
+ghost use Rattle.kaem_script.specs.Reported.{end_of_script, marked};
 ghost use Rattle.mem_files.specs.Outputs.{left};
 ghost use Rattle.report.specs.Reports.{IsDigest};
 ghost use Rattle.report.specs.Script.Reports.{IsCommandLine, IsScriptReport};
 ghost use Rattle.kaem_script.specs.Wants.{OnScriptWant, WantsAt};
-ghost use Rattle.std.specs.Prelude.{◌≡◌, ◌≤◌, ◌^◌, All, IfOk, length, map};
+ghost use Rattle.std.specs.Prelude.{◌≡◌, ◌≤◌, ◌^◌, All, IfErr, IfOk, length, map};
 
-use crate::cause::CommandCause;
 use crate::files::FileList;
-use crate::fold::{Folding, fold};
+use crate::fold::{ScriptStop, fold};
 use crate::marks::{left_lines, listed_lines};
 use crate::present::files_in;
 use crate::script::Script;
@@ -19,56 +19,33 @@ use mem_files::Files;
 use report::script::{CommandLines, ScriptReport};
 use std::alloc::Global;
 
-/// How the audit of a script ended.
-#[derive(Drop)]
-pub enum ScriptEnd {
-    /// Every command's program exited with 0.
-    Done(ScriptReport),
-    /// The command of this number, from 1, stopped the script: why, and at which step. It is 0 where no program started, the most steps where
-    /// all were taken, and else the step of the end, counted from 1.
-    Failed {
-        command: u32,
-        cause: CommandCause,
-        step: u64,
-    },
-    /// Want of memory of this process at the command of this number, from 1, after those that all ran; the number that follows the last command
-    /// is that of the report.
-    OutOfMemory {
-        command: u32,
-    },
-}
-
 /// Runs a script's commands in order over one world of files, which begins with those of the list, each within `most` steps: from 1 to 2^48.
 ///
 /// A command runs the content that its program's name has at that moment. Its program is given all words as arguments, no environment, a heap
 /// of 536,870,912 bytes, and all files that are there; what it leaves is there for the next one. The first command that does not exit with
-/// 0 stops the script.
+/// 0 stops the script. The report is that of commands that all exited with 0.
 ///
 /// Want of memory comes only at a command whose program is there and can be loaded, or for the report.
 #[tactic(auto, unfolding(crate::specs::Reported::script_report))]
-pub fn audit(alloc: Global, script: &Script, files: &FileList, most: u64) -> ScriptEnd
+pub fn audit(
+    alloc: Global,
+    script: &Script,
+    files: &FileList,
+    most: u64,
+) -> Result<ScriptReport, ScriptStop>
     requires some { 1 ≤ most }
     requires few { most ≤ 2 ^ 48 }
-    ensures answer { Audits (end_of_script most script.now files.now) result }
-    ensures memory { OnScriptWant result (WantsAt most files.now.world script.now.commands) }
+    ensures answer { AnswersScript (end_of_script most script.now files.now) result }
+    ensures memory { IfErr result (λ stop. OnScriptWant stop (WantsAt most files.now.world script.now.commands)) }
     // A report that is answered has a text.
-    ensures report { HasReport result }
+    ensures report { IfOk result IsScriptReport }
 {
-    match fold(alloc, script.commands(), files.files(), most) {
-        Folding::RanAll(commands, present) => {
-            match report_of(alloc, script, files, commands, files_in(&present)) {
-                Ok(report) => ScriptEnd::Done(report),
-                Err(OutOfMemory) => ScriptEnd::OutOfMemory {
-                    command: script.commands().len() as u32 + 1,
-                },
-            }
-        }
-        Folding::Stopped(command, (cause, step)) => ScriptEnd::Failed {
-            command,
-            cause,
-            step,
-        },
-        Folding::OutOfMemory(command) => ScriptEnd::OutOfMemory { command },
+    let (commands, present) = fold(alloc, script.commands(), files.files(), most)?;
+    match report_of(alloc, script, files, commands, files_in(&present)) {
+        Ok(report) => Ok(report),
+        Err(OutOfMemory) => Err(ScriptStop::OutOfMemory {
+            command: script.commands().len() as u32 + 1,
+        }),
     }
 }
 

@@ -1,12 +1,14 @@
 //! All commands of a script, one after the other.
 
 ghost use Rattle.kaem_script.specs.Fold.{folded};
-ghost use Rattle.kaem_script.specs.Inside.Commands.{Folds, HasLines, OnFoldWant, WantsWithin};
+ghost use Rattle.kaem_script.specs.Inside.Commands.{Folds, WantsWithin};
 ghost use Rattle.kaem_script.specs.Kept.{AreCommands};
-ghost use Rattle.kaem_script.specs.Wants.{WantsAt};
-ghost use Rattle.std.specs.Prelude.{◌≤◌, ◌^◌, length};
+ghost use Rattle.kaem_script.specs.Wants.{OnScriptWant, WantsAt};
+ghost use Rattle.report.specs.Script.Reports.{IsCommandLine};
+ghost use Rattle.std.specs.Prelude.{◌≤◌, ◌^◌, All, IfErr, IfOk, length};
 
-use crate::command::{CommandStop, run_command};
+use crate::cause::CommandCause;
+use crate::command::run_command;
 use crate::present::Present;
 use crate::reading::Command;
 use ddc_base::OutOfMemory;
@@ -14,47 +16,59 @@ use mem_files::Files;
 use report::script::CommandLines;
 use std::alloc::Global;
 
-/// How a script's commands ended.
-#[derive(Drop)]
-pub(crate) enum Folding<'a> {
-    /// All of them ran, with these lines; the files that are there then.
-    RanAll(CommandLines, Present<'a>),
-    /// The command of this number, from 1, stopped the script.
-    Stopped(u32, CommandStop),
-    /// Memory was wanting at the command of this number.
-    OutOfMemory(u32),
+/// Why a script did not go on.
+#[derive(Clone, Copy)]
+pub enum ScriptStop {
+    /// The command of this number, from 1, stopped the script: why, and at which step. It is 0 where no program started, the most steps where
+    /// all were taken, and else the step of the end, counted from 1.
+    Failed {
+        command: u32,
+        cause: CommandCause,
+        step: u64,
+    },
+    /// Want of memory of this process at the command of this number, from 1, after those that all ran; of an audit the number that follows the
+    /// last command is that of the report.
+    OutOfMemory {
+        command: u32,
+    },
 }
 
-/// Runs commands over one world of files, each within so many steps.
+/// Runs commands over one world of files, each within so many steps: the lines of commands that all ran, and the files that are there then.
 pub(crate) fn fold<'a>(
     alloc: Global,
     commands: &[Command],
     files: &'a Files,
     most: u64,
-) -> Folding<'a>
+) -> Result<(CommandLines, Present<'a>), ScriptStop>
     requires kept { AreCommands commands.now }
     requires some { 1 ≤ most }
     requires few { most ≤ 2 ^ 48 }
     ensures folds { Folds (folded most files.now commands.now) result }
-    ensures memory { OnFoldWant result (WantsAt most files.now commands.now) }
-    ensures within { WantsWithin (length commands.now) result }
-    ensures lines { HasLines (length commands.now) result }
+    ensures memory { IfErr result (λ stop. OnScriptWant stop (WantsAt most files.now commands.now)) }
+    ensures within { IfErr result (WantsWithin (length commands.now)) }
+    ensures lines { IfOk result (λ ran. All IsCommandLine ran.0 × (length ran.0 ≤ length commands.now)) }
 {
     let mut lines = CommandLines::new(alloc);
     let mut present = Present::Given(files);
     for (index, words) in commands.iter().enumerate() {
-        let number = index as u32 + 1;
+        let command = index as u32 + 1;
         match run_command(alloc, present, words, most) {
             Ok(Ok((line, left))) => {
                 left.show_sound();
                 match lines.push(line) {
                     Ok(()) => present = Present::Left(left),
-                    Err(OutOfMemory) => return Folding::OutOfMemory(number),
+                    Err(OutOfMemory) => return Err(ScriptStop::OutOfMemory { command }),
                 }
             }
-            Ok(Err(stop)) => return Folding::Stopped(number, stop),
-            Err(OutOfMemory) => return Folding::OutOfMemory(number),
+            Ok(Err((cause, step))) => {
+                return Err(ScriptStop::Failed {
+                    command,
+                    cause,
+                    step,
+                });
+            }
+            Err(OutOfMemory) => return Err(ScriptStop::OutOfMemory { command }),
         }
     }
-    Folding::RanAll(lines, present)
+    Ok((lines, present))
 }

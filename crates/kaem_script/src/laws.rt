@@ -15,7 +15,6 @@ ghost use Rattle.kaem_script.specs.Reported.{end_of_script};
 ghost use Rattle.kaem_script.specs.Runs.{IsCommandRun};
 ghost use Rattle.kaem_script.specs.Script.{ScriptContents, commands_of};
 ghost use Rattle.kaem_script.specs.declared.cause.CommandCause.{CommandCause};
-ghost use Rattle.kaem_script.specs.declared.auditing.ScriptEnd.TheVariants.{Done};
 
 /// One reading: what a script says in one pass, byte by byte, is what it says line by line and word by word, its first fault and the offset of
 /// that included.
@@ -59,11 +58,11 @@ pub fn what_is_left_is_folded()
 
 /// One report: a script over listed files has one report without a fault, that of its commands, which each exit with 0 within 2^48 steps.
 pub fn one_report()
-    ensures { (script : ScriptContents) (listed : FilesListed) (report : ScriptReport) → (first_script_fault script listed report ≡ None) ↔ (end_of_script (2 ^ 48) script listed ≡ Done report) }
+    ensures { (script : ScriptContents) (listed : FilesListed) (report : ScriptReport) → (first_script_fault script listed report ≡ None) ↔ (end_of_script (2 ^ 48) script listed ≡ Ok report) }
 {}
 
 /// The report of an audit has no fault, whatever the most steps of its commands.
 pub fn what_is_audited_is_verified()
     ensures { (most : ℕ) (script : ScriptContents) (listed : FilesListed) (report : ScriptReport) → most ≤ 2 ^ 48
-        → end_of_script most script listed ≡ Done report → first_script_fault script listed report ≡ None }
+        → end_of_script most script listed ≡ Ok report → first_script_fault script listed report ≡ None }
 {}

@@ -1,16 +1,17 @@
 //! What a command left when its run ended, whatever it ended with.
 
 ghost use Rattle.guest_run.specs.Run.{first_end};
+ghost use Rattle.kaem_script.specs.Fold.{AnswersScript};
 ghost use Rattle.kaem_script.specs.Inside.Commands.{LeavesOver, UnlessStopped, renewed, world_in};
 ghost use Rattle.kaem_script.specs.Kept.{AreCommands, IsCommand};
-ghost use Rattle.kaem_script.specs.Leaving.{SaysLeft, OnCommandWant, command_left, left_of_command, end_of_run};
-ghost use Rattle.kaem_script.specs.Wants.{HasProgram, WantsAt};
-ghost use Rattle.std.specs.Prelude.{◌≡◌, ◌∷◌, ◌++◌, ◌≤◌, ◌^◌, [], ℕ, IfOk, length};
+ghost use Rattle.kaem_script.specs.Leaving.{command_left, left_of_command, end_of_run};
+ghost use Rattle.kaem_script.specs.Wants.{HasProgram, OnScriptWant, WantsAt};
+ghost use Rattle.std.specs.Prelude.{◌≡◌, ◌∷◌, ◌++◌, ◌≤◌, ◌^◌, [], ℕ, IfErr, IfOk, length};
 
 use crate::cause::CommandCause;
 use crate::command::begun;
 use crate::files::FileList;
-use crate::fold::{Folding, fold};
+use crate::fold::{ScriptStop, fold};
 use crate::present::{Present, files_in, renewed};
 use crate::reading::Command;
 use ddc_base::OutOfMemory;
@@ -27,58 +28,32 @@ pub struct CommandLeft {
     pub files: Files,
 }
 
-/// How the search for what a command left ended.
-#[derive(Drop)]
-pub enum CommandEnd {
-    /// Its program ran.
-    Left(CommandLeft),
-    /// The command of this number, from 1, stopped the script: one before it, or itself, where its program does not start.
-    Failed {
-        command: u32,
-        cause: CommandCause,
-        step: u64,
-    },
-    /// Want of memory of this process at the command of this number, from 1, after those that all ran.
-    OutOfMemory {
-        command: u32,
-    },
-}
-
 /// Runs a script's commands in order over one world of files, as `audit` does, and then the command after them, whatever its program ends
-/// with: what that left.
+/// with: what that left. A command before it may stop the script, and so does itself where its program does not start.
 pub fn left(
     alloc: Global,
     earlier: &[Command],
     command: &Command,
     files: &FileList,
     most: u64,
-) -> CommandEnd
+) -> Result<CommandLeft, ScriptStop>
     requires some { 1 ≤ most }
     requires few { most ≤ 2 ^ 48 }
     requires earlier { AreCommands earlier.now }
     requires command { IsCommand command.now }
-    ensures answer { SaysLeft (left_of_command most files.now.world earlier.now command.now) result }
-    ensures memory { OnCommandWant result (WantsAt most files.now.world (earlier.now ++ command.now ∷ [])) }
+    ensures answer { AnswersScript (left_of_command most files.now.world earlier.now command.now) result }
+    ensures memory { IfErr result (λ stop. OnScriptWant stop (WantsAt most files.now.world (earlier.now ++ command.now ∷ []))) }
 {
-    match fold(alloc, earlier, files.files(), most) {
-        Folding::RanAll(_, present) => {
-            let number = earlier.len() as u32 + 1;
-            match left_over(alloc, present, command, most) {
-                Ok(Ok(left)) => CommandEnd::Left(left),
-                Ok(Err(cause)) => CommandEnd::Failed {
-                    command: number,
-                    cause,
-                    step: 0,
-                },
-                Err(OutOfMemory) => CommandEnd::OutOfMemory { command: number },
-            }
-        }
-        Folding::Stopped(command, (cause, step)) => CommandEnd::Failed {
-            command,
+    let (_, present) = fold(alloc, earlier, files.files(), most)?;
+    let number = earlier.len() as u32 + 1;
+    match left_over(alloc, present, command, most) {
+        Ok(Ok(left)) => Ok(left),
+        Ok(Err(cause)) => Err(ScriptStop::Failed {
+            command: number,
             cause,
-            step,
-        },
-        Folding::OutOfMemory(command) => CommandEnd::OutOfMemory { command },
+            step: 0,
+        }),
+        Err(OutOfMemory) => Err(ScriptStop::OutOfMemory { command: number }),
     }
 }
 

@@ -20,10 +20,11 @@ mod verdict;
 mod verifying;
 mod words;
 
-pub use auditing::{ScriptEnd, audit};
+pub use auditing::audit;
 pub use cause::CommandCause;
 pub use files::FileList;
-pub use leaving::{CommandEnd, CommandLeft, left};
+pub use fold::ScriptStop;
+pub use leaving::{CommandLeft, left};
 pub use reading::Command;
 pub use refusal::{ScriptFault, ScriptRefusal};
 pub use script::{Script, read};

@@ -6,13 +6,14 @@ use Rattle.sha2.specs.Sha256.{sha256}
 use Rattle.report.specs.declared.script.types.CommandLine.{CommandLine}
 use Rattle.report.specs.declared.script.types.ScriptReport.{ScriptReport}
 use Rattle.report.specs.Script.Reports.{script_report_text}
-use Rattle.kaem_script.specs.declared.auditing.ScriptEnd.TheVariants as end
 use Rattle.kaem_script.specs.declared.cause.CommandCause.{CommandCause}
+use Rattle.kaem_script.specs.declared.fold.ScriptStop.{ScriptStop}
+use Rattle.kaem_script.specs.declared.fold.ScriptStop.TheVariants.{Failed, OutOfMemory}
 use Rattle.kaem_script.specs.declared.refusal.ScriptFault.{ScriptFault}
 use Rattle.kaem_script.specs.declared.verdict.ScriptPart.{ScriptPart}
 use Rattle.kaem_script.specs.declared.verdict.ScriptVerdict.TheVariants as verdict
 use Rattle.kaem_script.specs.FilesListed.{FilesListed}
-use Rattle.kaem_script.specs.Fold.{Folded, Ran, RanAll, Stopped}
+use Rattle.kaem_script.specs.Fold.{AnswersScript, Folded, Ran, RanAll, ScriptResult, Stopped}
 use Rattle.kaem_script.specs.Reported.{command_line, script_ended, script_report}
 use Rattle.kaem_script.specs.Script.{ScriptContents, commands_of}
 use Rattle.kaem_script.specs.Verdicts.{JudgesScript}
@@ -23,6 +24,8 @@ use Rattle.command_plan.specs.declared.stop.Stop.{Stop}
 use Rattle.command_plan.specs.Performs.{Performs}
 use Rattle.command_plan.specs.Plan.{Plan, answers, sets}
 use Rattle.command_plan.specs.Steps.{Says}
+use Rattle.command_plan.proofs.Performing.{says, wants_memory}
+use Rattle.tool_commands.specs.Inside.Refusing.{AnswersStop}
 use Rattle.tool_commands.specs.Kaem.{folded_plan, steps_of_commands}
 use Rattle.tool_commands.specs.KaemVerify.{script_verdict_plan}
 use Rattle.tool_commands.specs.Scripts.{script_by_text, script_of}
@@ -41,6 +44,19 @@ script-fault text fault at is = ap (script_by_text text) is
 
 abbrev pub refuse_script : ScriptFault × ℕ → Plan
 refuse_script fault = answers ScriptRefused (script_line fault.0 fault.1)
+
+-- ---- a script that did not go on
+
+-- a plan that says which command stopped it
+pub where_stopped : {A : Type 0} (plan : Plan) (found meant : ScriptResult A) (stop : ScriptStop) (shelf : ShelfState) (result : Result Answer Stop) → found ≡ meant
+    → ((number : ℕ) (why : CommandCause) (step : ℕ) → meant ≡ Err (number, why, step) → plan ≡ answers RunFailed (command_failed_line number why step))
+    → AnswersScript found (Err stop) → AnswersStop stop result → Performs plan shelf shelf result
+where_stopped plan found meant (Failed number why step) shelf result same is answered said =
+    let P : Plan → Type 0 = λ it. Performs it shelf shelf result in
+    subst P (sym (is number why step (sym same ∙ answered))) (says (answers RunFailed (command_failed_line number why step)) shelf result said)
+where_stopped plan found meant (OutOfMemory number) shelf result same is answered said =
+    let P : Result Answer Stop → Type 0 = λ it. Performs plan shelf shelf it in
+    subst P (sym said) (wants_memory plan shelf)
 
 -- ---- the end of an audit
 
@@ -65,21 +81,19 @@ saved-so file content commands made answer old new result text_is same says_so p
     ((λ i. sets file (text_is i) (sym says_so.by_result i)) ∙ ap (λ cs. sets file (script_report_text made) (answers Yes (done_line (length cs) (steps_in cs)))) same) p
 
 module _ (file : List ℕ) (said : ScriptContents) (listed : FilesListed) where
-  pub all-ran : (folds : Folded) (made : ScriptReport) → script_ended said listed folds ≡ end.Done made → folded_plan file said listed folds ≡ saved file made
+  pub all-ran : (folds : Folded) (made : ScriptReport) → script_ended said listed folds ≡ Ok made → folded_plan file said listed folds ≡ saved file made
   unfolding script_report
   all-ran (RanAll ran world) made is =
       let same : script_report said listed ran world ≡ made = cc in
       (λ i. sets file (script_report_text (script_report said listed ran world)) (answers Yes (done_line (sym (length-map ran command_line) i) (sym (same-steps ran) i)))) ∙ ap (saved file) same
   all-ran (Stopped number why step) made is = absurd cc
 
-  pub one-stopped : (folds : Folded) (number : ℕ) (why : CommandCause) (step : ℕ) → script_ended said listed folds ≡ end.Failed number why step
+  pub one-stopped : (folds : Folded) (number : ℕ) (why : CommandCause) (step : ℕ) → script_ended said listed folds ≡ Err (number, why, step)
       → folded_plan file said listed folds ≡ answers RunFailed (command_failed_line number why step)
   one-stopped (RanAll ran world) number why step is = absurd cc
   one-stopped (Stopped at cause last) number why step is =
-      let number_is : at ≡ number = cc in
-      let why_is : cause ≡ why = cc in
-      let step_is : last ≡ step = cc in
-      λ i. answers RunFailed (command_failed_line (number_is i) (why_is i) (step_is i))
+      let stop_is : (at, cause, last) ≡ (number, why, step) = cc in
+      ap (λ (stop : ℕ × CommandCause × ℕ). answers RunFailed (command_failed_line stop.0 stop.1 stop.2)) stop_is
 
 -- ---- the verdict
 

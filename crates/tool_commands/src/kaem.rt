@@ -4,21 +4,22 @@ ghost use Rattle.std.specs.Prelude.{◌≡◌, ◌≤◌, All, length, map, sum_
 ghost use Rattle.report.specs.declared.script.types.CommandLine.{CommandLine as ReportLine};
 ghost use Rattle.report.specs.Script.Reports.{IsCommandLine, IsScriptReport, script_report_text};
 ghost use Rattle.kaem_script.specs.Fold.{folded};
-ghost use Rattle.command_plan.specs.declared.status.Status.TheVariants.{RunFailed, Yes};
+ghost use Rattle.command_plan.specs.declared.status.Status.TheVariants.{Yes};
 ghost use Rattle.command_plan.specs.Performs.{Performs};
 ghost use Rattle.command_plan.specs.Plan.{answers, sets};
 ghost use Rattle.command_plan.specs.Steps.{Says};
 ghost use Rattle.tool_commands.specs.Inside.Listing.{needs_unlisted_words};
+ghost use Rattle.tool_commands.specs.Inside.Refusing.{AnswersStop};
 ghost use Rattle.tool_commands.specs.Kaem.{folded_plan, kaem_files, kaem_plan};
 ghost use Rattle.tool_commands.specs.Scripts.{needs_files};
-ghost use Rattle.tool_commands.specs.ScriptTexts.{command_failed_line, done_line};
+ghost use Rattle.tool_commands.specs.ScriptTexts.{done_line};
 
 use crate::script_texts;
 use crate::scripts::{fetch_files, fetch_script, fetch_unlisted};
 use crate::words::KaemWords;
 use command_plan::{Answer, FileName, Status, Stop, keep, usage};
 use ddc_base::Shelf;
-use kaem_script::{CommandCause, FileList, Script, ScriptEnd};
+use kaem_script::{FileList, Script, ScriptStop};
 use report::script::{CommandLine, ScriptReport};
 use std::alloc::Global;
 
@@ -68,13 +69,8 @@ fn run<S: Shelf>(
         (S.state shelf.old) (S.state shelf.new) result }
 {
     match kaem_script::audit(alloc, script, files, words.steps.count()) {
-        ScriptEnd::Done(made) => save(alloc, shelf, &words.report, &made),
-        ScriptEnd::Failed {
-            command,
-            cause,
-            step,
-        } => stopped(alloc, command, cause, step),
-        ScriptEnd::OutOfMemory { .. } => Err(Stop::OutOfMemory),
+        Ok(made) => save(alloc, shelf, &words.report, &made),
+        Err(stop) => stopped(alloc, stop),
     }
 }
 
@@ -120,17 +116,19 @@ fn steps_in_all(commands: &[CommandLine]) -> u64
     steps
 }
 
-/// The answer where a command stopped the script.
-pub(crate) fn stopped(
-    alloc: Global,
-    number: u32,
-    cause: CommandCause,
-    step: u64,
-) -> Result<Answer, Stop>
-    ensures { Says (answers RunFailed (command_failed_line number cause step)) result }
+/// The answer where a script did not go on: the command that stopped it, unless memory was wanting.
+pub(crate) fn stopped(alloc: Global, stop: ScriptStop) -> Result<Answer, Stop>
+    ensures { AnswersStop stop result }
 {
-    Ok(Answer {
-        status: Status::RunFailed,
-        text: script_texts::command_failed(alloc, number, cause, step)?,
-    })
+    match stop {
+        ScriptStop::Failed {
+            command,
+            cause,
+            step,
+        } => Ok(Answer {
+            status: Status::RunFailed,
+            text: script_texts::command_failed(alloc, command, cause, step)?,
+        }),
+        ScriptStop::OutOfMemory { .. } => Err(Stop::OutOfMemory),
+    }
 }

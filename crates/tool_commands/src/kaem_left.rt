@@ -17,7 +17,7 @@ use crate::scripts::{fetch_files, fetch_script, fetch_unlisted};
 use crate::words::KaemLeftWords;
 use command_plan::{Answer, Status, Stop, keep, usage};
 use ddc_base::Shelf;
-use kaem_script::{Command, CommandCause, CommandEnd, CommandLeft, Script};
+use kaem_script::{Command, CommandCause, CommandLeft, Script};
 use std::alloc::Global;
 
 /// Performs the command on the words after its name.
@@ -80,13 +80,8 @@ fn run<S: Shelf>(
     let names = fetch_unlisted(alloc, shelf, &words.list, &words.wanted.out)?;
     let files = fetch_files(alloc, shelf, &names)?;
     match kaem_script::left(alloc, earlier, command, &files, words.steps.count()) {
-        CommandEnd::Left(left) => save(alloc, shelf, &left, words),
-        CommandEnd::Failed {
-            command,
-            cause,
-            step,
-        } => stopped(alloc, command, cause, step),
-        CommandEnd::OutOfMemory { .. } => Err(Stop::OutOfMemory),
+        Ok(left) => save(alloc, shelf, &left, words),
+        Err(stop) => stopped(alloc, stop),
     }
 }
 

@@ -1,6 +1,5 @@
 -- What a command and all commands come to, as the code has it.
-use Rattle.std.specs.Prelude.{◌≡◌, ℕ, ◌≤◌, All, Result, Ok, Err, List, [], length, map}
-use Rattle.report.specs.Script.Reports.{IsCommandLine}
+use Rattle.std.specs.Prelude.{◌≡◌, ℕ, ◌≤◌, Result, Ok, Err, List, [], map}
 use Rattle.std.specs.List.{fold}
 use Rattle.std.specs.FinMap as files
 use Rattle.mem_files.specs.World.{World}
@@ -14,8 +13,8 @@ use Rattle.kaem_script.specs.declared.cause.CommandCause.{CommandCause}
 use Rattle.report.specs.declared.script.types.CommandLine.{CommandLine}
 use Rattle.kaem_script.specs.declared.present.Present.{Present}
 use Rattle.kaem_script.specs.declared.present.Present.TheVariants.{Given, Left}
-use Rattle.kaem_script.specs.declared.fold.Folding.{Folding}
-use Rattle.kaem_script.specs.declared.fold.Folding.TheVariants as fold
+use Rattle.kaem_script.specs.declared.fold.ScriptStop.{ScriptStop}
+use Rattle.kaem_script.specs.declared.fold.ScriptStop.TheVariants.{Failed, OutOfMemory}
 use Rattle.kaem_script.specs.Fold.{CommandResult, RanAll, Folded, Ran, Stopped, by_first_end, command}
 use Rattle.kaem_script.specs.Leaving.{LeftResult, command_left, end_of_run}
 use Rattle.kaem_script.specs.Reported.{command_line}
@@ -69,28 +68,17 @@ pub record Finishes (meant : Folded) (lines : List CommandLine) (world : World) 
   pub is : meant ≡ RanAll done world
   pub lines_are : lines ≡ map command_line done
 
-abbrev pub Folds : Folded → Folding → Type 0
-Folds meant (fold.RanAll lines present) = Finishes meant lines (world_in present)
-Folds meant (fold.Stopped number why) = meant ≡ Stopped number why.0 why.1
-Folds meant (fold.OutOfMemory number) = Unit {0}
-
--- a fact on the number at which memory was wanting
-abbrev pub OnFoldWant : Folding → (ℕ → Type 0) → Type 0
-OnFoldWant (fold.OutOfMemory number) fact = fact number
-OnFoldWant folding fact = Unit {0}
+abbrev pub Folds : Folded → Result (List CommandLine × Present) ScriptStop → Type 0
+Folds meant (Ok ran) = Finishes meant ran.0 (world_in ran.1)
+Folds meant (Err (Failed number why step)) = meant ≡ Stopped number why step
+Folds meant (Err (OutOfMemory number)) = Unit {0}
 
 -- memory was wanting at one of so many commands
-abbrev pub WantsWithin : ℕ → Folding → Type 0
-WantsWithin count (fold.OutOfMemory number) = number ≤ count
-WantsWithin count folding = Unit {0}
+abbrev pub WantsWithin : ℕ → ScriptStop → Type 0
+WantsWithin count (Failed number why step) = Unit {0}
+WantsWithin count (OutOfMemory number) = number ≤ count
 
 -- a fact where a command did not stop its script: it went on, or memory was wanting
 abbrev pub UnlessStopped : {A B E : Type 0} → Result (Result A B) E → Type 0 → Type 0
 UnlessStopped (Ok (Err why)) fact = Unit {0}
 UnlessStopped answer fact = fact
-
--- the lines of commands that all ran are those of a report, and at most so many
-abbrev pub HasLines : ℕ → Folding → Type 0
-HasLines most (fold.RanAll lines present) = All IsCommandLine lines × (length lines ≤ most)
-HasLines most (fold.Stopped number why) = Unit {0}
-HasLines most (fold.OutOfMemory number) = Unit {0}

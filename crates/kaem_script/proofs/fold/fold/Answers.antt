@@ -38,4 +38,4 @@ returns-in-Err-clause-memory c =
 pub returns-in-Ok-Err-clause-folds : goal.returns-in-Ok-Err-clause-folds
 returns-in-Ok-Err-clause-folds c =
     stops c.args.most c.args.files.now c.args.commands.now c.loop-index.index c.loop-index.lines (world_in c.loop-index.present) c.loop-index.invariant.going
-    c.index-commands-index.result c.in-Ok-Err.stop c.loop-index-test.true c.index-commands-index.is (rw c.in-Ok-Err.field-0-is at c.in-Ok-Err.ensures.comes)
+    c.index-commands-index.result (c.in-Ok-Err.cause, c.in-Ok-Err.step) c.loop-index-test.true c.index-commands-index.is (rw c.in-Ok-Err.field-0-is at c.in-Ok-Err.ensures.comes)
