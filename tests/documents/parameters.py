@@ -6,7 +6,7 @@ import re
 
 # so many functions of src have more than five parameters, none has more than so many, and so many conditions ask for a file's name where a
 # type could
-WITH_SIX, MOST, NAMED = 4, 6, 8
+WITH_SIX, MOST, NAMED = 3, 6, 8
 
 FUNCTION = re.compile(r"^[ \t]*(?:pub(?:\(\w+\))? )?(?:const )?fn (\w+)", re.M)
 CONDITION = re.compile(r"^\s*requires\b[^\n]*\bIsFileName\b", re.M)

@@ -9,7 +9,7 @@ ghost use Rattle.mem_files.specs.Calls.{closed};
 use crate::names::{back, faccessat, fchmodat, openat, unlinkat};
 use crate::path::low;
 use crate::program_break::brk;
-use crate::transfer::{read, write};
+use crate::transfer::{Buffer, read, write};
 use crate::*;
 use mem_files::Files;
 use paged_mem::Ram;
@@ -47,8 +47,8 @@ pub fn call<R: Ram>(
         SYS_OPENAT => openat(ram, files, a, b, c),
         SYS_CLOSE => back(close(files, low(a))),
         SYS_LSEEK => back(files.seek(low(a), b.cast_signed(), low(c))),
-        SYS_READ => read(ram, files, low(a), b, c),
-        SYS_WRITE => write(alloc, ram, files, low(a), b, c),
+        SYS_READ => read(ram, files, low(a), Buffer { at: b, count: c }),
+        SYS_WRITE => write(alloc, ram, files, low(a), Buffer { at: b, count: c }),
         SYS_EXIT => CallEnd::Exit((a % 256) as u8),
         SYS_EXIT_GROUP => CallEnd::Exit((a % 256) as u8),
         SYS_BRK => brk(ram, heap, a),

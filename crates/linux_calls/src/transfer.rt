@@ -15,14 +15,21 @@ use mem_files::{EBADF, Files};
 use paged_mem::{Ram, StoreRefusal};
 use std::alloc::{AllocError, Global};
 
+/// The bytes of memory that a call moves: the address of the first, and how many they are.
+#[derive(Clone, Copy)]
+pub struct Buffer {
+    pub at: u64,
+    pub count: u64,
+}
+
 /// read(fd, buffer, count): the bytes that are ready are read, all or none.
-pub fn read<R: Ram>(ram: &mut R, files: &mut Files, fd: u32, buffer: u64, count: u64) -> CallEnd
+pub fn read<R: Ram>(ram: &mut R, files: &mut Files, fd: u32, buffer: Buffer) -> CallEnd
     ensures answer { (heap : the_heap)
         → IsAnswer sys_read (state (R.bytes ram.old) files.old heap) (state (R.bytes ram.new) files.new heap)
-        (or_same_state (state (R.bytes ram.old) files.old heap) (read_at (state (R.bytes ram.old) files.old heap) fd buffer count)) result }
+        (or_same_state (state (R.bytes ram.old) files.old heap) (read_at (state (R.bytes ram.old) files.old heap) fd buffer.at buffer.count)) result }
     ensures kept { (heap : the_heap) → IsHeapOf (R.bytes ram.old) heap → IsHeapOf (R.bytes ram.new) heap }
 {
-    let bytes = match files.ready(fd, count) {
+    let bytes = match files.ready(fd, buffer.count) {
         Ok(bytes) => bytes,
         Err(errno) => return back(Err(errno)),
     };
@@ -30,7 +37,7 @@ pub fn read<R: Ram>(ram: &mut R, files: &mut Files, fd: u32, buffer: u64, count:
         return CallEnd::Back(0);
     }
     let len = bytes.len() as u64;
-    match ram.write_from(buffer, bytes) {
+    match ram.write_from(buffer.at, bytes) {
         Ok(()) => {
             files.skip(fd, len);
             CallEnd::Back(len)
@@ -41,46 +48,39 @@ pub fn read<R: Ram>(ram: &mut R, files: &mut Files, fd: u32, buffer: u64, count:
 }
 
 /// A copy of mapped bytes.
-fn copy_of<R: Ram>(alloc: Global, ram: &R, at: u64, count: u64) -> Result<Vec<u8>, AllocError>
-    requires { maps (R.bytes ram.now) at count ≡ true }
-    ensures { IfOk result (λ bytes. bytes_at (R.bytes ram.now) at count ≡ Some bytes.items) }
+fn copy_of<R: Ram>(alloc: Global, ram: &R, buffer: Buffer) -> Result<Vec<u8>, AllocError>
+    requires { maps (R.bytes ram.now) buffer.at buffer.count ≡ true }
+    ensures { IfOk result (λ bytes. bytes_at (R.bytes ram.now) buffer.at buffer.count ≡ Some bytes.items) }
 {
-    let mut bytes = vec![in alloc; 0u8; count as usize]?;
-    ram.read_into(at, &mut bytes);
+    let mut bytes = vec![in alloc; 0u8; buffer.count as usize]?;
+    ram.read_into(buffer.at, &mut bytes);
     Ok(bytes)
 }
 
 /// write(fd, buffer, count): the bytes are written, all or none.
-pub fn write<R: Ram>(
-    alloc: Global,
-    ram: &R,
-    files: &mut Files,
-    fd: u32,
-    buffer: u64,
-    count: u64,
-) -> CallEnd
+pub fn write<R: Ram>(alloc: Global, ram: &R, files: &mut Files, fd: u32, buffer: Buffer) -> CallEnd
     ensures { (heap : the_heap)
         → IsAnswer sys_write (state (R.bytes ram.now) files.old heap) (state (R.bytes ram.now) files.new heap)
-        (back_with (state (R.bytes ram.now) files.old heap) (written_at (R.bytes ram.now) files.old fd buffer count)) result }
+        (back_with (state (R.bytes ram.now) files.old heap) (written_at (R.bytes ram.now) files.old fd buffer.at buffer.count)) result }
 {
     if !files.is_writable(fd) {
         return back(Err(EBADF));
     }
-    if count == 0 {
+    if buffer.count == 0 {
         return CallEnd::Back(0);
     }
-    if !ram.mapped(buffer, count) {
+    if !ram.mapped(buffer.at, buffer.count) {
         return back(Err(EFAULT));
     }
-    if let Err(errno) = files.fits(fd, count) {
+    if let Err(errno) = files.fits(fd, buffer.count) {
         return back(Err(errno));
     }
-    let bytes = match copy_of(alloc, ram, buffer, count) {
+    let bytes = match copy_of(alloc, ram, buffer) {
         Ok(bytes) => bytes,
         Err(AllocError) => return CallEnd::OutOfMemory,
     };
     match files.write(fd, &bytes) {
-        Ok(()) => CallEnd::Back(count),
+        Ok(()) => CallEnd::Back(buffer.count),
         Err(OutOfMemory) => CallEnd::OutOfMemory,
     }
 }

@@ -10,4 +10,4 @@ returns-in-Ok-write_from-clause-kept g c heap is =
     let m = g.R.Ram.bytes c.args.ram.now in
     let bytes = c.in-Ok.bytes.now in
     subst (λ n. IsHeapOf n heap) (sym c.in-Ok-write_from.ensures.1)
-    (IsHeapOf-same m (with_bytes m c.args.buffer bytes) heap (same_after_write m c.args.buffer bytes c.in-Ok-write_from.ensures.0) is)
+    (IsHeapOf-same m (with_bytes m c.args.buffer.at bytes) heap (same_after_write m c.args.buffer.at bytes c.in-Ok-write_from.ensures.0) is)
