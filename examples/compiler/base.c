@@ -26,13 +26,14 @@ struct name {
     struct label *label;
 };
 
-// A file that is being read.
+// A file that is being read; `depth` files include it.
 struct file {
     struct file *outer;
     char *name;
     char *at;
     long line;
     long begin;
+    long depth;
     struct group *groups;
 };
 

@@ -82,7 +82,7 @@ long kind_of(long sum) {
 long is_known_attribute(void) {
     char *text = joined(word->text, word->length, "", 0);
     return same_text(text, "noreturn") || same_text(text, "__noreturn__") || same_text(text, "format") || same_text(text, "__format__")
-        || same_text(text, "unused") || same_text(text, "__unused__");
+        || same_text(text, "unused") || same_text(text, "__unused__") || same_text(text, "noinline") || same_text(text, "__noinline__");
 }
 
 // Goes past what stands in parentheses, of which the first stands here.
@@ -265,8 +265,12 @@ struct type *enumeration(void) {
 
 struct type *type_word(void) {
     struct type *type = 0;
-    if (sign == KEY_STRUCT || sign == KEY_UNION)
-        return structure();
+    if (sign == KEY_STRUCT || sign == KEY_UNION) {
+        go_deeper();
+        type = structure();
+        nesting -= 1;
+        return type;
+    }
     if (sign == KEY_ENUM)
         return enumeration();
     if (sign == KEY_VA_LIST)
@@ -393,10 +397,14 @@ struct part *take_suffix(void) {
 
 struct part *add_part(struct part *first, struct part *made) {
     struct part *each = first;
+    long count = 1;
     if (first == 0)
         return made;
-    while (each->next != 0)
+    while (each->next != 0) {
         each = each->next;
+        count += 1;
+    }
+    refuse_unless(count < DEEPEST, "a declarator of more than 1000 parts");
     each->next = made;
     return first;
 }
@@ -415,6 +423,7 @@ long opens_declarator(void) {
 struct part *take_parts(void) {
     struct part *first = 0;
     long stars = 0;
+    go_deeper();
     while (sign == '*' || sign == KEY_CONST || sign == KEY_RESTRICT || sign == KEY_ATTRIBUTE) {
         stars += sign == '*';
         if (sign == KEY_ATTRIBUTE)
@@ -438,6 +447,7 @@ struct part *take_parts(void) {
         first = add_part(first, new_part(POINTER));
         stars -= 1;
     }
+    nesting -= 1;
     return first;
 }
 
@@ -445,7 +455,9 @@ struct part *take_parts(void) {
 struct type *applied(struct part *part, struct type *base) {
     if (part == 0)
         return base;
+    go_deeper();
     struct type *of = applied(part->next, base);
+    nesting -= 1;
     if (part->kind == POINTER)
         return pointer_to(of);
     if (part->kind == ARRAY)

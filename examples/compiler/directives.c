@@ -2,6 +2,9 @@
 
 enum { DEFINE = 1, UNDEF, INCLUDE, IF, IFDEF, IFNDEF, ELIF, ELSE, ENDIF, LINE, ERROR, PRAGMA, WARNING, };
 
+// So many files may include one another.
+enum { MOST_INCLUDED = 200, };
+
 // A group between #if and #endif. `taken`: one of its branches was taken.
 struct group {
     struct group *outer;
@@ -70,16 +73,10 @@ long condition_level(struct word *word) {
     return 0;
 }
 
-long condition_operand(void) {
-    struct word *word = condition_word;
-    long value = 0;
-    next_in_condition();
-    if (is_mark(word, '!'))
-        return !condition_operand();
-    if (is_mark(word, '-'))
-        return -condition_operand();
+// What stands between a mark and the rest: a number, or what is in parentheses, of which `word` is the first.
+long condition_primary(struct word *word) {
     if (is_mark(word, '(')) {
-        value = condition_value(1);
+        long value = condition_value(1);
         if (!is_mark(condition_word, ')'))
             refuse(word, "a condition without its )", 0);
         next_in_condition();
@@ -91,7 +88,24 @@ long condition_operand(void) {
         refuse(word, "in a condition of the preprocessor something that is no number", 0);
     if (read_number(word) & WITH_U)
         refuse(word, "an unsigned number in a condition of the preprocessor", 0);
+    if (word->value < 0)
+        refuse(word, "a number above 2^63 - 1 in a condition of the preprocessor", 0);
     return word->value;
+}
+
+long condition_operand(void) {
+    struct word *word = condition_word;
+    long value = 0;
+    go_deeper();
+    next_in_condition();
+    if (is_mark(word, '!'))
+        value = !condition_operand();
+    else if (is_mark(word, '-'))
+        value = -condition_operand();
+    else
+        value = condition_primary(word);
+    nesting -= 1;
+    return value;
 }
 
 long condition_result(long mark, long left, long right) {
@@ -309,6 +323,8 @@ void include(struct word *place) {
     char *name = joined(from, at - from, "", 0);
     file->at = at + 1;
     end_of_line();
+    if (file->depth >= MOST_INCLUDED)
+        refuse(place, "a file that more than 200 others include:", name_of(name));
     if (last == '"') {
         long length = length_of(file->name);
         while (length > 0 && file->name[length - 1] != '/')

@@ -38,12 +38,17 @@ long text_length;
 
 char *take_text(void) {
     char *text = "";
+    long room = 0;
     text_length = 0;
     while (sign == TEXT) {
-        char *longer = take(text_length + word->length + 1);
-        copy_bytes(longer, text, text_length);
-        text_length += read_text(word, longer + text_length);
-        text = longer;
+        long wanted = text_length + word->length + 1;
+        if (wanted > room) {
+            room = 2 * wanted;
+            char *longer = take(room);
+            copy_bytes(longer, text, text_length);
+            text = longer;
+        }
+        text_length += read_text(word, text + text_length);
         advance();
     }
     text_length += 1;
@@ -242,6 +247,7 @@ struct node *call(struct node *function) {
         else
             last->next = argument;
         last = argument;
+        lie_above(made, argument);
         made->value += 1;
         refuse_unless(made->value < 256, "a call with more than 255 arguments");
         if (parameter != 0)
@@ -351,10 +357,8 @@ struct node *unary(void) {
     return stepped(node, 1 - 2 * (mark == DECREMENT), 0);
 }
 
-// A cast, or what stands in parentheses.
-struct node *cast_expression(void) {
-    if (sign != '(')
-        return unary();
+// A cast, or what stands in parentheses, of which `(` stands here.
+struct node *cast_or_parentheses(void) {
     long next = following_sign();
     if (next == NAME) {
         struct symbol *symbol = following->name->symbol;
@@ -374,6 +378,17 @@ struct node *cast_expression(void) {
     if (node->kind == AT)
         return new_node(CONVERTED, type, node, 0);
     return node;
+}
+
+struct node *cast_expression(void) {
+    struct node *made = 0;
+    go_deeper();
+    if (sign == '(')
+        made = cast_or_parentheses();
+    else
+        made = unary();
+    nesting -= 1;
+    return made;
 }
 
 // ---- between two operands
@@ -428,20 +443,24 @@ struct node *conditional_expression(void) {
         refuse(word, "a choice without its middle", 0);
     struct node *one = expression();
     expect(':', ":");
-    return choice(condition, one, conditional_expression());
+    go_deeper();
+    struct node *other = conditional_expression();
+    nesting -= 1;
+    return choice(condition, one, other);
 }
 
 struct node *assignment_expression(void) {
     struct node *left = conditional_expression();
-    if (sign == '=') {
-        advance();
-        return assigned(left, assignment_expression());
-    }
-    if (sign < ASSIGN_WITH || sign >= KEY_INT)
+    long mark = sign;
+    if (mark != '=' && (mark < ASSIGN_WITH || mark >= KEY_INT))
         return left;
-    long mark = sign - ASSIGN_WITH;
     advance();
-    return assigned_with(mark, left, assignment_expression());
+    go_deeper();
+    struct node *right = assignment_expression();
+    nesting -= 1;
+    if (mark == '=')
+        return assigned(left, right);
+    return assigned_with(mark - ASSIGN_WITH, left, right);
 }
 
 struct node *expression(void) {
@@ -454,9 +473,11 @@ struct node *expression(void) {
     return left;
 }
 
-// An integer that is known now.
-long constant_expression(void) {
+// An integer that is known now, as a type holds it.
+long constant_of(struct type *type) {
     struct node *node = conditional_expression();
     refuse_unless(node->kind == FOLDED && is_integer(node->type), "an expression that is not constant");
-    return node->value;
+    return convert(node, type)->value;
 }
+
+long constant_expression(void) { return constant_of(plain(LONG)); }

@@ -123,6 +123,7 @@ void initialise_list(struct type *type, long offset, long braced) {
 }
 
 void initialise_braced(struct type *type, long offset) {
+    go_deeper();
     advance();
     refuse_unless(sign != '}', "an initialiser without values");
     if (is_text_array(type) && sign == TEXT) {
@@ -136,6 +137,7 @@ void initialise_braced(struct type *type, long offset) {
         taken(',');
     }
     expect('}', "}");
+    nesting -= 1;
 }
 
 // Takes the values of an object. `items` gets them.

@@ -124,12 +124,14 @@ struct word *expand_alone(struct word *words) {
     append(alone, new_word(END));
     pending = alone->first;
     struct row *row = new_row();
+    go_deeper();
     struct word *taken = expanded_word();
     while (taken->kind != END) {
         append(row, taken);
         taken->next = 0;
         taken = expanded_word();
     }
+    nesting -= 1;
     pending = before;
     return row->first;
 }
@@ -163,6 +165,8 @@ struct argument *take_argument(struct word *call) {
             refuse(call, "a macro's arguments without end:", call->name);
         if (is_mark(taken, '('))
             depth += 1;
+        if (depth > DEEPEST)
+            refuse(call, "an argument with more than 1000 parentheses in one another:", call->name);
         if ((is_mark(taken, ')') || is_mark(taken, ',')) && depth == 0) {
             ending = taken->value;
             return new_argument(row);

@@ -66,6 +66,9 @@ void set_types_keywords(void) {
     set_keyword("union", KEY_UNION);
     set_keyword("enum", KEY_ENUM);
     set_keyword("const", KEY_CONST);
+    // Every load and store that the source says is made, so volatile asks for nothing more.
+    set_keyword("volatile", KEY_CONST);
+    set_keyword("__volatile__", KEY_CONST);
     set_keyword("inline", KEY_INLINE);
     set_keyword("__inline", KEY_INLINE);
     set_keyword("__inline__", KEY_INLINE);
@@ -100,7 +103,6 @@ void set_keywords(void) {
     set_keyword("__builtin_va_copy", KEY_VA_COPY);
     set_keyword("__FUNCTION__", KEY_FUNCTION_NAME);
     set_keyword("__func__", KEY_FUNCTION_NAME);
-    set_keyword("volatile", KEY_REFUSED);
     set_keyword("asm", KEY_REFUSED);
     set_keyword("__asm__", KEY_REFUSED);
     set_keyword("typeof", KEY_REFUSED);

@@ -217,7 +217,7 @@ void case_label(void) {
         present_switch->other = code_length;
     } else {
         advance();
-        long case_value = constant_expression();
+        long case_value = constant_of(present_switch->type);
         if (sign == ELLIPSIS)
             refuse(word, "a range of cases", 0);
         add_case(case_value);
@@ -365,7 +365,8 @@ void jump_statement(void) {
     expect(';', ";");
 }
 
-void statement(void) {
+// A statement behind its labels.
+void statement_alone(void) {
     if (sign == '{') {
         advance();
         block();
@@ -381,15 +382,23 @@ void statement(void) {
         switch_statement();
     } else if (sign == KEY_BREAK || sign == KEY_CONTINUE || sign == KEY_GOTO || sign == KEY_RETURN) {
         jump_statement();
-    } else if (sign == KEY_CASE || sign == KEY_DEFAULT) {
-        case_label();
-        statement();
-    } else if (sign == NAME && following_sign() == ':') {
-        set_label();
-        statement();
     } else {
         if (sign != ';')
             expression_statement();
         expect(';', ";");
     }
+}
+
+void statement(void) {
+    while (1) {
+        if (sign == KEY_CASE || sign == KEY_DEFAULT)
+            case_label();
+        else if (sign == NAME && following_sign() == ':')
+            set_label();
+        else
+            break;
+    }
+    go_deeper();
+    statement_alone();
+    nesting -= 1;
 }

@@ -19,6 +19,7 @@ struct node {
     long value;
     long first;
     long width;
+    long depth;
     struct symbol *symbol;
 };
 
@@ -27,12 +28,23 @@ long floats_stop;
 long frame_now;
 long frame_most;
 
+// Makes a node at least one deeper than one of its operands. A tree of more than DEEPEST operations is refused.
+void lie_above(struct node *node, struct node *operand) {
+    if (operand == 0 || operand->depth < node->depth)
+        return;
+    node->depth = operand->depth + 1;
+    if (node->depth > DEEPEST)
+        refuse(word, "an expression with more than 1000 operations in one another", 0);
+}
+
 struct node *new_node(long kind, struct type *type, struct node *left, struct node *right) {
     struct node *made = (struct node *)take(sizeof(struct node));
     made->kind = kind;
     made->type = type;
     made->left = left;
     made->right = right;
+    lie_above(made, left);
+    lie_above(made, right);
     return made;
 }
 
@@ -45,6 +57,7 @@ struct node *number(long value, struct type *type) {
 struct node *copy_node(struct node *node, struct type *type) {
     struct node *made = new_node(node->kind, type, node->left, node->right);
     made->third = node->third;
+    made->depth = node->depth;
     made->value = node->value;
     made->first = node->first;
     made->width = node->width;
@@ -155,10 +168,19 @@ struct node *convert(struct node *node, struct type *type) {
     return new_node(CONVERTED, type, node, 0);
 }
 
+// How many bits a value has of a bit-field, or 0.
+long width_of(struct node *node) {
+    while (node->kind == SEQUENCE)
+        node = node->right;
+    if (node->kind == ASSIGNED || node->kind == STEPPED)
+        return width_of(node->left);
+    return node->width;
+}
+
 // The type of a value in arithmetic; a bit-field below 32 bits becomes int.
 struct node *promote(struct node *node) {
     node = as_value(node);
-    if (node->width != 0)
+    if (width_of(node) != 0)
         return convert(node, plain(INT));
     if (is_integer(node->type))
         return convert(node, promoted(node->type));
@@ -435,6 +457,7 @@ struct node *choice(struct node *condition, struct node *one, struct node *other
         return other;
     struct node *made = new_node(CHOICE, type, one, other);
     made->third = condition;
+    lie_above(made, condition);
     return made;
 }
 

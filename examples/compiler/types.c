@@ -9,8 +9,8 @@ enum {
 // A size or count that is not known yet.
 enum { UNKNOWN = 2147483647, };
 
-// `of` is what a pointer points to, an array is made of, or a function gives. `bits`: so many are taken in a struct. `pointer` is the type
-// of pointers to this one, once there is any.
+// `of` is what a pointer points to, an array is made of, or a function gives, and `depth` counts the types below. `bits`: so many are taken in a
+// struct. `pointer` is the type of pointers to this one, once there is any.
 struct type {
     long kind;
     long size;
@@ -24,6 +24,7 @@ struct type {
     struct parameter *parameters;
     long is_variadic;
     long is_prototype;
+    long depth;
 };
 
 // A bit-field has a width, and its first bit counts from the lowest of its unit, which has the type's size and lies at the offset.
@@ -134,20 +135,35 @@ long canonical(long value, struct type *type) {
 
 // ---- types of types
 
+// Makes a type at least one deeper than one of which it is made.
+void made_with(struct type *type, struct type *of) {
+    if (of->depth < type->depth)
+        return;
+    type->depth = of->depth + 1;
+    if (type->depth > DEEPEST)
+        refuse_here("a type of more than 1000 types in one another");
+}
+
+struct type *type_of_type(long kind, long size, long align, struct type *of) {
+    struct type *made = new_type(kind, size, align);
+    made->of = of;
+    made_with(made, of);
+    return made;
+}
+
 struct type *pointer_to(struct type *type) {
-    if (type->pointer == 0) {
-        type->pointer = new_type(POINTER, 8, 8);
-        type->pointer->of = type;
-    }
+    if (type->pointer == 0)
+        type->pointer = type_of_type(POINTER, 8, 8, type);
     return type->pointer;
 }
 
 // An array of so many; the count may be UNKNOWN.
 struct type *array_of(struct word *place, struct type *type, long count) {
     long size = size_of(place, type);
-    struct type *made = new_type(ARRAY, UNKNOWN, type->align);
-    made->of = type;
+    struct type *made = type_of_type(ARRAY, UNKNOWN, type->align, type);
     made->count = count;
+    if (size == 0)
+        refuse(place, "an array of elements that have no bytes", 0);
     if (count != UNKNOWN) {
         if (count < 0 || count > 1000000000000L / size)
             refuse(place, "an array of a negative or too large count", 0);
@@ -161,9 +177,7 @@ struct type *function_of(struct word *place, struct type *result) {
         refuse(place, "a structure as result", 0);
     if (result->kind == ARRAY || result->kind == FUNCTION)
         refuse(place, "an array or function as result", 0);
-    struct type *made = new_type(FUNCTION, UNKNOWN, 1);
-    made->of = result;
-    return made;
+    return type_of_type(FUNCTION, UNKNOWN, 1, result);
 }
 
 // Are two types the same, as far as cc tells types apart?
@@ -195,6 +209,7 @@ struct member *new_member(struct type *type, struct name *name, struct type *of)
     struct member *made = (struct member *)take(sizeof(struct member));
     made->name = name;
     made->type = of;
+    made_with(type, of);
     if (type->members == 0)
         type->members = made;
     else

@@ -64,6 +64,8 @@ void fill_classes(void) {
 struct file *open_text(char *name, char *text) {
     struct file *opened = (struct file *)take(sizeof(struct file));
     opened->outer = file;
+    if (file != 0)
+        opened->depth = file->depth + 1;
     opened->name = name;
     opened->at = text;
     opened->line = 1;
@@ -84,6 +86,17 @@ struct word *new_word(long kind) {
 }
 
 void refuse_here(char *what) { refuse(new_word(END), what, 0); }
+
+// How deep what is read lies in others of its kind: parentheses, operands, statements, lists, structures, arguments of macros. Each of them takes
+// some of the stack, so the depth has a bound, and so have trees of operations and types of types.
+enum { DEEPEST = 1000, };
+long nesting;
+
+void go_deeper(void) {
+    nesting += 1;
+    if (nesting > DEEPEST)
+        refuse_here("what is nested in more than 1000 others");
+}
 
 // Past a comment that begins at a place.
 char *over_comment(char *at) {

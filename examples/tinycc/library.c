@@ -129,7 +129,8 @@ unsigned long long strtoull(const char *text, char **end, int base) { return str
 
 int atoi(const char *text) { return strtoul(text, 0, 10); }
 
-// A constant of a floating type stands in no source that is compiled here.
+// For RISC-V a constant of a floating type stands in no source that is compiled here. For x86-64 these four are in ../x86-64/floats.c.
+#ifndef HAS_FLOATS
 double strtod(const char *text, char **end) { abort(); }
 
 float strtof(const char *text, char **end) { abort(); }
@@ -137,6 +138,7 @@ float strtof(const char *text, char **end) { abort(); }
 long double strtold(const char *text, char **end) { abort(); }
 
 double ldexp(double value, int exponent) { abort(); }
+#endif
 
 static void swap(char *one, char *other, size_t size) {
     for (size_t i = 0; i < size; i += 1) {
@@ -315,7 +317,9 @@ static void put_value(struct target *target, struct field *field, int letter, va
         abort();
 }
 
-static int print(struct target *target, const char *format, va_list values) {
+static int print(struct target *target, const char *format, va_list given) {
+    va_list values;
+    va_copy(values, given);
     for (; *format != 0; format += 1) {
         struct field field = { 0, 0, 0, 0, -1 };
         if (*format != '%') {
@@ -325,6 +329,7 @@ static int print(struct target *target, const char *format, va_list values) {
             put_value(target, &field, *format, &values);
         }
     }
+    va_end(values);
     return target->count;
 }
 

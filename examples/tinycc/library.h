@@ -87,7 +87,7 @@ int snprintf(char *to, size_t room, const char *format, ...);
 int vsnprintf(char *to, size_t room, const char *format, va_list values);
 int sscanf(const char *text, const char *format, ...);
 
-// What a program here cannot ask for: an environment, a folder, the time.
+// What a program here cannot ask for: an environment, a folder, the time, another program.
 typedef long time_t;
 struct tm { int tm_sec, tm_min, tm_hour, tm_mday, tm_mon, tm_year; };
 struct timeval { long tv_sec, tv_usec; };
@@ -95,6 +95,7 @@ char *getenv(const char *name);
 char *getcwd(char *to, size_t room);
 time_t time(time_t *to);
 int gettimeofday(struct timeval *to, void *zone);
+int execvp(const char *name, char **words);
 struct tm *localtime(const time_t *from);
 
 // There is one thread, so a semaphore is nothing.

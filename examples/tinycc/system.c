@@ -1,7 +1,11 @@
 // The program's begin and end, and what it asks of Linux: docs/reference/calls.md has each call. Only start.hex0 stands below this.
 #include <stdlib.h>
 
+#ifdef __x86_64__
+enum { READ = 0, WRITE = 1, CLOSE = 3, LSEEK = 8, BRK = 12, EXIT = 60, OPENAT = 257, UNLINKAT = 263 };
+#else
 enum { UNLINKAT = 35, OPENAT = 56, CLOSE = 57, LSEEK = 62, READ = 63, WRITE = 64, EXIT = 93, BRK = 214 };
+#endif
 enum { HERE = -100 };
 
 // In start.hex0: makes a call; an error is the negated number of Linux's error.
@@ -85,7 +89,7 @@ void *realloc(void *block, size_t size) {
 
 void free(void *block) {}
 
-// There is no environment, no folder and no clock.
+// There is no environment, no folder, no clock and no other program.
 char *getenv(const char *name) { return 0; }
 
 char *getcwd(char *to, size_t room) { return strcpy(to, "/"); }
@@ -101,3 +105,5 @@ struct tm *localtime(const time_t *from) {
     static struct tm nothing;
     return &nothing;
 }
+
+int execvp(const char *name, char **words) { return -1; }

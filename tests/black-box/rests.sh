@@ -14,7 +14,7 @@ rests 'that text' 'text text\nrun one\nassumes implements prog copy_src\n' made-
 sed 's/^format = 1/format = 2/; s/^stage = "two"/stages = ["two"]/' made-text.toml >routes.toml
 rests 'the same in format 2' 'text text\nrun one\nassumes implements prog copy_src\n' routes.toml two
 sed '0,/files = \["text"\]/s//files = ["one"]/' made-text.toml >on-the-way.toml
-rests 'a line whose source a stage on the way made' 'text text\nrun one\nassumes implements prog copy_src\n' on-the-way.toml two
+rests 'a line whose source a stage on the way made' 'text text\nrun one\nassumes implements prog copy_src\nspeaks one\n' on-the-way.toml two
 third='[[stage]]\nname = "three"\nprogram = "prog"\nargs = ["copy"]\nfiles = [{ path = "in", from = "text" }]\noutput = "out"\nsteps = 100000\n&'
 sed "0,/files = \[\"text\"\]/s//files = [\"three\"]/; s/^\[compare\]/$third/" made-text.toml >off-the-way.toml
 rests 'a line whose source a stage off the way made' 'text text\nrun one\nassumes implements prog copy_src\nspeaks three\n' off-the-way.toml two
@@ -37,6 +37,7 @@ for stage in made_hex0 made_hex1 made_hex2; do
 done
 sed '/^check = "m1_linked"/d' chain.toml >laid-out.toml
 rests 'a layout that a check in M1 leaves free' 'text hex2_text\ntext m1_text\nlayout m1_expanded\nrun m1_again\n' laid-out.toml m1_again
+rests 'the layout of the stage itself' 'text m1_text\nlayout m1_expanded\n' chain.toml m1_expanded
 rests 'where a check in hex2 takes its items, it does not matter' 'text m1_text\n' chain.toml m1_again
 rests 'four runs and a line' "text hex2_text\ntext m1_text_in_hex2\ntext m1_text\n$(printf 'run %s\\n' first_expanded first second_expanded second)assumes compiles hex2 first m1\n" wheeler.toml second
 cd .. || exit 1
@@ -76,8 +77,29 @@ check 'in hex0 too' 0 'line 1 column 3 word \n' "$ddc" where hex0 s.hex2 6 2
 printf '&a 1' >s.hex1
 check 'hex1 has names of one byte' 0 'line 1 column 4 word 1\n' "$ddc" where hex1 s.hex1 1 3
 check 'a source that is refused before the item' 1 'no place\n' "$ddc" where hex1 s.hex1 5 1
-check 'where of a number that has no place' 2 'usage\n' "$ddc" where hex2 s.hex2 7 0
+check 'a source that is too long is refused at no place' 1 'no place\n' "$ddc" where hex2 s.hex2 7 0
+check 'in M1 too' 1 'no place\n' "$ddc" where m1 s.hex2 7 0
+check 'where of the number 8' 2 'usage\n' "$ddc" where hex2 s.hex2 8 0
+check 'the greatest place' 1 'no place\n' "$ddc" where hex2 s.hex2 1 18446744073709551615
+check 'the greatest number of an item' 1 'no place\n' "$ddc" where hex2 s.hex2 5 18446744073709551615
+check 'a place of more than 64 bits' 2 'usage\n' "$ddc" where hex2 s.hex2 1 18446744073709551616
+check 'a place with a zero before it' 2 'usage\n' "$ddc" where hex2 s.hex2 1 01
+check 'a number with a zero before it' 2 'usage\n' "$ddc" where hex2 s.hex2 01 1
+check 'a place with a sign' 2 'usage\n' "$ddc" where hex2 s.hex2 1 +1
 check 'where of the number 0' 2 'usage\n' "$ddc" where hex2 s.hex2 0 0
 check 'where in another language' 2 'usage\n' "$ddc" where hex3 s.hex2 1 0
 check 'where without a place' 2 'usage\n' "$ddc" where hex2 s.hex2 1
+# A word is shown in bytes that a line and a terminal bear, and no more than 64 bytes of it.
+printf '\033[2J\177\\x41\200\377\001\0end\tab' >bytes.m1
+check 'an escape, a backslash and bytes beyond ASCII' 0 'line 1 column 1 word \\x1b[2J\\x7f\\x5cx41\\x80\\xff\\x01\\x00end\n' "$ddc" where m1 bytes.m1 4 0
+check 'a tab ends the word, and is none' 0 'line 1 column 17 word \n' "$ddc" where m1 bytes.m1 4 16
+check 'the word after it' 0 'line 1 column 18 word ab\n' "$ddc" where m1 bytes.m1 4 17
+word64=$(printf 'a%.0s' $(seq 64))
+printf '%s\n' "$word64" >word64.m1
+printf '%sb\n' "$word64" >word65.m1
+printf '\033%.0s' $(seq 300) >word300.m1
+check 'a word of 64 bytes' 0 "line 1 column 1 word $word64\n" "$ddc" where m1 word64.m1 4 0
+check 'a word of 65 bytes' 0 "line 1 column 1 word $word64..\n" "$ddc" where m1 word65.m1 4 0
+check 'a word of 300 escapes' 0 "line 1 column 1 word $(printf '\\\\x1b%.0s' $(seq 64))..\n" "$ddc" where m1 word300.m1 4 0
+check 'the last 64 of them' 0 "line 1 column 237 word $(printf '\\\\x1b%.0s' $(seq 64))\n" "$ddc" where m1 word300.m1 4 236
 check 'where in a source that is not there' 10 'file refused none absent\n' "$ddc" where hex2 none 1 0

@@ -38,7 +38,7 @@ class Box:
         self.include = self.folder / "include"
         self.include.mkdir()
         for name in ("stdarg.h", "stddef.h"):
-            shutil.copy(HERE / "include" / name, self.include)
+            shutil.copy(COMPILER / "include" / name, self.include)
         for name in HEADERS:
             shutil.copy(TINYCC / "library.h", self.include / f"{name}.h")
         self.cc = list(cc)

@@ -6,7 +6,7 @@ from architecture import stands_on
 
 # What a benchmark makes and git ignores.
 MADE = {"bench/work/"}
-ROOTED = re.compile(r"(?<![\w./*-])((?:crates|docs|tests|examples|bench|build|\.ci)/[\w./*-]*[\w*/])")
+ROOTED = re.compile(r"(?<![\w./*-])((?:crates|docs|tests|tools|examples|bench|build|\.ci)/[\w./*-]*[\w*/])")
 FILE = re.compile(r"`((?:specs|src|proofs)/[\w/]+\.\w+|\w+\.(?:antt|rt))`")
 LINK = re.compile(r"\]\(([^)\s]+)\)")
 QUOTED = r"`[\w-]+`"
@@ -14,7 +14,6 @@ OF_CRATE = re.compile(rf"((?:{QUOTED}(?:, and |, | and | or ))*`[\w/.-]+`) of `(
 MEASURED = re.compile(r"^\|.*\| [\d.]+ \|")
 DAY = re.compile(r"\b20\d\d-\d\d-\d\d\b")
 CLAUSED = re.compile(r"`((?:\w+::)*\w+)` \(((?:`\w+`(?:, )?)+)\)")
-OF_ROW = re.compile(r"^\| \[(\w+)\]\(docs/PROMISES\.md#")
 IN_FILE = re.compile(rf"`(crates/[\w/]+\.(?:antt|rt))`((?:, {QUOTED}| and {QUOTED})+)")
 DEFINED = [
     r"\b(?:fn|struct|enum|trait|const|static|mod|type|macro_rules!|record|data|ensures|requires|ghost)\s+([\w-]+)",
@@ -24,7 +23,7 @@ DEFINED = [
 
 
 def documents(root):
-    found = [root / "README.md", *sorted((root / "docs").rglob("*.md"))]
+    found = [*sorted(root.glob("*.md")), *sorted((root / "docs").rglob("*.md"))]
     return found + sorted((root / "examples").glob("*/README.md")) + sorted((root / "tests").glob("*/README*"))
 
 
@@ -156,14 +155,13 @@ def clauses(root, crate):
 
 
 def check_clauses(root, piece, crates):
-    """The clauses after a function: `crate::function` (`clause`, ..). In a row of README's table of crates the crate is the row's."""
-    row = OF_ROW.match(piece)
+    """The clauses after a function: `crate::function` (`clause`, ..)."""
     for cited, named in CLAUSED.findall(piece):
         *path, function = cited.split("::")
-        crate = row.group(1) if row else path[0] if path else ""
+        crate = path[0] if path else ""
         held = clauses(root, crate).get(function) if crate in crates else None
-        for clause in re.findall(r"\w+", named) if row or held is not None else []:
-            if clause not in (held or ()):
+        for clause in re.findall(r"\w+", named) if held is not None else []:
+            if clause not in held:
                 yield f"{clause}: no such clause of {cited}"
 
 
@@ -190,13 +188,11 @@ def faults(root):
         is_proving = document.name == "PROVING.md"
         # A folder of tests names its own files and edits beside the crates that they are of.
         is_of_tests = document.parent.parent == root / "tests"
-        # The log tells of names that were.
-        is_log = document.name == "LOG.md"
         for piece in paragraphs(text):
             found += [*check_paths(root, piece), *check_files(root, piece, crates)]
             found += [*check_qualified(root, piece, crates)]
-            found += [] if is_log else [*check_clauses(root, piece, crates)]
-            found += [] if is_of_tests or is_log else [*check_beside(root, piece, crates, is_proving)]
-            found += [] if is_proving or is_of_tests or is_log else [*check_words(root, piece)]
+            found += [*check_clauses(root, piece, crates)]
+            found += [] if is_of_tests else [*check_beside(root, piece, crates, is_proving)]
+            found += [] if is_proving or is_of_tests else [*check_words(root, piece)]
         found += [*check_headings(text, crates, root)] if is_proving else []
         yield from (f"{document.relative_to(root)}: {fault}" for fault in found)

@@ -1,4 +1,4 @@
-"""Pictures of recipes: each is what examples/guide/draw makes of its recipe now, and what draw makes of a recipe says what stands there."""
+"""Pictures of recipes: each is what tools/draw makes of its recipe now, and what draw makes of a recipe says what stands there."""
 import re
 import subprocess
 import sys
@@ -11,6 +11,7 @@ PICTURES = {
     "examples/chain/chain.svg": ("examples/chain/chain.toml", "tests/chain/chain.report"),
     "examples/tinycc/seed.svg": ("examples/tinycc/seed.toml", "tests/tinycc/seed.report"),
     "examples/tinycc/tinycc.svg": ("examples/tinycc/tinycc.toml",),
+    "examples/x86-64/x86-64.svg": ("examples/x86-64/x86-64.toml",),
 }
 NODE = re.compile(r'    "([^"]*)" \[label=<(.*)> shape=')
 EDGE = re.compile(r'    "([^"]*)" -> "([^"]*)" \[')
@@ -20,7 +21,7 @@ LINES = re.compile(r"[\d,]+ lines")
 
 def graph(root, *words):
     """The nodes of a drawn recipe with their texts, and the edges."""
-    call = [sys.executable, root / "examples/guide/draw", *(root / it for it in words)]
+    call = [sys.executable, root / "tools/draw", *(root / it for it in words)]
     drawn = subprocess.run(call, cwd=(root / words[0]).parent, capture_output=True, text=True, check=True).stdout
     nodes = {name: [TAG.sub("", it) for it in text.split("<br/>")] for name, text in NODE.findall(drawn)}
     return nodes, set(EDGE.findall(drawn))
@@ -67,4 +68,4 @@ def faults(root):
         # How many lines a text has is drawn where it lies here, and that of TinyCC is not in the repository.
         more = texts - drawn
         if titles != wanted or drawn - texts or not all(map(LINES.fullmatch, more)):
-            yield f"{picture}: not what examples/guide/draw {' '.join(words)} makes"
+            yield f"{picture}: not what tools/draw {' '.join(words)} makes"

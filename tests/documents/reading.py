@@ -1,8 +1,7 @@
-"""What every document keeps: its length, a page's question in its first line, a way to it from README.md, and days in the log alone."""
+"""What every document keeps: its length, a page's question in its first line, a way to it from README.md, and no day on any page."""
 import re
 
-MOST_WORDS = {"README.md": 1500, "docs/TESTING.md": 2500, "docs/DECISIONS.md": 3500, "docs/PROVING.md": 6000}
-DATED = ("docs/LOG.md", "docs/BENCHMARKS.md")
+MOST_WORDS = {"README.md": 1200, "docs/TESTING.md": 3000, "docs/DECISIONS.md": 3500, "docs/PROVING.md": 3500}
 
 
 def words(text):
@@ -30,14 +29,24 @@ def linked(root):
     return found
 
 
+def axioms(root):
+    """A fault where the last build of the program counted other axioms than README.md names; none where nothing was built here."""
+    log = root / "crates/ddc/out/build.log"
+    counted = re.findall(r"axioms=(\d+)", log.read_text(errors="replace")) if log.is_file() else []
+    if counted and f"`axioms={counted[-1]}`" not in (root / "README.md").read_text():
+        yield f"README.md: the prover's last line on the program has axioms={counted[-1]}"
+
+
 def faults(root):
     """Each fault, after the name of its document."""
+    yield from axioms(root)
     found = linked(root)
     for name, most in MOST_WORDS.items():
         count = words((root / name).read_text())
         if count > most:
             yield f"{name}: {count} words, more than {most}"
-    pages = [*sorted((root / "docs").rglob("*.md")), *sorted(root.glob("examples/*/*.md")), *sorted(root.glob("tests/**/*.md"))]
+    at_top = [it for it in sorted(root.glob("*.md")) if it.name != "README.md"]
+    pages = [*at_top, *sorted((root / "docs").rglob("*.md")), *sorted(root.glob("examples/*/*.md")), *sorted(root.glob("tests/**/*.md"))]
     for page in pages:
         if not asks(page.read_text()):
             yield f"{page.relative_to(root)}: no question under the title"
@@ -45,6 +54,5 @@ def faults(root):
         name = str(page.relative_to(root))
         if name not in found:
             yield f"{name}: no link leads to it from README.md"
-        if name not in DATED:
-            for day in re.findall(r"\b20\d\d-\d\d-\d\d\b", page.read_text()):
-                yield f"{name}: {day} stands outside the log"
+        for day in re.findall(r"\b20\d\d-\d\d-\d\d\b", page.read_text()):
+            yield f"{name}: has the day {day}"

@@ -1,3 +1,4 @@
 mod Turns
 mod Composing
 pub mod RestsLemmas
+pub mod OriginLemmas

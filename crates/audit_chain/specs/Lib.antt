@@ -1,3 +1,4 @@
 pub mod Chain
 pub mod Composed
 pub mod Rests
+pub mod Provenance

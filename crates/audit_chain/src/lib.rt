@@ -6,6 +6,7 @@
 mod giving;
 pub mod laws;
 mod link;
+pub mod origin;
 mod remaining_lines;
 pub mod rests;
 

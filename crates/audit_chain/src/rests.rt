@@ -4,8 +4,8 @@
 
 mod basis_part;
 pub mod laws;
-mod resting;
-mod walking;
+pub(crate) mod resting;
+pub(crate) mod walking;
 
 pub use basis_part::{BasisPart, BasisParts};
 pub use resting::{Basis, basis_of};

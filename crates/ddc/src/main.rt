@@ -2,21 +2,26 @@
 //! that it names is the one that needs no belief; the program does the same under every other.
 #![tactic(auto)]
 
+ghost use Rattle.std.specs.Prelude.{◌≡◌, IfOk, drop, map, string_bytes};
+ghost use Rattle.std.specs.Process as process;
+ghost use Rattle.command_plan.specs.Answered.{exit_status};
+ghost use Rattle.ddc.specs.Ends.{word_bytes};
+
 use ddc_app::{Status, run};
 use ddc_base::{DirShelf, OutOfMemory, WriterSink};
 use prompt::ReaderPrompt;
+use std::alloc::Global;
 use std::env;
 use std::io::{self, ErrorKind, Input};
 use std::process::ExitCode;
 use wheeler::Assembly;
 
-/// The words of the command line without the program's own name. They are none where a word is not UTF-8.
+/// All that the process was called with, the program's own name first. It is nothing where a word is not UTF-8.
 fn command_line(rt: &HostRuntime) -> Result<Vec<String>, OutOfMemory> {
-    let alloc = rt.alloc();
-    let mut words = Vec::new(alloc);
+    let mut words = Vec::new(rt.alloc());
     match env::args(rt) {
         Ok(all) => {
-            for word in all.skip(1) {
+            for word in all {
                 words.push(word)?;
             }
             Ok(words)
@@ -26,21 +31,45 @@ fn command_line(rt: &HostRuntime) -> Result<Vec<String>, OutOfMemory> {
     }
 }
 
+/// The words after the program's own name.
+fn after_name(arguments: &[String]) -> &[String]
+    ensures { result.now ≡ drop 1 arguments.now }
+{
+    match arguments {
+        [_name, own @ ..] => own,
+        [] => arguments,
+    }
+}
+
+/// Words as the top call takes them.
+fn borrowed<'a>(alloc: Global, owned: &'a [String]) -> Result<Vec<&'a str>, OutOfMemory>
+    ensures { IfOk result (λ words. word_bytes words.items ≡ map string_bytes owned.now) }
+{
+    let mut words = Vec::with_capacity(alloc, owned.len())?;
+    for word in owned {
+        words.push(word.as_str())?;
+    }
+    Ok(words)
+}
+
 /// Runs the words over the host's files, standard output and standard input.
 fn run_on_host(rt: &HostRuntime) -> Result<Status, OutOfMemory> {
     let alloc = rt.alloc();
     let owned = command_line(rt)?;
-    let mut words = Vec::with_capacity(alloc, owned.len())?;
-    for word in &owned {
-        words.push(word.as_str())?;
-    }
+    let words = borrowed(alloc, after_name(&owned))?;
     let mut shelf = DirShelf::new(rt);
     let mut out = WriterSink::new(io::writer(rt));
     let mut prompt = ReaderPrompt::new(rt.reader());
     Ok(run::<Assembly, _, _, _>(alloc, words.as_slice(), &mut shelf, &mut out, &mut prompt))
 }
 
-fn main(rt: HostRuntime) -> ExitCode {
-    let status = run_on_host(&rt).unwrap_or(Status::OutOfMemory);
+/// The process's exit code at a status.
+fn exit_code(status: Status) -> ExitCode
+    ensures { process.exit_status result ≡ exit_status status }
+{
     ExitCode::from(status.number())
+}
+
+fn main(rt: HostRuntime) -> ExitCode {
+    exit_code(run_on_host(&rt).unwrap_or(Status::OutOfMemory))
 }

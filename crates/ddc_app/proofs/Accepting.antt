@@ -27,7 +27,7 @@ use Rattle.recipe_plan.specs.Recipes.{is_input, needs_apart, needs_inputs}
 use Rattle.recipe_plan.specs.Reports.{needs_report}
 use Rattle.command_plan.specs.Texts.{report_line}
 use Rattle.audit_commands.specs.Audit.{audit_files, audited, completed}
-use Rattle.verify_commands.specs.Verify.{judged_report, verified, verify_files}
+use Rattle.verify_commands.specs.Verify.{judge_files, judged_report, verified, verify_files}
 use Rattle.ddc_app.specs.Accepting.{audit, is_compared, verify}
 use Rattle.ddc_app.specs.Commands.{plan_of}
 use Rattle.ddc_app.proofs.Beginnings.{audit_loaded}
@@ -97,7 +97,7 @@ module _ (recipe report : List ℕ) (files : NamedFiles) (r : Replays recipe rep
 
   -- the same loads lead to its verdict
   pub judges : verify recipe report files ≡ outcome (judged_report r.said r.made.compare None) files
-  unfolding verify_files
+  unfolding judge_files
   judges =
       let last : Report → Plan = λ made. needs_inputs r.said (λ inputs. verified r.said inputs made) in
       let refuse : ℕ → Plan = λ number. answers ReportRefused (report_line number) in

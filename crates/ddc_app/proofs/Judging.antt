@@ -14,7 +14,7 @@ use Rattle.command_plan.specs.Texts.{report_line}
 use Rattle.command_plan.specs.Words.{usage}
 use Rattle.recipe_plan.specs.Recipes.{needs_apart, needs_inputs}
 use Rattle.recipe_plan.specs.Reports.{needs_report}
-use Rattle.verify_commands.specs.Verify.{judged_report, verified, verify_files}
+use Rattle.verify_commands.specs.Verify.{judge_files, judged_report, verified, verify_files}
 use Rattle.ddc_app.specs.Accepting.{verify}
 use Rattle.ddc_app.specs.Judged.{HoldsReport}
 use Rattle.ddc_app.proofs.Loads.{follows}
@@ -23,7 +23,7 @@ use Rattle.ddc_app.proofs.Openings.{Holds, apart_opens, inputs_open, recipe_open
 module _ (recipe report : List ℕ) (files : NamedFiles) (said : RecipeContents) (inputs : List (List ℕ)) (made : Report) (h : HoldsReport recipe report files said inputs made) where
   -- its loads lead to the judgement
   pub judgement : verify recipe report files ≡ outcome (judged_report said made.compare (first_fault said inputs made)) files
-  unfolding verify_files
+  unfolding judge_files
   judgement =
       let holds : Holds recipe said inputs files = record { bytes = h.recipe_bytes; recipe_held = h.recipe_held; reads = h.recipe_reads; inputs_held = h.inputs_held } in
       let last : Report → Plan = λ m. needs_inputs said (λ i. verified said i m) in

@@ -4,8 +4,11 @@ pub mod Loads
 pub mod Walks
 pub mod Openings
 pub mod Judging
+mod Named
 pub mod Accepting
 pub mod Verifying
+mod TrueWritten
+mod Told
 pub mod Chaining
 pub mod Joining
 pub mod CountWords

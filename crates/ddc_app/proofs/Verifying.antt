@@ -27,7 +27,7 @@ use Rattle.command_plan.specs.Words.{are_two_files, usage}
 use Rattle.recipe_plan.specs.Recipes.{is_input, needs_apart, needs_inputs, paths}
 use Rattle.recipe_plan.specs.Reports.{compared_status, needs_report}
 use Rattle.command_plan.specs.Texts.{report_line}
-use Rattle.verify_commands.specs.Verify.{judged_report, verified, verify_files}
+use Rattle.verify_commands.specs.Verify.{judge_files, judged_report, verified, verify_files}
 use Rattle.ddc_app.specs.Accepting.{is_compared, verify}
 use Rattle.ddc_app.specs.Commands.{plan_of}
 use Rattle.ddc_app.specs.Verified.{ShownBy, Verified}
@@ -92,7 +92,7 @@ module _ (recipe report : List ℕ) (files : NamedFiles) where
 
   pub replayed : (two : Bool) → IsTrue (is_compared (outcome (cond two (verify_files recipe report) usage) files).status)
       → Replayed recipe report files (outcome (cond two (verify_files recipe report) usage) files)
-  unfolding verify_files
+  unfolding judge_files
   replayed false compared = absurd cc
   replayed true compared =
       let next : RecipeContents → Plan = λ said. needs_apart said report (λ _. needs_report report (λ made. needs_inputs said (λ inputs. verified said inputs made))) in
@@ -101,7 +101,7 @@ module _ (recipe report : List ℕ) (files : NamedFiles) where
   -- the inputs are bytes where the plan's loads found bytes
   typed : (two : Bool) (answer : Outcome) → IsTrue (is_compared (outcome (cond two (verify_files recipe report) usage) files).status)
       → LoadsBytes (cond two (verify_files recipe report) usage) files → (r : Replayed recipe report files answer) → IsInputs r.said r.inputs
-  unfolding verify_files
+  unfolding judge_files
   typed false answer compared bytes r = absurd cc
   typed true answer compared bytes r =
       let last : Report → List (List ℕ) → Plan = λ made inputs. verified r.said inputs made in

@@ -6,12 +6,15 @@ use Rattle.command_plan.specs.declared.status.Status.TheVariants.{Yes, Differs}
 use Rattle.command_plan.specs.Plan.{Outcome, outcome}
 use Rattle.ddc_app.specs.Commands.{plan_of}
 
--- what `audit RECIPE REPORT` and `verify RECIPE REPORT` come to over files
+-- what `audit RECIPE REPORT`, `verify RECIPE REPORT` and `provenance RECIPE REPORT` return over files
 abbrev pub audit : List ℕ → List ℕ → NamedFiles → Outcome
 audit recipe report files = outcome (plan_of (codes "audit" ∷ recipe ∷ report ∷ [])) files
 
 abbrev pub verify : List ℕ → List ℕ → NamedFiles → Outcome
 verify recipe report files = outcome (plan_of (codes "verify" ∷ recipe ∷ report ∷ [])) files
+
+abbrev pub provenance : List ℕ → List ℕ → NamedFiles → Outcome
+provenance recipe report files = outcome (plan_of (codes "provenance" ∷ recipe ∷ report ∷ [])) files
 
 -- the artefact and the binary were compared: they are equal, or they differ
 abbrev pub is_compared : Status → Bool

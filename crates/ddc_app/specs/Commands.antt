@@ -22,7 +22,7 @@ use Rattle.stage_commands.specs.Cut.{cut_plan}
 use Rattle.stage_commands.specs.Ends.{ends_plan}
 use Rattle.stage_commands.specs.Segment.{segment_plan}
 use Rattle.verify_commands.specs.Rests.{rests_plan}
-use Rattle.verify_commands.specs.Verify.{verify_plan}
+use Rattle.verify_commands.specs.Verify.{provenance_plan, verify_plan}
 use Rattle.ddc_app.specs.Help.{help_plan}
 use Rattle.ddc_app.specs.Version.{version_plan}
 
@@ -57,11 +57,12 @@ text_plan (command ∷ words) =
     else (if bytes_eq command (codes "delta-resume") then delta_resume_plan words
     else (if bytes_eq command (codes "show") then show_plan words
     else (if bytes_eq command (codes "verify") then verify_plan words
+    else (if bytes_eq command (codes "provenance") then provenance_plan words
     else (if bytes_eq command (codes "chain") then chain_plan words
     else (if bytes_eq command (codes "kaem") then kaem_plan words
     else (if bytes_eq command (codes "kaem-verify") then kaem_verify_plan words
     else (if bytes_eq command (codes "kaem-left") then kaem_left_plan words
-    else other_plan command words))))))))))
+    else other_plan command words)))))))))))
 
 -- whether a command line is one of `step`, the command that may begin a session
 abbrev pub is_step : List (List ℕ) → Bool

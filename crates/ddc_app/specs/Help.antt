@@ -22,6 +22,7 @@ all_commands =
     command.DeltaResume ∷
     command.Show ∷
     command.Verify ∷
+    command.Provenance ∷
     command.Chain ∷
     command.Rests ∷
     command.Step ∷
@@ -50,6 +51,7 @@ command_name command.DeltaStart = codes "delta-start"
 command_name command.DeltaResume = codes "delta-resume"
 command_name command.Show = codes "show"
 command_name command.Verify = codes "verify"
+command_name command.Provenance = codes "provenance"
 command_name command.Chain = codes "chain"
 command_name command.Rests = codes "rests"
 command_name command.Step = codes "step"
@@ -78,6 +80,7 @@ command_form command.DeltaStart = codes "delta-start RECIPE BASE PATCH REPORT ST
 command_form command.DeltaResume = codes "delta-resume RECIPE BASE PATCH REPORT STEPS"
 command_form command.Show = codes "show REPORT"
 command_form command.Verify = codes "verify RECIPE REPORT"
+command_form command.Provenance = codes "provenance RECIPE REPORT"
 command_form command.Chain = codes "chain LIST"
 command_form command.Rests = codes "rests RECIPE STAGE"
 command_form command.Step = codes "step RECIPE STAGE"
@@ -106,6 +109,7 @@ command_answers command.DeltaStart = codes "goes on from BASE, and keeps under P
 command_answers command.DeltaResume = codes "goes on from where BASE and PATCH stand"
 command_answers command.Show = codes "prints the report in REPORT, or says at which line it is none"
 command_answers command.Verify = codes "replays the stages of RECIPE, and says whether REPORT is true"
+command_answers command.Provenance = codes "does as verify, and lists by length and digest what each compared artefact depends on"
 command_answers command.Chain = codes "replays the audits that LIST names, and says what remains to be believed of them together"
 command_answers command.Rests = codes "says what the artefact of STAGE rests on: texts, runs, and what has to be believed"
 command_answers command.Step = codes "answers lines of standard input on what the program of STAGE does"
@@ -134,6 +138,7 @@ command_statuses command.DeltaStart = codes "0 3 4 6 7 8 9"
 command_statuses command.DeltaResume = codes "0 3 4 6 7 8 9"
 command_statuses command.Show = codes "0 5"
 command_statuses command.Verify = codes "0 1 3 4 5"
+command_statuses command.Provenance = codes "0 1 3 4 5"
 command_statuses command.Chain = codes "0 1 3 4 5 16"
 command_statuses command.Rests = codes "0 4"
 command_statuses command.Step = codes "0 4 6 7"

@@ -7,6 +7,8 @@ pub mod Pausing
 pub mod Differences
 pub mod Verified
 pub mod Judged
+pub mod Headline
+pub mod Accounted
 pub mod Chained
 pub mod ChainJudged
 pub mod Scripted

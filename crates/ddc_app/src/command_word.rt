@@ -18,6 +18,7 @@ pub enum CommandWord {
     DeltaResume,
     Show,
     Verify,
+    Provenance,
     Chain,
     Rests,
     Step,
@@ -34,7 +35,7 @@ pub enum CommandWord {
 }
 
 /// All commands, in order.
-static COMMANDS: [CommandWord; 25] = [
+static COMMANDS: [CommandWord; 26] = [
     CommandWord::Hex0,
     CommandWord::Asm,
     CommandWord::Where,
@@ -47,6 +48,7 @@ static COMMANDS: [CommandWord; 25] = [
     CommandWord::DeltaResume,
     CommandWord::Show,
     CommandWord::Verify,
+    CommandWord::Provenance,
     CommandWord::Chain,
     CommandWord::Rests,
     CommandWord::Step,
@@ -65,7 +67,7 @@ static COMMANDS: [CommandWord; 25] = [
 impl CommandWord {
     /// All of them, in order.
     #[tactic(auto, unfolding(crate::specs::Help::all_commands))]
-    pub fn all() -> &'static [CommandWord; 25]
+    pub fn all() -> &'static [CommandWord; 26]
         ensures { result.now ≡ all_commands }
     {
         &COMMANDS
@@ -100,6 +102,7 @@ impl CommandWord {
             CommandWord::DeltaResume => "delta-resume",
             CommandWord::Show => "show",
             CommandWord::Verify => "verify",
+            CommandWord::Provenance => "provenance",
             CommandWord::Chain => "chain",
             CommandWord::Rests => "rests",
             CommandWord::Step => "step",
@@ -134,6 +137,7 @@ impl CommandWord {
             CommandWord::DeltaResume => "delta-resume RECIPE BASE PATCH REPORT STEPS",
             CommandWord::Show => "show REPORT",
             CommandWord::Verify => "verify RECIPE REPORT",
+            CommandWord::Provenance => "provenance RECIPE REPORT",
             CommandWord::Chain => "chain LIST",
             CommandWord::Rests => "rests RECIPE STAGE",
             CommandWord::Step => "step RECIPE STAGE",
@@ -172,6 +176,8 @@ impl CommandWord {
             CommandWord::DeltaResume => "goes on from where BASE and PATCH stand",
             CommandWord::Show => "prints the report in REPORT, or says at which line it is none",
             CommandWord::Verify => "replays the stages of RECIPE, and says whether REPORT is true",
+            CommandWord::Provenance =>
+                "does as verify, and lists by length and digest what each compared artefact depends on",
             CommandWord::Chain =>
                 "replays the audits that LIST names, and says what remains to be believed of them together",
             CommandWord::Rests =>
@@ -215,6 +221,7 @@ impl CommandWord {
             CommandWord::DeltaResume => "0 3 4 6 7 8 9",
             CommandWord::Show => "0 5",
             CommandWord::Verify => "0 1 3 4 5",
+            CommandWord::Provenance => "0 1 3 4 5",
             CommandWord::Chain => "0 1 3 4 5 16",
             CommandWord::Rests => "0 4",
             CommandWord::Step => "0 4 6 7",

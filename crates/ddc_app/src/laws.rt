@@ -2,16 +2,21 @@
 //!
 //! Where a law asks that what a command loads is bytes (`LoadsBytes` of its plan), a call of `run` with the command's words says so: its clause `calls`.
 
-ghost use Rattle.ddc_app.specs.Accepting.{audit, is_compared, verify};
+ghost use Rattle.ddc_app.specs.Accepting.{audit, is_compared, provenance, verify};
+ghost use Rattle.ddc_app.specs.Accounted.{Accounted, DigestCollision};
 ghost use Rattle.ddc_app.specs.ChainJudged.{AllVerified};
 ghost use Rattle.ddc_app.specs.Chained.{Chained, chain};
 ghost use Rattle.ddc_app.specs.Commands.{plan_of};
 ghost use Rattle.ddc_app.specs.Differences.{AreDeltaWords, DeltaPieces, Differences, IsSavedRelative, LeavesAllBut, delta_resume, delta_start, in_differences};
+ghost use Rattle.ddc_app.specs.Headline.{HoldsTrueReport, SaysHeadline};
 ghost use Rattle.ddc_app.specs.Judged.{HoldsReport};
 ghost use Rattle.ddc_app.specs.Pausing.{AreWords, IsStepCount, LeavesOthers, LeavesUnwritten, Pieces, IsSavedAt, in_pieces, part, resume};
 ghost use Rattle.ddc_app.specs.Scripted.{ChangesOutAlone, ChangesReportAlone, HoldsScript, IsScriptTrue, ScriptReported, ScriptVerified, kaem, kaem_ended, kaem_left, kaem_verify};
 ghost use Rattle.ddc_app.specs.Verified.{Verified};
-ghost use Rattle.command_plan.specs.Plan.{LoadsBytes};
+ghost use Rattle.command_plan.specs.Plan.{LoadsBytes, outcome};
+ghost use Rattle.recipe_plan.specs.Reports.{compared_status};
+ghost use Rattle.verify_commands.specs.Provenance.{origin_text, provenance_text};
+ghost use Rattle.verify_commands.specs.Verify.{provenance_plan};
 ghost use Rattle.command_plan.specs.declared.status.Status.TheVariants.{Differs, Paused, Refuted, Yes};
 ghost use Rattle.ddc_base.specs.Outside.{NamedFiles};
 ghost use Rattle.ddc_base.specs.Lines.{line};
@@ -23,17 +28,26 @@ ghost use Rattle.report.specs.Lines.{line_words};
 ghost use Rattle.report.specs.declared.line.ReportLine.TheVariants.{Left, Stream1, Stream2};
 ghost use Rattle.report.specs.declared.types.Report.{Report};
 ghost use Rattle.std.specs.FinMap as map;
-ghost use Rattle.std.specs.Prelude.{◌≡◌, ◌+◌, ◌↔◌, [], ◌∷◌, All, IsTrue, List, None, Some, codes, decimal, false, length, sum, true, ℕ};
+ghost use Rattle.std.specs.Prelude.{◌≡◌, ◌+◌, ◌↔◌, [], ◌∷◌, ◌⊎◌, All, IsTrue, List, None, Ok, Some, codes, decimal, false, length, sum, true, ℕ};
 ghost use Rattle.tool_commands.specs.RunProgram.{left_line, stream_line};
 ghost use Rattle.tool_commands.specs.ScriptTexts.{commands_true_line};
 ghost use Rattle.report.specs.Marks.{mark_of};
 ghost use Rattle.verifier.specs.Faults.{first_fault};
 ghost use Rattle.verifier.specs.declared.part.Part.{Part};
 ghost use Rattle.verify_commands.specs.ChainTexts.{chain_text};
-ghost use Rattle.audit_rules.specs.Bench.{all_equal};
+ghost use Rattle.audit_rules.specs.Bench.{all_equal, bench};
+ghost use Rattle.audit_rules.specs.Valid.{IsInputs};
+ghost use Rattle.audit_rules.specs.declared.answer.AuditAnswer.TheVariants.{Completes};
+ghost use Rattle.audit_chain.specs.Rests.Agree.{IsSameArtefact};
+ghost use Rattle.wheeler.specs.AllContents.{stage_named};
+ghost use Rattle.recipe.specs.Reading.{recipe_of};
+ghost use Rattle.recipe.specs.declared.parts.Stage.{Stage};
 
 use audit_chain::laws::composed;
+use recipe::laws::a_recipe_that_reads_keeps_the_rules;
 use verifier::conclusion::laws::a_true_report_shows;
+use verifier::laws::{a_yes_in_its_own_words, no_fault_is_every_word_true};
+use verify_commands::laws::{it_judges_as_verify, what_is_printed_settles_it};
 use wheeler::Meaning;
 
 /// An audit's own report is accepted: where `audit RECIPE REPORT` over files, of which those that it loads are found to be bytes, comes to 0 or 3,
@@ -69,6 +83,49 @@ pub fn verdicts()
         → ((verify recipe report files).status ≡ Refuted) ↔ ((one : Part × ℕ) × (first_fault said inputs made ≡ Some one)) }
 {}
 
+/// The headline: over files that hold a recipe and a report that read, and the recipe's inputs, `verify` returns 0 exactly where the report has the digest
+/// of the recipe's file and the name, length and digest of each input, the line of each stage is true of its run, each checked artefact is what its source
+/// stands for, and the artefact of each compared stage is the audited binary.
+pub fn the_headline()
+    ensures { (recipe report : List ℕ) (files : NamedFiles) (said : Recipe) (inputs : List (List ℕ)) (made : Report)
+        → (held : HoldsReport recipe report files said inputs made)
+        → ((verify recipe report files).status ≡ Yes) ↔ SaysHeadline held.recipe_bytes said inputs made }
+{
+    a_recipe_that_reads_keeps_the_rules();
+    a_yes_in_its_own_words();
+    verdicts();
+}
+
+/// Over any files, where `verify RECIPE REPORT` returns 0 or 3, every line of the report is true, clause by clause.
+pub fn compared_reports_are_true()
+    ensures { (recipe report : List ℕ) (files : NamedFiles) → IsTrue (is_compared (verify recipe report files).status)
+        → HoldsTrueReport recipe report files }
+{
+    no_fault_is_every_word_true();
+}
+
+/// The converse of the headline: an audit that returns 0 or 3 has written a report of which every line is true. It may have run undivided, in pieces of any
+/// number of steps, or by differences from an earlier save.
+pub fn audits_write_true_reports()
+    ensures undivided { (recipe report : List ℕ) (files : NamedFiles) → LoadsBytes (plan_of (codes "audit" ∷ recipe ∷ report ∷ [])) files
+        → IsTrue (is_compared (audit recipe report files).status)
+        → HoldsTrueReport recipe report (audit recipe report files).files }
+    ensures pieces { (recipe save report : List ℕ) (steps : ℕ) (counts : List ℕ) (files : NamedFiles) → AreWords recipe save report files
+        → All IsStepCount (steps ∷ counts) → LoadsBytes (plan_of (codes "part" ∷ recipe ∷ save ∷ report ∷ decimal steps ∷ [])) files
+        → IsTrue (is_compared (in_pieces recipe save report steps counts files).status)
+        → HoldsTrueReport recipe report (in_pieces recipe save report steps counts files).files }
+    ensures differences { (recipe base patch report : List ℕ) (steps : ℕ) (counts : List ℕ) (files : NamedFiles)
+        → AreDeltaWords recipe base patch report files → All IsStepCount (steps ∷ counts)
+        → LoadsBytes (plan_of (codes "part" ∷ recipe ∷ base ∷ report ∷ decimal steps ∷ [])) files
+        → IsTrue (is_compared (in_differences recipe base patch report steps counts files).status)
+        → HoldsTrueReport recipe report (in_differences recipe base patch report steps counts files).files }
+{
+    accepted();
+    pauses();
+    differences();
+    compared_reports_are_true();
+}
+
 /// Composed audits, on the answer of `chain`, whatever sources mean: where `chain LIST` over files, of which those that it loads are found to be
 /// bytes, comes to 0, each line of the list is a true audit whose comparisons are equal, and the text has exactly what remains of all of them.
 /// Where each of these lines holds, every line that is assumed of every audit does, every stage follows, and each audited binary implements the
@@ -86,6 +143,41 @@ pub fn chains_verified()
     ensures yes { (list : List ℕ) (files : NamedFiles) → ((chain list files).status ≡ Yes) ↔ AllVerified list files }
     ensures text { (list : List ℕ) (files : NamedFiles) (all : AllVerified list files) → (chain list files).text ≡ chain_text all.links }
 {}
+
+/// What `provenance` answers: over files that hold a recipe and a report that read, and the recipe's inputs, where the report has no fault, it returns the
+/// status of the comparisons, its text is determined by the recipe and the report alone, and no file changes.
+pub fn a_true_report_is_told()
+    ensures { (recipe report : List ℕ) (files : NamedFiles) (said : Recipe) (inputs : List (List ℕ)) (made : Report)
+        → HoldsReport recipe report files said inputs made → first_fault said inputs made ≡ None
+        → outcome (provenance_plan (recipe ∷ report ∷ [])) files
+        ≡ record { status = compared_status made.compare; text = provenance_text said made; files = files } }
+{}
+
+/// What an answer of `provenance` shows, whatever sources mean: where `provenance RECIPE REPORT` over files, of which those that it loads are found to be
+/// bytes, returns 0 or 3, `verify` returns the same and shows what `verified` says, the text is determined by the recipe and the report, and no file changes.
+pub fn accounted<M: Meaning>()
+    ensures { (recipe report : List ℕ) (files : NamedFiles) → LoadsBytes (plan_of (codes "provenance" ∷ recipe ∷ report ∷ [])) files
+        → IsTrue (is_compared (provenance recipe report files).status)
+        → Accounted M.prescribes M.compiles recipe report files (provenance recipe report files) }
+{
+    verified::<M>();
+    it_judges_as_verify();
+    a_true_report_is_told();
+}
+
+/// For a reader of digests: two recipe files that read and have one digest, with audits that complete, and of a stage the same lines of `provenance` below its
+/// comparison. The artefact of the stage is then the same in both, of a stage that is checked in M1 it has the same items, or two different contents with
+/// one digest are at hand.
+pub fn printed_digests_settle_it()
+    ensures { (bytes other_bytes : List ℕ) (said other_said : Recipe) (inputs others : List (List ℕ)) (made other : Report) (name : List ℕ) (stage : Stage)
+        → recipe_of bytes ≡ Ok said → recipe_of other_bytes ≡ Ok other_said → said.digest ≡ other_said.digest
+        → IsInputs said inputs → IsInputs other_said others → bench said inputs ≡ Completes made → bench other_said others ≡ Completes other
+        → stage_named said.stages name ≡ Some stage → origin_text said made name ≡ origin_text other_said other name
+        → IsSameArtefact said inputs others stage ⊎ DigestCollision }
+{
+    a_recipe_that_reads_keeps_the_rules();
+    what_is_printed_settles_it();
+}
 
 /// A piece of an audit: `part` by some steps over files pauses after as many and leaves the save of that position, or it comes to the same
 /// as `audit`.

@@ -8,6 +8,7 @@ ghost use Rattle.command_plan.specs.Endings.{Completes};
 ghost use Rattle.command_plan.specs.Performs.{HoldsTalk, Performs, WantsMemory, outside};
 ghost use Rattle.command_plan.specs.Plan.{talk_of};
 ghost use Rattle.ddc_app.specs.Accepting.{is_compared, verify};
+ghost use Rattle.ddc_app.specs.Accounted.{Accounted};
 ghost use Rattle.ddc_app.specs.Commands.{is_step, other_plan, text_plan};
 ghost use Rattle.ddc_app.specs.Chained.{Chained};
 ghost use Rattle.ddc_app.specs.Scripted.{ScriptReported, ScriptVerified, kaem_verify};
@@ -15,7 +16,7 @@ ghost use Rattle.ddc_app.specs.Verified.{Verified};
 ghost use Rattle.ddc_app.specs.Run.{plan_for, expected, IsExpected, IsOneText, LosesText, NamesFault, TakesOne};
 ghost use Rattle.ddc_app.specs.Inside.Concluding.{Closes, Leaves, PutEnds, SaysEnding, unless_lost};
 
-use crate::laws::{chained, verified};
+use crate::laws::{accounted, chained, verified};
 use crate::{help, version};
 use audit_commands::{audit, delta_resume, delta_start, demo, part, resume, show};
 use command_plan::{Answer, Status, Stop, usage};
@@ -24,7 +25,7 @@ use prompt::Prompt;
 use stage_commands::{cut, ends, left, segment, step};
 use std::alloc::Global;
 use tool_commands::{asm, hex0, kaem, kaem_left, kaem_verify, list, refusal_place, run};
-use verify_commands::{chain, rests, verify};
+use verify_commands::{Explanation, chain, rests, verify};
 use wheeler::Meaning;
 
 /// Everything that the program does: it takes the words of the command line, without the program's own name, and answers the
@@ -90,6 +91,11 @@ pub fn run<M: Meaning, S: Shelf, K: Sink, P: Prompt>(
         → map (λ word. word.now) words.now ≡ codes "verify" ∷ recipe ∷ report ∷ [] → IsTrue (is_compared result)
         → Verified M.prescribes M.compiles recipe report (S.state shelf.old).files (expected words.now (S.state shelf.old)) }
 
+    // What an answer of `provenance` shows: all that `verify` shows, and a text that the recipe and the report determine.
+    ensures accounted { IsExpected words.now (S.state shelf.old) → (recipe report : List ℕ)
+        → map (λ word. word.now) words.now ≡ codes "provenance" ∷ recipe ∷ report ∷ [] → IsTrue (is_compared result)
+        → Accounted M.prescribes M.compiles recipe report (S.state shelf.old).files (expected words.now (S.state shelf.old)) }
+
     // What `audit` accepts, `verify` accepts: a 0 or a 3 is what it comes to over the files that are left.
     ensures accepted { IsExpected words.now (S.state shelf.old) → (recipe report : List ℕ)
         → map (λ word. word.now) words.now ≡ codes "audit" ∷ recipe ∷ report ∷ [] → IsTrue (is_compared result)
@@ -122,6 +128,7 @@ pub fn run<M: Meaning, S: Shelf, K: Sink, P: Prompt>(
     ensures prompt_tells { (P.state prompt.new).tells ≡ (P.state prompt.old).tells }
 {
     verified::<M>();
+    accounted::<M>();
     chained::<M>();
     act::<M, S, K, P>(alloc, shelf, out, prompt, words)
 }
@@ -182,7 +189,8 @@ fn perform<M: Meaning, S: Shelf>(
         "delta-start" => delta_start::perform(alloc, shelf, words),
         "delta-resume" => delta_resume::perform(alloc, shelf, words),
         "show" => show::perform(alloc, shelf, words),
-        "verify" => verify::perform::<M, S>(alloc, shelf, words),
+        "verify" => verify::perform::<M, S>(alloc, shelf, Explanation::Assumptions, words),
+        "provenance" => verify::perform::<M, S>(alloc, shelf, Explanation::Provenance, words),
         "chain" => chain::perform(alloc, shelf, words),
         "kaem" => kaem::perform(alloc, shelf, words),
         "kaem-verify" => kaem_verify::perform(alloc, shelf, words),

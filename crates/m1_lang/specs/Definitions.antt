@@ -25,6 +25,12 @@ parts (word ∷ name ∷ value ∷ rest) =
     if is_define word.text then Defines word.at name.text value.text ∷ parts rest
     else Plain word ∷ parts (name ∷ value ∷ rest)
 
+-- the names of the definitions
+abbrev pub defined_names : List SourcePart → List (List ℕ)
+defined_names [] = []
+defined_names (Defines at name value ∷ rest) = name ∷ defined_names rest
+defined_names (part ∷ rest) = defined_names rest
+
 -- the words that belong to no definition
 abbrev pub plain_words : List SourcePart → List Word
 plain_words [] = []

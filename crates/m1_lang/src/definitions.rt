@@ -1,14 +1,17 @@
 //! The definitions of an M1 source.
 
-ghost use Rattle.std.specs.Prelude.{◌≡◌, ◌≤◌, length};
+ghost use Rattle.std.specs.Prelude.{◌≡◌, ◌≤◌, length, IfOk};
 ghost use Rattle.m1_lang.specs.Words.Words.{words_of};
-ghost use Rattle.m1_lang.specs.Definitions.{definitions_in, is_define};
-ghost use Rattle.m1_lang.specs.Representation.Passes.{quote_or, open_at, DefinesOne, Enters, Tabulates};
+ghost use Rattle.indexmap.specs.IndexMap.{hasher_of};
+ghost use Rattle.hex_langs.specs.NameKeys.{IsKeyedBy, begun_by};
+ghost use Rattle.m1_lang.specs.Definitions.{defined_names, definitions_in, is_define};
+ghost use Rattle.m1_lang.specs.Representation.Passes.{quote_or, open_at, DefinesOne, Enters, Tabulates, TakesName, parts_at};
 
 use crate::refusal::M1Refusal;
 use crate::words::{Ahead, Value, next_word};
-use ddc_base::{NamesDigest, NamesKey, OutOfMemory};
+use ddc_base::{NamesKey, OutOfMemory};
 use hex_langs::items::LabelName;
+use hex_langs::name_keys::KeyNames;
 use indexmap::IndexMap;
 use std::alloc::Global;
 
@@ -37,32 +40,34 @@ fn open_quote(source: &[u8], from: usize) -> Option<usize>
     None
 }
 
-/// The offset after a name, which the digest takes.
-fn take_name(names: &mut NamesDigest, source: &[u8], at: usize) -> usize
+/// Takes the name of a definition after its `DEFINE`, and gives the offset after its value.
+fn take_name(names: &mut KeyNames, source: &[u8], at: usize) -> usize
     requires { at ≤ length source.now }
-    ensures low { at ≤ result }
-    ensures high { result ≤ length source.now }
+    ensures { TakesName result source.now at names.old names.new }
 {
     match next_word(source, at) {
-        Ahead::Word(_, name, after) => {
-            names.add(name);
-            after
-        }
+        Ahead::Word(_, name, following) => match next_word(source, following) {
+            Ahead::Word(_, _, after) => {
+                names.add(name);
+                after
+            }
+            _ => source.len(),
+        },
         _ => source.len(),
     }
 }
 
-/// The key of the table of the definitions: all the names after a `DEFINE`.
-fn names_key(source: &[u8]) -> NamesKey {
-    let mut names = NamesDigest::new();
-    let mut are_none = true;
+/// The key of the table of the definitions: all their names.
+fn names_key(source: &[u8]) -> NamesKey
+    ensures { result.begun ≡ begun_by (defined_names (parts_at source.now 0)) }
+{
+    let mut names = KeyNames::new();
     let mut at = 0;
     while at < source.len() {
         match next_word(source, at) {
             Ahead::Word(_, text, after) => {
                 if is_define(text) {
                     at = take_name(&mut names, source, after);
-                    are_none = false;
                 } else {
                     at = after;
                 }
@@ -70,12 +75,7 @@ fn names_key(source: &[u8]) -> NamesKey {
             _ => at = source.len(),
         }
     }
-    // A digest of no names would be work for nothing.
-    if are_none {
-        NamesKey::of_none()
-    } else {
-        names.key()
-    }
+    names.key()
 }
 
 /// Adds a definition, and tells whether its name had one.
@@ -84,7 +84,8 @@ fn add_definition<'s>(
     name: &'s [u8],
     value: Value<'s>,
 ) -> Result<bool, OutOfMemory>
-    ensures { Enters result name.now value.entry table.old table.new }
+    ensures enters { Enters result name.now value.entry table.old table.new }
+    ensures kept { hasher_of table.new ≡ hasher_of table.old }
 {
     Ok(table.insert(LabelName::new(name), value)?.is_some())
 }
@@ -97,7 +98,8 @@ fn define<'s>(
     at: usize,
 ) -> Result<usize, M1Refusal>
     requires { at ≤ length source.now }
-    ensures { DefinesOne result start source.now at table.old table.new }
+    ensures defines { DefinesOne result start source.now at table.old table.new }
+    ensures kept { hasher_of table.new ≡ hasher_of table.old }
 {
     let Ahead::Word(_, name, following) = next_word(source, at) else {
         return Err(M1Refusal::BadDefine(start as u64));
@@ -130,7 +132,8 @@ pub(crate) fn definitions_of<'s>(
     alloc: Global,
     source: &'s [u8],
 ) -> Result<Definitions<'s>, M1Refusal>
-    ensures { Tabulates result (definitions_in (words_of source.now)) }
+    ensures tabulates { Tabulates result (definitions_in (words_of source.now)) }
+    ensures keyed { IfOk result (λ table. IsKeyedBy (defined_names (parts_at source.now 0)) table) }
 {
     let mut table = IndexMap::with_hasher(alloc, names_key(source));
     let mut at = 0;

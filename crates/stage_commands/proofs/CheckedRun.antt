@@ -1,5 +1,5 @@
 -- What `segment` with 0 says, and what `ends` and every `segment` with 0 say together.
-use Rattle.std.proofs.Common.{◌≡◌, ℕ, zero, suc, ◌+◌, ◌-◌, ◌<◌, ◌≤◌, ◌==◌, Bool, true, false, cond, IsTrue, Option, None, Some, Result, Ok, Err, List, decimal, length, refl, sym, ap, ◌∙◌, subst, arith}
+use Rattle.std.proofs.Common.{◌≡◌, ℕ, zero, suc, ◌+◌, ◌-◌, ◌<◌, ◌≤◌, ◌==◌, Bool, true, false, cond, IsTrue, Option, None, Some, Result, Ok, Err, List, [], ◌∷◌, decimal, length, refl, sym, ap, ◌∙◌, subst, arith}
 use Rattle.std.specs.Prelude.{All, slice_get}
 use Rattle.std.specs.FinMap as finite
 use Rattle.std.proofs.Math.Decide.{dec_lt}
@@ -7,7 +7,8 @@ use Rattle.std.proofs.lemmas.Bool.Decides.{Decides-eqb}
 use Rattle.ddc_base.specs.ByteLists.{AreBytes}
 use Rattle.ddc_base.specs.Difference.{first_difference}
 use Rattle.ddc_base.proofs.Decimals.{as_decimal-is}
-use Rattle.ddc_base.specs.declared.outside.Loaded.TheVariants.{Bytes}
+use Rattle.ddc_base.specs.declared.outside.Loaded.{Loaded}
+use Rattle.ddc_base.specs.declared.outside.Loaded.TheVariants.{Absent, Bytes, TooLong}
 use Rattle.ddc_base.specs.Outside.{NamedFiles, loaded}
 use Rattle.mem_files.specs.Outputs.{out}
 use Rattle.guest_run.specs.declared.run.RunEnd.TheVariants as ending
@@ -24,7 +25,7 @@ use Rattle.segments.specs.Segments.{ChecksPiece, EndsWith, IsStateOf, second_tex
 use Rattle.segments.specs.declared.answers.SegmentFault.{SegmentFault}
 use Rattle.segments.specs.declared.answers.StateFault.{StateFault}
 use Rattle.command_plan.specs.declared.status.Status.TheVariants.{Yes}
-use Rattle.command_plan.specs.Plan.{Outcome, Plan, answers, needs, outcome, unless_refused}
+use Rattle.command_plan.specs.Plan.{LoadsBytes, Outcome, Plan, answers, bytes_then, needs, outcome, unless_refused}
 use Rattle.command_plan.specs.Words.{are_two_files, or_usage, usage}
 use Rattle.stage_commands.specs.Checked.{AreChecked, EndShows, HoldPiece, IsRunReported, piece_reported_yes}
 use Rattle.stage_commands.specs.Cutting.{ends_over, segment_over}
@@ -32,7 +33,7 @@ use Rattle.stage_commands.specs.Ends.{ends_files, ends_judged, needs_first, need
 use Rattle.stage_commands.specs.Exits.{run_failed, unless_absent}
 use Rattle.stage_commands.specs.Names.{are_stage_words, as_states, piece_name, within_states}
 use Rattle.stage_commands.specs.Ready.{needs_ready}
-use Rattle.stage_commands.specs.Segment.{piece_reported, segment_files}
+use Rattle.stage_commands.specs.Segment.{piece_reported, segment_files, segment_plan}
 use Rattle.stage_commands.specs.States.{ReadsAs, end_after, piece_answer, piece_of, state_said}
 use Rattle.stage_commands.specs.Texts.{run_record}
 use Rattle.stage_commands.specs.declared.ready.Ready.{Ready}
@@ -56,20 +57,17 @@ pub piece_is_reported : (from to : List ℕ) (files : NamedFiles) (steps : ℕ) 
 piece_is_reported from to files steps two h =
     segment_reported files from to h.former h.latter steps two h.former_is h.latter_is (is_reported h.former h.latter (Ok steps) h.piece)
 
-module _ (files : NamedFiles) (bytes : (name content : List ℕ) → finite.get files name ≡ Some content → All (λ byte. byte < 256) content) where
-  held_bytes : (name : List ℕ) (limit : ℕ) (content : List ℕ) → loaded files name limit ≡ Bytes content → AreBytes content
-  held_bytes name limit content is = bytes name content (within_limit limit (finite.get files name) content is).0
+-- ---- `segment`
 
-  -- ---- `segment`
-
+module _ (files : NamedFiles) where
   module _ (from to : List ℕ) where
     abbrev Shown : Outcome → Type 0
     Shown o = (steps : ℕ) × HoldPiece from to files steps × (o ≡ piece_reported_yes steps files)
 
-    by_piece : (former latter : List ℕ) → loaded files from 4_294_967_296 ≡ Bytes former → loaded files to 4_294_967_296 ≡ Bytes latter → (r : Result ℕ SegmentFault) → piece_of former latter ≡ r
-        → IsYes (piece_reported r) files → Shown (outcome (piece_reported r) files)
-    by_piece former latter first second (Ok steps) is zeroed =
-        let shown = piece_shown former latter (held_bytes from 4_294_967_296 former first) (held_bytes to 4_294_967_296 latter second) in (
+    by_piece : (former latter : List ℕ) → loaded files from 4_294_967_296 ≡ Bytes former → loaded files to 4_294_967_296 ≡ Bytes latter → AreBytes former → AreBytes latter
+        → (r : Result ℕ SegmentFault) → piece_of former latter ≡ r → IsYes (piece_reported r) files → Shown (outcome (piece_reported r) files)
+    by_piece former latter first second one two (Ok steps) is zeroed =
+        let shown = piece_shown former latter one two in (
           steps,
           record {
             former = former;
@@ -80,26 +78,53 @@ module _ (files : NamedFiles) (bytes : (name content : List ℕ) → finite.get 
           },
           refl,
         )
-    by_piece former latter first second (Err why) is zeroed = absurd cc
+    by_piece former latter first second one two (Err why) is zeroed = absurd cc
 
-    by_files : IsYes (segment_files from to) files → Shown (outcome (segment_files from to) files)
+    by_files : LoadsBytes (segment_files from to) files → IsYes (segment_files from to) files → Shown (outcome (segment_files from to) files)
     unfolding segment_files
-    by_files zeroed =
+    by_files bytes zeroed =
         let with_former : List ℕ → Plan = λ former. needs to 4_294_967_296 (λ latter. piece_reported (piece_of former latter)) in
         let a = load_found from 4_294_967_296 with_former files zeroed in
         let one = follows_load from 4_294_967_296 with_former files a.0 a.1 in
         let with_latter : List ℕ → Plan = λ latter. piece_reported (piece_of a.0 latter) in
         let b = load_found to 4_294_967_296 with_latter files (yes_as (segment_files from to) (with_former a.0) files one zeroed) in
         let comes = one ∙ follows_load to 4_294_967_296 with_latter files b.0 b.1 in
-        subst Shown (sym comes) (by_piece a.0 b.0 a.1 b.1 (piece_of a.0 b.0) refl (yes_as (segment_files from to) (with_latter b.0) files comes zeroed))
+        let formers = subst (λ (l : Loaded). bytes_then l (λ c. LoadsBytes (with_former c) files)) a.1 bytes in
+        let latters = subst (λ (l : Loaded). bytes_then l (λ c. LoadsBytes (with_latter c) files)) b.1 formers.1 in
+        subst Shown (sym comes) (by_piece a.0 b.0 a.1 b.1 formers.0 latters.0 (piece_of a.0 b.0) refl (yes_as (segment_files from to) (with_latter b.0) files comes zeroed))
 
-    pub segment_shown : (segment_over from to files).status ≡ Yes → Shown (segment_over from to files)
-    segment_shown zeroed = by (are_two_files from to) zeroed where
-      by : (two : Bool) → IsYes (cond two (segment_files from to) usage) files → Shown (outcome (cond two (segment_files from to) usage) files)
-      by true zeroed = by_files zeroed
-      by false zeroed = absurd cc
+    pub segment_shown : LoadsBytes (segment_plan (from ∷ to ∷ [])) files → (segment_over from to files).status ≡ Yes → Shown (segment_over from to files)
+    segment_shown bytes zeroed = by (are_two_files from to) bytes zeroed where
+      by : (two : Bool) → LoadsBytes (cond two (segment_files from to) usage) files → IsYes (cond two (segment_files from to) usage) files
+          → Shown (outcome (cond two (segment_files from to) usage) files)
+      by true bytes zeroed = by_files bytes zeroed
+      by false bytes zeroed = absurd cc
 
-  -- ---- all together
+-- ---- all together
+
+module _ (files : NamedFiles) (bytes : (name content : List ℕ) → finite.get files name ≡ Some content → All (λ byte. byte < 256) content) where
+  held_bytes : (name : List ℕ) (limit : ℕ) (content : List ℕ) → loaded files name limit ≡ Bytes content → AreBytes content
+  held_bytes name limit content is = bytes name content (within_limit limit (finite.get files name) content is).0
+
+  load_bytes : (name : List ℕ) (limit : ℕ) (Rest : List ℕ → Type 0) → ((content : List ℕ) → Rest content) → bytes_then (loaded files name limit) Rest
+  load_bytes name limit Rest rest = by (loaded files name limit) refl where
+    by : (l : Loaded) → loaded files name limit ≡ l → bytes_then l Rest
+    by (Bytes content) is = (held_bytes name limit content is, rest content)
+    by Absent is = tt
+    by TooLong is = tt
+
+  reported_bytes : (r : Result ℕ SegmentFault) → LoadsBytes (piece_reported r) files
+  reported_bytes (Ok steps) = tt
+  reported_bytes (Err why) = tt
+
+  segment_bytes : (from to : List ℕ) → LoadsBytes (segment_plan (from ∷ to ∷ [])) files
+  unfolding segment_files
+  segment_bytes from to = by (are_two_files from to) where
+    by : (two : Bool) → LoadsBytes (cond two (segment_files from to) usage) files
+    by true =
+        load_bytes from 4_294_967_296 (λ former. LoadsBytes (needs to 4_294_967_296 (λ latter. piece_reported (piece_of former latter))) files)
+        (λ former. load_bytes to 4_294_967_296 (λ latter. LoadsBytes (piece_reported (piece_of former latter)) files) (λ latter. reported_bytes (piece_of former latter)))
+    by false = tt
 
   module _ (recipe stage prefix : List ℕ) (count : ℕ) (some : 1 ≤ count)
       (pieces : (number : ℕ) → number + 1 < count → (segment_over (piece_name prefix number) (piece_name prefix (number + 1)) files).status ≡ Yes) where
@@ -122,7 +147,7 @@ module _ (files : NamedFiles) (bytes : (name content : List ℕ) → finite.get 
 
         one_on : (from to : List ℕ) → IsReached from → (segment_over from to files).status ≡ Yes → IsReached to
         one_on from to at zeroed =
-            let s = segment_shown from to zeroed in
+            let s = segment_shown files from to (segment_bytes from to) zeroed in
             let piece = s.1.piece in
             let text : at.text ≡ s.1.former = one_held files from 4_294_967_296 at.text s.1.former at.held s.1.former_is in
             let same : piece.states.first ≡ at.state = one_said s.1.former piece.states.first at.state piece.states.from_is (subst (λ t. IsStateOf t at.state) text at.is) in

@@ -1,12 +1,12 @@
 //! Laws about the definitions. Each is the contract of a function that does nothing.
 
 ghost use Rattle.std.specs.FinMap as map;
-ghost use Rattle.std.specs.Prelude.{◌≡◌, ◌*◌, ◌<◌, ◌≤◌, ◌^◌, ◌↔◌, ℕ, All, IsTrue, List, None, Ok, Option, Result, Some};
+ghost use Rattle.std.specs.Prelude.{◌≡◌, ◌*◌, ◌<◌, ◌≤◌, ◌^◌, ◌↔◌, ℕ, All, IsTrue, List, [], ◌∷◌, None, Ok, Option, Result, Some};
 ghost use Rattle.ddc_base.specs.ByteLists.{AreBytes};
 ghost use Rattle.ddc_base.specs.Outside.{NamedFiles};
 ghost use Rattle.command_plan.specs.Words.{are_two_files, as_steps};
 ghost use Rattle.command_plan.specs.declared.status.Status.TheVariants.{TooManySegments, Yes};
-ghost use Rattle.command_plan.specs.Plan.{Plan, outcome};
+ghost use Rattle.command_plan.specs.Plan.{LoadsBytes, Plan, outcome};
 ghost use Rattle.stage_commands.specs.Checked.{AreChecked, EndShows, HoldPiece, IsRunReported, piece_reported_yes};
 ghost use Rattle.stage_commands.specs.CutEnds.{SaysSame, cut_end_from};
 ghost use Rattle.stage_commands.specs.Cutting.{CutStart, IsRightCut, cut_over, ends_over, segment_over};
@@ -14,6 +14,7 @@ ghost use Rattle.stage_commands.specs.Ends.{needs_first};
 ghost use Rattle.stage_commands.specs.Left.{are_left_words};
 ghost use Rattle.stage_commands.specs.LeftMade.{LeftRun, artefact_saved, left_over, output_word};
 ghost use Rattle.stage_commands.specs.Names.{are_stage_words};
+ghost use Rattle.stage_commands.specs.Segment.{segment_plan};
 ghost use Rattle.guest_run.specs.Run.{End, after, first_end};
 ghost use Rattle.guest_run.specs.Setting.{Setting};
 ghost use Rattle.guest_run.specs.Start.{start_of};
@@ -56,10 +57,10 @@ pub fn ends_are_reported()
     ensures shown { (text : List ℕ) (limit : ℕ) → EndShows text limit (end_after text limit) }
 {}
 
-/// `segment` over files of bytes comes to 0 only where the two names hold a piece, and always where they do and are words of two files, and says of
+/// `segment` that loads bytes comes to 0 only where the two names hold a piece, and always where they do and are words of two files, and says of
 /// how many steps it is.
 pub fn segments_are_reported()
-    ensures shown { (from to : List ℕ) (files : NamedFiles) → ((name content : List ℕ) → map.get files name ≡ Some content → All (λ byte. byte < 256) content)
+    ensures shown { (from to : List ℕ) (files : NamedFiles) → LoadsBytes (segment_plan (from ∷ to ∷ [])) files
         → (segment_over from to files).status ≡ Yes
         → (steps : ℕ) × HoldPiece from to files steps × (segment_over from to files ≡ piece_reported_yes steps files) }
     ensures reported { (from to : List ℕ) (files : NamedFiles) (steps : ℕ) → IsTrue (are_two_files from to) → HoldPiece from to files steps

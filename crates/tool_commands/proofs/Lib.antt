@@ -9,5 +9,6 @@ mod FileWords
 mod ScriptEnds
 mod ScriptPlaces
 mod PlaceSteps
+mod TokenPlacing
 mod Worded
 pub mod Written

@@ -10,4 +10,6 @@ pub mod Kaem
 pub mod KaemVerify
 pub mod KaemLeft
 pub mod Places
+pub mod ShownWords
+pub mod TokenPlaces
 pub mod Where

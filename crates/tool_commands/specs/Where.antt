@@ -1,6 +1,6 @@
 -- `where LANG SOURCE NUMBER PLACE`: the line, the column and the word of a refusal of a source. docs/reference/command-line.md says the same for
 -- people.
-use Rattle.std.specs.Prelude.{ℕ, Bool, ◌&&◌, nat_le, nat_lt, if◌then◌else◌, Option, None, Some, List, [], ◌∷◌, codes, decimal, drop, length, take}
+use Rattle.std.specs.Prelude.{ℕ, Bool, ◌&&◌, ◌==◌, nat_le, nat_lt, if◌then◌else◌, Option, None, Some, List, [], ◌∷◌, codes, decimal, drop, length, take}
 use Rattle.ddc_base.specs.Decimals.{as_decimal}
 use Rattle.ddc_base.specs.Languages.Words.{language_named}
 use Rattle.ddc_base.specs.Lines.{line}
@@ -13,6 +13,7 @@ use Rattle.command_plan.specs.Plan.{Plan, answers, needs}
 use Rattle.command_plan.specs.Words.{as_file_name, or_usage}
 use Rattle.tool_commands.specs.declared.places.Spot.{Spot}
 use Rattle.tool_commands.specs.declared.refusal_place.WhereWords.{WhereWords}
+use Rattle.tool_commands.specs.ShownWords.{shown_word}
 use Rattle.tool_commands.specs.Places.{front_word, place_of_item, spot_after}
 
 -- ---- the place of a refusal
@@ -24,18 +25,22 @@ is_of_item number = nat_le 4 number && nat_le number 6
 abbrev pub linked_place : Dialect → List ℕ → ℕ → ℕ → Option ℕ
 linked_place dialect text number place = if is_of_item number then place_of_item dialect text place else Some place
 
--- the offset that a refusal of this number and place has in a text
+-- the offset that a refusal of this place has in a text, by its number up to 6
+abbrev pub place_in : Language → List ℕ → ℕ → ℕ → Option ℕ
+place_in Hex0 text number place = Some place
+place_in Hex1 text number place = linked_place dialect.Hex1 text number place
+place_in Hex2 text number place = linked_place dialect.Hex2 text number place
+place_in M1 text number place = Some place
+
+-- a text that is too long, which is number 7, is refused at no place
 abbrev pub refusal_place : Language → List ℕ → ℕ → ℕ → Option ℕ
-refusal_place Hex0 text number place = Some place
-refusal_place Hex1 text number place = linked_place dialect.Hex1 text number place
-refusal_place Hex2 text number place = linked_place dialect.Hex2 text number place
-refusal_place M1 text number place = Some place
+refusal_place language text number place = if number == 7 then None else place_in language text number place
 
 -- ---- what is said
 
--- the line and the column, from 1, and the word there
+-- the line and the column, from 1, and the word there as it is shown
 unfoldable pub spot_line : Spot → List ℕ → List ℕ
-spot_line spot word = line (codes "line" ∷ decimal spot.line ∷ codes "column" ∷ decimal spot.column ∷ codes "word" ∷ word ∷ [])
+spot_line spot word = line (codes "line" ∷ decimal spot.line ∷ codes "column" ∷ decimal spot.column ∷ codes "word" ∷ shown_word word ∷ [])
 
 unfoldable pub no_place_line : List ℕ
 no_place_line = line (codes "no" ∷ codes "place" ∷ [])
@@ -47,10 +52,10 @@ located text (Some at) =
 
 -- ---- the words
 
--- the number of a refusal that has a place, from 1 to 6
+-- the number of a refusal, from 1 to 7
 abbrev pub within_numbers : Option ℕ → Option ℕ
 within_numbers None = None
-within_numbers (Some number) = if nat_le 1 number && nat_le number 6 then Some number else None
+within_numbers (Some number) = if nat_le 1 number && nat_le number 7 then Some number else None
 
 abbrev pub where_of : Option Language → Option (List ℕ) → Option ℕ → Option ℕ → Option WhereWords
 where_of (Some language) (Some source) (Some number) (Some place) = Some (record { language = language; source = source; number = number; place = place })

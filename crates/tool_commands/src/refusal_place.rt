@@ -7,9 +7,10 @@ ghost use Rattle.command_plan.specs.Performs.{Performs};
 ghost use Rattle.command_plan.specs.Plan.{answers};
 ghost use Rattle.command_plan.specs.Steps.{Says};
 ghost use Rattle.tool_commands.specs.Places.{front_word, spot_after};
-ghost use Rattle.tool_commands.specs.Where.{linked_place, located, no_place_line, refusal_place, spot_line, where_file, where_plan, where_words, within_numbers};
+ghost use Rattle.tool_commands.specs.Where.{linked_place, located, no_place_line, place_in, refusal_place, spot_line, where_file, where_plan, where_words, within_numbers};
 
 use crate::places::{front_word, place_of_item, spot_after};
+use crate::shown_words::shown_word;
 use command_plan::{Answer, FileName, Status, Stop, fetch_file, usage};
 use ddc_base::languages::Language;
 use ddc_base::{Bytes, OutOfMemory, Shelf, read_decimal};
@@ -21,7 +22,7 @@ use std::alloc::Global;
 pub(crate) struct WhereWords<'w> {
     pub language: Language,
     pub source: FileName<'w>,
-    /// From 1 to 6.
+    /// From 1 to 7.
     pub number: u64,
     pub place: u64,
 }
@@ -48,12 +49,12 @@ impl<'w> WhereWords<'w> {
     }
 }
 
-/// The number of a refusal that has a place.
+/// The number of a refusal.
 fn number_of(word: &str) -> Option<u64>
     ensures { result ≡ within_numbers (as_decimal word.now) }
 {
     let number = read_decimal(word.as_bytes())?;
-    if 1 <= number && number <= 6 {
+    if 1 <= number && number <= 7 {
         Some(number)
     } else {
         None
@@ -89,6 +90,9 @@ fn say(alloc: Global, words: &WhereWords<'_>, text: &[u8]) -> Result<Answer, Sto
     }
 }
 
+/// The number of the refusal of a text that is too long, which stands at no place.
+const TOO_LONG: u64 = 7;
+
 /// The offset of the refusal.
 fn refusal_place(
     alloc: Global,
@@ -96,6 +100,20 @@ fn refusal_place(
     text: &[u8],
 ) -> Result<Option<usize>, OutOfMemory>
     ensures { IfOk result (λ place. place ≡ refusal_place words.now.language text.now words.now.number words.now.place) }
+{
+    if words.number == TOO_LONG {
+        return Ok(None);
+    }
+    place_in(alloc, words, text)
+}
+
+/// The offset of a refusal of a number up to 6.
+fn place_in(
+    alloc: Global,
+    words: &WhereWords<'_>,
+    text: &[u8],
+) -> Result<Option<usize>, OutOfMemory>
+    ensures { IfOk result (λ place. place ≡ place_in words.now.language text.now words.now.number words.now.place) }
 {
     match words.language {
         Language::Hex1 => linked_place(alloc, Dialect::Hex1, words, text),
@@ -144,7 +162,7 @@ fn at_place(alloc: Global, text: &[u8], at: usize) -> Result<Answer, Stop>
     })
 }
 
-/// The line, the column and the word at an offset.
+/// The line, the column and the word at an offset, the word as it is shown.
 #[tactic(auto, using(crate::proofs::Listing::listings), unfolding(crate::specs::Where::spot_line))]
 fn line_of(alloc: Global, text: &[u8], at: usize) -> Result<Bytes, OutOfMemory>
     requires within { at < length text.now }
@@ -156,7 +174,8 @@ fn line_of(alloc: Global, text: &[u8], at: usize) -> Result<Bytes, OutOfMemory>
     let mut made = Bytes::from_vec(format!(in alloc;
         "line {line} column {column} word "
     )?.into_bytes());
-    made.extend(front_word(&text[at..]))?;
+    let word = shown_word(alloc, front_word(&text[at..]))?;
+    made.extend(word.as_slice())?;
     made.push(b'\n')?;
     Ok(made)
 }

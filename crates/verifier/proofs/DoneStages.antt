@@ -118,13 +118,13 @@ there-is {A = A} why (Some found) value is = ap (λ r. Some (value_of r)) is whe
   value_of (Err e) = found
 
 -- a run that is as recorded
-record Ran (start : Result GuestState Refusal) (limit step : ℕ) (world : World) : Type 0 where
-  guest : GuestState
-  last : GuestState
-  started : start ≡ Ok guest
-  ended : end_at guest step ≡ Some (Exited 0, last)
-  leaves : last.world ≡ world
-  within : step ≤ limit
+pub record Ran (start : Result GuestState Refusal) (limit step : ℕ) (world : World) : Type 0 where
+  pub guest : GuestState
+  pub last : GuestState
+  pub started : start ≡ Ok guest
+  pub ended : end_at guest step ≡ Some (Exited 0, last)
+  pub leaves : last.world ≡ world
+  pub within : step ≤ limit
 
 ran : (start : Result GuestState Refusal) (limit step : ℕ) (world : World) → left_at start limit step ≡ Some world → Ran start limit step world
 ran (Err why) limit step world is = absurd cc
@@ -153,11 +153,11 @@ ran (Ok guest) limit step world is = by_limits (nat_le 1 step && nat_le step lim
       by_end_at (end_at guest step) refl (leb-true step limit (and_parts (nat_le 1 step) (nat_le step limit) limits).1) is
 
 -- an artefact that is as recorded
-record Made (so_far : Contents) (stage : Stage) (line : StageLine) (world : World) (made : List ℕ) : Type 0 where
-  left : has_left line world ≡ true
-  there : out world (output_of stage.output) ≡ Some made
-  mark : is_mark_of line.made made ≡ true
-  small : size_of so_far + length made ≤ 1073741824
+pub record Made (so_far : Contents) (stage : Stage) (line : StageLine) (world : World) (made : List ℕ) : Type 0 where
+  pub left : has_left line world ≡ true
+  pub there : out world (output_of stage.output) ≡ Some made
+  pub mark : is_mark_of line.made made ≡ true
+  pub small : size_of so_far + length made ≤ 1073741824
 
 made-is : (so_far : Contents) (stage : Stage) (line : StageLine) (world : World) (made : List ℕ)
     → recorded so_far stage line world ≡ Some made → Made so_far stage line world made
@@ -194,13 +194,13 @@ right-is found made None is = (refl, ap (λ (r : Result (List ℕ) Part). value_
 right-is found made (Some why) is = absurd cc
 
 -- what stands after a line that is right
-record Judged (recipe : RecipeContents) (so_far : Contents) (stage : Stage) (line : StageLine) (made : List ℕ) : Type 0 where
-  world : World
-  run : Ran (start_stage recipe so_far stage) stage.steps line.steps world
-  artefact : Made so_far stage line world made
-  right : check_of recipe so_far stage made ≡ None
+pub record Judged (recipe : RecipeContents) (so_far : Contents) (stage : Stage) (line : StageLine) (made : List ℕ) : Type 0 where
+  pub world : World
+  pub run : Ran (start_stage recipe so_far stage) stage.steps line.steps world
+  pub artefact : Made so_far stage line world made
+  pub right : check_of recipe so_far stage made ≡ None
 
-judged : (recipe : RecipeContents) (so_far : Contents) (stage : Stage) (line : StageLine) (made : List ℕ) → replayed recipe so_far stage line ≡ Ok made
+pub judged : (recipe : RecipeContents) (so_far : Contents) (stage : Stage) (line : StageLine) (made : List ℕ) → replayed recipe so_far stage line ≡ Ok made
     → Judged recipe so_far stage line made
 unfolding replayed
 judged recipe so_far stage line made is =
@@ -267,7 +267,7 @@ replayed-content recipe so_far stage line made is known are right =
     (box-is recipe so_far stage are (rules-of recipe stage is known)) run in
     (output-is j.world (output_of stage.output) made sound j.artefact.there, j.artefact.small)
 
-some-step : (guest : GuestState) (end : End × GuestState) (steps : ℕ) → end_at guest steps ≡ Some end → 1 ≤ steps
+pub some-step : (guest : GuestState) (end : End × GuestState) (steps : ℕ) → end_at guest steps ≡ Some end → 1 ≤ steps
 some-step guest end zero is = absurd (no_end_at-zero guest end is)
 some-step guest end (suc count) is = omega arith
 

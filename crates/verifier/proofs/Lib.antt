@@ -8,5 +8,6 @@ mod Placing
 mod Refused
 mod Rightness
 mod StageRules
+mod TrueReports
 pub mod ConclusionLemmas
 mod Wanting

@@ -104,7 +104,7 @@ named-lines recipe all (stage ∷ stages) =
     ((bytes_eq-Decides recipe.compare.binary recipe.compare.binary).1 refl))
     (named-lines recipe all stages)
 
-no-wrong-line : (recipe : RecipeContents) (form : ℕ) (lines : List CompareLine) (all : Contents) → compare_fault recipe form lines all ≡ None → wrong_line recipe all 1 lines ≡ None
+pub no-wrong-line : (recipe : RecipeContents) (form : ℕ) (lines : List CompareLine) (all : Contents) → compare_fault recipe form lines all ≡ None → wrong_line recipe all 1 lines ≡ None
 no-wrong-line recipe form lines all none = by (wrong_line recipe all 1 lines) none where
   by : (o : Option ℕ) → ◌≡◌ {A = Option (Part × ℕ)} (option_map (λ number. (part.Compare, line_place form number)) o) None → o ≡ None
   by None is = refl
@@ -254,14 +254,14 @@ reaches recipe inputs done (stage ∷ stages) report is = by_result (stage_resul
 -- ---- the report
 
 -- the parts of a header
-record Header (recipe : RecipeContents) (report : Report) : Type 0 where
-  form : (recipe.format == report.form) ≡ true
-  digest : bytes_eq recipe.digest.0 report.recipe.0 ≡ true
-  inputs : names_inputs recipe.inputs report.inputs ≡ true
-  stages : names_stages recipe recipe.stages report.stages ≡ true
-  compared : names_compared recipe.compare.binary recipe.compare.stages report.compare ≡ true
+pub record Header (recipe : RecipeContents) (report : Report) : Type 0 where
+  pub form : (recipe.format == report.form) ≡ true
+  pub digest : bytes_eq recipe.digest.0 report.recipe.0 ≡ true
+  pub inputs : names_inputs recipe.inputs report.inputs ≡ true
+  pub stages : names_stages recipe recipe.stages report.stages ≡ true
+  pub compared : names_compared recipe.compare.binary recipe.compare.stages report.compare ≡ true
 
-header-is : (recipe : RecipeContents) (report : Report) → is_header recipe report ≡ true → Header recipe report
+pub header-is : (recipe : RecipeContents) (report : Report) → is_header recipe report ≡ true → Header recipe report
 unfolding is_header
 header-is recipe report is =
     let form = recipe.format == report.form in
@@ -274,7 +274,7 @@ header-is recipe report is =
     let first = and_parts form digest front.0 in
     record { form = first.0; digest = first.1; inputs = front.1; stages = middle.1; compared = last.1 }
 
-is-header : (recipe : RecipeContents) (report : Report) → Header recipe report → is_header recipe report ≡ true
+pub is-header : (recipe : RecipeContents) (report : Report) → Header recipe report → is_header recipe report ≡ true
 unfolding is_header
 is-header recipe report is =
     let form = recipe.format == report.form in
@@ -309,7 +309,7 @@ few-lines recipe report ok header =
       counted-lines recipe.compare.binary recipe.compare.stages report.compare (header-is recipe report header).compared,
     )
 
-abbrev at_first : List (List ℕ) → Contents
+abbrev pub at_first : List (List ℕ) → Contents
 at_first inputs = record { inputs = inputs; artefacts = [] }
 
 pub fault-none : (recipe : RecipeContents) (inputs : List (List ℕ)) (report : Report) → length inputs ≡ length recipe.inputs

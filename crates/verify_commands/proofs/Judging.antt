@@ -1,6 +1,5 @@
 -- What is said of a report, from the verdict on it.
 use Rattle.std.proofs.Common.{◌≡◌, ℕ, Bool, true, false, if◌then◌else◌, List, Option, Some, None, Result, subst}
-use Rattle.recipe.specs.declared.contents.RecipeContents.{RecipeContents}
 use Rattle.report.specs.declared.types.CompareLine.{CompareLine}
 use Rattle.audit_rules.specs.Bench.{all_equal}
 use Rattle.verifier.specs.declared.part.Part.{Part}
@@ -12,16 +11,16 @@ use Rattle.command_plan.specs.declared.status.Status.TheVariants.{Refuted}
 use Rattle.command_plan.specs.Plan.{answers}
 use Rattle.command_plan.specs.Steps.{Says}
 use Rattle.verify_commands.specs.Texts.{refuted_line}
-use Rattle.verify_commands.specs.Verify.{judged_report}
+use Rattle.verify_commands.specs.Verify.{judged_with}
 
-module _ (recipe : RecipeContents) (lines : List CompareLine) (result : Result Answer Stop) where
+module _ (text : List ℕ) (lines : List CompareLine) (result : Result Answer Stop) where
   -- no fault is told as a yes, or as a difference
-  pub no_fault_equal : (fault : Option (Part × ℕ)) → Judges fault lines verdict.Yes → Says (judged_report recipe lines None) result → Says (judged_report recipe lines fault) result
+  pub no_fault_equal : (fault : Option (Part × ℕ)) → Judges fault lines verdict.Yes → Says (judged_with text lines None) result → Says (judged_with text lines fault) result
   no_fault_equal None is said = said
   no_fault_equal (Some (part, place)) is said = absurd cc
 
-  pub no_fault_differs : (fault : Option (Part × ℕ)) → Judges fault lines verdict.TrueButDiffers → Says (judged_report recipe lines None) result
-      → Says (judged_report recipe lines fault) result
+  pub no_fault_differs : (fault : Option (Part × ℕ)) → Judges fault lines verdict.TrueButDiffers → Says (judged_with text lines None) result
+      → Says (judged_with text lines fault) result
   no_fault_differs None is said = said
   no_fault_differs (Some (part, place)) is said = absurd cc
 
@@ -30,7 +29,7 @@ module _ (recipe : RecipeContents) (lines : List CompareLine) (result : Result A
   never_true false part place is = cc
 
   pub fault : (found : Option (Part × ℕ)) (part : Part) (place : ℕ) → Judges found lines (verdict.Refuted part place)
-      → Says (answers Refuted (refuted_line part place)) result → Says (judged_report recipe lines found) result
+      → Says (answers Refuted (refuted_line part place)) result → Says (judged_with text lines found) result
   fault None part place is said = absurd (never_true (all_equal lines) part place is)
   fault (Some (first, at)) part place is said =
       let part_is : part ≡ first = cc in

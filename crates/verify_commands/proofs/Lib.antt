@@ -1,5 +1,7 @@
 mod Chaining
 mod Cutting
 pub mod Judging
+mod Beside
+mod PrintedMarks
 mod Written
 mod Worded

@@ -5,7 +5,7 @@ use Rattle.ddc_base.specs.Lines.{line}
 use Rattle.recipe.specs.declared.contents.RecipeContents.{RecipeContents}
 use Rattle.recipe.specs.declared.parts.Stage.{Stage}
 use Rattle.wheeler.specs.AllContents.{stage_named}
-use Rattle.audit_chain.specs.Rests.Basis.{layouts, lines, ran, spoken, texts}
+use Rattle.audit_chain.specs.Rests.Basis.{layouts, lines, own_layout, ran, spoken, texts}
 use Rattle.command_plan.specs.declared.status.Status.TheVariants.{Yes}
 use Rattle.command_plan.specs.Plan.{Plan, answers}
 use Rattle.command_plan.specs.Words.{has_no_zero_byte, is_file_word, or_usage, usage}
@@ -16,12 +16,13 @@ use Rattle.verify_commands.specs.Texts.{assumption_line}
 abbrev pub names_text : List ℕ → List (List ℕ) → List ℕ
 names_text what names = flat_map (λ name. line (what ∷ name ∷ [])) names
 
--- the inputs that are read; the stages whose free layout matters; the unchecked stages on the way back; what has to be believed of programs;
--- and the stages beside the way of whose artefacts those lines speak
+-- the inputs that are read; the stages whose free layout matters; the stage itself, where its check leaves its layout free; the unchecked stages on
+-- the way back; what has to be believed of programs; and the stages whose artefacts are files of sources that those lines name
 unfoldable pub rests_text : RecipeContents → List ℕ → List ℕ
 rests_text recipe name =
     names_text (codes "text") (texts recipe name)
     ++ names_text (codes "layout") (layouts recipe name)
+    ++ names_text (codes "layout") (own_layout recipe name)
     ++ names_text (codes "run") (ran recipe name)
     ++ flat_map assumption_line (lines recipe name)
     ++ names_text (codes "speaks") (spoken recipe name)

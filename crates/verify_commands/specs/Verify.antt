@@ -1,5 +1,6 @@
--- `verify RECIPE REPORT`: the stages of a recipe are replayed, and a report is judged by them. docs/reference/command-line.md and
--- docs/reference/verify.md say the same for people.
+-- `verify RECIPE REPORT` and `provenance RECIPE REPORT`: the stages of a recipe are replayed, and a report is judged by them. Both are one plan, and
+-- differ in the text for a true report alone. docs/reference/command-line.md, docs/reference/verify.md and docs/reference/provenance.md say the same
+-- for people.
 use Rattle.std.specs.Prelude.{ℕ, Option, Some, None, List, [], ◌∷◌, if◌then◌else◌}
 use Rattle.recipe.specs.declared.contents.RecipeContents.{RecipeContents}
 use Rattle.report.specs.declared.types.CompareLine.{CompareLine}
@@ -11,26 +12,50 @@ use Rattle.command_plan.specs.Words.{are_two_files, usage}
 use Rattle.command_plan.specs.Plan.{Plan, answers}
 use Rattle.recipe_plan.specs.Recipes.{needs_apart, needs_inputs, needs_recipe}
 use Rattle.recipe_plan.specs.Reports.{compared_status, needs_report}
+use Rattle.verify_commands.specs.declared.explanation.Explanation.{Explanation}
+use Rattle.verify_commands.specs.declared.explanation.Explanation.TheVariants.{Assumptions, Provenance}
+use Rattle.verify_commands.specs.Provenance.{provenance_text}
 use Rattle.verify_commands.specs.Texts.{refuted_line, true_text}
 
--- a report without a fault is true, and its comparisons are said, with what is assumed; of any other the first part that is not true is named
-abbrev pub judged_report : RecipeContents → List CompareLine → Option (Part × ℕ) → Plan
-judged_report recipe lines None = answers (compared_status lines) (true_text recipe lines)
-judged_report recipe lines (Some (part, place)) = answers Refuted (refuted_line part place)
+-- the text for a report without a fault: its comparisons with what is assumed, or with the dependencies of each artefact
+abbrev pub explained : Explanation → RecipeContents → Report → List ℕ
+explained Assumptions recipe report = true_text recipe report.compare
+explained Provenance recipe report = provenance_text recipe report
 
-abbrev pub verified : RecipeContents → List (List ℕ) → Report → Plan
-verified recipe inputs report = judged_report recipe report.compare (first_fault recipe inputs report)
+-- a report without a fault is true, and is answered by this text; of any other report the first part that is not true is named
+abbrev pub judged_with : List ℕ → List CompareLine → Option (Part × ℕ) → Plan
+judged_with text lines None = answers (compared_status lines) text
+judged_with text lines (Some (part, place)) = answers Refuted (refuted_line part place)
+
+abbrev pub judged_by : Explanation → RecipeContents → List (List ℕ) → Report → Plan
+judged_by explanation recipe inputs report = judged_with (explained explanation recipe report) report.compare (first_fault recipe inputs report)
 
 -- the recipe, a report that is none of its inputs, what the report says, the inputs, and then the judgement
-unfoldable pub verify_files : List ℕ → List ℕ → Plan
-verify_files recipe report =
+unfoldable pub judge_files : Explanation → List ℕ → List ℕ → Plan
+judge_files explanation recipe report =
     needs_recipe recipe (λ said.
     needs_apart said report (λ _.
     needs_report report (λ made.
     needs_inputs said (λ inputs.
-    verified said inputs made))))
+    judged_by explanation said inputs made))))
 
--- the words after `verify`
+-- the words after `verify`, and after `provenance`
+abbrev pub judge_plan : Explanation → List (List ℕ) → Plan
+judge_plan explanation (recipe ∷ report ∷ []) = if are_two_files recipe report then judge_files explanation recipe report else usage
+judge_plan explanation _ = usage
+
 abbrev pub verify_plan : List (List ℕ) → Plan
-verify_plan (recipe ∷ report ∷ []) = if are_two_files recipe report then verify_files recipe report else usage
-verify_plan _ = usage
+verify_plan words = judge_plan Assumptions words
+
+abbrev pub provenance_plan : List (List ℕ) → Plan
+provenance_plan words = judge_plan Provenance words
+
+-- the same of `verify` alone
+abbrev pub judged_report : RecipeContents → List CompareLine → Option (Part × ℕ) → Plan
+judged_report recipe lines fault = judged_with (true_text recipe lines) lines fault
+
+abbrev pub verified : RecipeContents → List (List ℕ) → Report → Plan
+verified recipe inputs report = judged_by Assumptions recipe inputs report
+
+abbrev pub verify_files : List ℕ → List ℕ → Plan
+verify_files recipe report = judge_files Assumptions recipe report

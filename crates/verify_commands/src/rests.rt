@@ -98,6 +98,7 @@ fn written(alloc: Global, basis: &Basis) -> Result<Bytes, OutOfMemory>
     let mut text = Bytes::new(alloc);
     put_names(&mut text, b"text", basis.texts.as_slice())?;
     put_names(&mut text, b"layout", basis.layouts.as_slice())?;
+    put_names(&mut text, b"layout", basis.own_layout.as_slice())?;
     put_names(&mut text, b"run", basis.ran.as_slice())?;
     put_assumptions(alloc, &mut text, basis.lines.as_slice())?;
     put_names(&mut text, b"speaks", basis.spoken.as_slice())?;
@@ -105,7 +106,7 @@ fn written(alloc: Global, basis: &Basis) -> Result<Bytes, OutOfMemory>
 }
 
 /// Adds a line for each name, after what it is.
-fn put_names(text: &mut Bytes, what: &[u8], names: &[Name]) -> Result<(), OutOfMemory>
+pub(crate) fn put_names(text: &mut Bytes, what: &[u8], names: &[Name]) -> Result<(), OutOfMemory>
     ensures { OnOk result (text.new ≡ text.old ++ names_text what.now names.now) }
 {
     for name in names {
@@ -116,7 +117,7 @@ fn put_names(text: &mut Bytes, what: &[u8], names: &[Name]) -> Result<(), OutOfM
 
 /// Adds the line of a name.
 #[tactic(auto, using(crate::proofs::Written::written))]
-fn put_name(text: &mut Bytes, what: &[u8], name: &Name) -> Result<(), OutOfMemory>
+pub(crate) fn put_name(text: &mut Bytes, what: &[u8], name: &Name) -> Result<(), OutOfMemory>
     ensures { OnOk result (text.new ≡ text.old ++ line (what.now ∷ name.now ∷ [])) }
 {
     text.extend(what)?;

@@ -48,7 +48,7 @@ same-item (item.Abs x) (item.Abs y) is = ap item.Abs (same-name x y is)
 same-item item.Pad item.Pad is = refl
 same-item _ _ is = absurd cc
 
-no-other-item : (xs ys : List Item) → first_other_item xs ys ≡ None → xs ≡ ys
+pub no-other-item : (xs ys : List Item) → first_other_item xs ys ≡ None → xs ≡ ys
 no-other-item [] [] is = refl
 no-other-item [] (y ∷ ys) is = absurd cc
 no-other-item (x ∷ xs) [] is = absurd cc

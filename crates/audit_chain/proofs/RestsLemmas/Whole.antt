@@ -48,7 +48,7 @@ module _ (recipe : RecipeContents) (ok : IsRecipe recipe) (name : List ℕ) wher
   runs-met n is = any-weaker (is_program n) (is_part_named n) (λ p here. program-named n p here) W is
 
   -- what is met is read or run
-  met-either : (n : List ℕ) → meets W n ≡ true → runs_meet W n ≡ false → files_meet W n ≡ true
+  pub met-either : (n : List ℕ) → meets W n ≡ true → runs_meet W n ≡ false → files_meet W n ≡ true
   met-either n met none = by W met none where
     by : (parts : List BasisPart) → meets parts n ≡ true → runs_meet parts n ≡ false → files_meet parts n ≡ true
     by [] met none = absurd cc

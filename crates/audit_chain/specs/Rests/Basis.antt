@@ -1,5 +1,5 @@
 -- What the artefact of a stage rests on.
-use Rattle.std.specs.Prelude.{ℕ, ◌&&◌, ◌||◌, Bool, false, is_none, not, if◌then◌else◌, Option, None, Some, List, filter_map}
+use Rattle.std.specs.Prelude.{ℕ, ◌&&◌, ◌||◌, Bool, false, bytes_eq, is_none, if◌then◌else◌, Option, None, Some, List, filter_map}
 use Rattle.std.specs.List.{list_any}
 use Rattle.recipe.specs.declared.contents.RecipeContents.{RecipeContents}
 use Rattle.recipe.specs.declared.parts.Input.{Input}
@@ -38,9 +38,9 @@ abbrev pub speaks_of : RecipeContents → List ℕ → Assumption → Bool
 speaks_of recipe file (Implements made source) = has_file recipe source file
 speaks_of recipe file (Compiles source stage becomes) = has_file recipe source file || has_file recipe becomes file
 
--- a stage that is not on the way back, but whose artefact is a file of a source that a line names
-abbrev pub spoken_name : RecipeContents → List BasisPart → List Assumption → Stage → Option (List ℕ)
-spoken_name recipe parts lines stage = if list_any (speaks_of recipe stage.name) lines && not (meets parts stage.name) then Some stage.name else None
+-- a stage whose artefact is a file of a source that a line names, wherever the stage stands
+abbrev pub spoken_name : RecipeContents → List Assumption → Stage → Option (List ℕ)
+spoken_name recipe lines stage = if list_any (speaks_of recipe stage.name) lines then Some stage.name else None
 
 -- the inputs that are read, the stages whose free layout matters, the unchecked stages, and what has to be believed of programs, each in the
 -- recipe's order
@@ -50,12 +50,19 @@ texts recipe name = filter_map (text_name (walk recipe name)) recipe.inputs
 unfoldable pub layouts : RecipeContents → List ℕ → List (List ℕ)
 layouts recipe name = filter_map (layout_name recipe (walk recipe name)) recipe.stages
 
+-- the stage itself, where its check leaves its layout free: the check then allows other bytes with the same items
+abbrev pub own_layout_name : RecipeContents → List ℕ → Stage → Option (List ℕ)
+own_layout_name recipe own stage = if bytes_eq own stage.name && is_free recipe stage then Some stage.name else None
+
+unfoldable pub own_layout : RecipeContents → List ℕ → List (List ℕ)
+own_layout recipe name = filter_map (own_layout_name recipe name) recipe.stages
+
 unfoldable pub ran : RecipeContents → List ℕ → List (List ℕ)
 ran recipe name = filter_map (ran_name (walk recipe name)) recipe.stages
 
 unfoldable pub lines : RecipeContents → List ℕ → List Assumption
 lines recipe name = trust_lines (runs_meet (walk recipe name)) recipe
 
--- the stages whose artefacts the lines speak of besides: what they rest on is to be asked for too
+-- the stages whose artefacts are files of sources that the lines name: a reader of such a source has to ask what each of them depends on
 unfoldable pub spoken : RecipeContents → List ℕ → List (List ℕ)
-spoken recipe name = filter_map (spoken_name recipe (walk recipe name) (lines recipe name)) recipe.stages
+spoken recipe name = filter_map (spoken_name recipe (lines recipe name)) recipe.stages

@@ -1,12 +1,12 @@
 //! What the artefact of a stage rests on.
 
-ghost use Rattle.audit_chain.specs.Rests.Basis.{has_file, layout_name, layouts, lines, ran, ran_name, speaks_of, spoken, spoken_name, text_name, texts};
+ghost use Rattle.audit_chain.specs.Rests.Basis.{has_file, layout_name, layouts, lines, own_layout, own_layout_name, ran, ran_name, speaks_of, spoken, spoken_name, text_name, texts};
 ghost use Rattle.audit_chain.specs.Rests.Walk.{bytes_meet, is_free, meets, runs_meet, walk};
 ghost use Rattle.wheeler.specs.Assumptions.{assumed};
 ghost use Rattle.wheeler.specs.Routes.{about, is_on};
 ghost use Rattle.recipe.specs.Lookups.{hex_check};
 ghost use Rattle.std.specs.List.{cons_option, list_any};
-ghost use Rattle.std.specs.Prelude.{◌≡◌, ◌&&◌, ◌++◌, [], IfOk, None, OnOk, Some, filter, filter_map, if◌then◌else◌, is_none, is_some, not};
+ghost use Rattle.std.specs.Prelude.{◌≡◌, ◌&&◌, ◌++◌, [], IfOk, None, OnOk, Some, bytes_eq, filter, filter_map, if◌then◌else◌, is_none, is_some};
 
 use crate::remaining_lines::copy_line;
 use crate::rests::basis_part::BasisPart;
@@ -24,11 +24,13 @@ pub struct Basis {
     pub texts: ListOf<Name>,
     /// The stages that are checked in M1, which leaves their layout free, and whose bytes matter.
     pub layouts: ListOf<Name>,
+    /// The stage itself, where it is checked in M1; otherwise nothing.
+    pub own_layout: ListOf<Name>,
     /// The unchecked stages on the way back.
     pub ran: ListOf<Name>,
     /// What has to be believed of programs.
     pub lines: Assumptions,
-    /// The stages that are not on the way back, but whose artefacts are files of sources that the lines name.
+    /// The stages whose artefacts are files of sources that the lines name, wherever the stages stand.
     pub spoken: ListOf<Name>,
 }
 
@@ -36,6 +38,7 @@ pub struct Basis {
 pub fn basis_of(alloc: Global, recipe: &Recipe, name: &Name) -> Result<Basis, OutOfMemory>
     ensures texts { IfOk result (λ basis. basis.texts ≡ texts recipe.now name.now) }
     ensures layouts { IfOk result (λ basis. basis.layouts ≡ layouts recipe.now name.now) }
+    ensures own_layout { IfOk result (λ basis. basis.own_layout ≡ own_layout recipe.now name.now) }
     ensures ran { IfOk result (λ basis. basis.ran ≡ ran recipe.now name.now) }
     ensures lines { IfOk result (λ basis. basis.lines ≡ lines recipe.now name.now) }
     ensures spoken { IfOk result (λ basis. basis.spoken ≡ spoken recipe.now name.now) }
@@ -43,13 +46,15 @@ pub fn basis_of(alloc: Global, recipe: &Recipe, name: &Name) -> Result<Basis, Ou
     let parts = walk(alloc, recipe, name)?;
     let texts = texts_of(alloc, recipe, parts.as_slice())?;
     let layouts = layouts_of(alloc, recipe, parts.as_slice())?;
+    let own_layout = own_layout_of(alloc, recipe, name)?;
     let ran = ran_of(alloc, recipe, parts.as_slice())?;
     let whole = assumptions(alloc, recipe)?;
     let lines = lines_of(alloc, parts.as_slice(), whole.as_slice())?;
-    let spoken = spoken_of(alloc, recipe, parts.as_slice(), lines.as_slice())?;
+    let spoken = spoken_of(alloc, recipe, lines.as_slice())?;
     Ok(Basis {
         texts,
         layouts,
+        own_layout,
         ran,
         lines,
         spoken,
@@ -86,6 +91,24 @@ fn layouts_of(
     Ok(names)
 }
 
+/// The stage of a name, where its check leaves its layout free.
+fn own_layout_of(alloc: Global, recipe: &Recipe, own: &Name) -> Result<ListOf<Name>, OutOfMemory>
+    ensures { IfOk result (λ names. names ≡ filter_map (own_layout_name recipe.now own.now) recipe.now.stages) }
+{
+    let mut names = ListOf::new(alloc);
+    for stage in recipe.stages().as_slice() {
+        push_name(&mut names, &stage.name, is_own_layout(recipe, own, stage))?;
+    }
+    Ok(names)
+}
+
+/// Whether a stage is the one of a name, and its check leaves its layout free.
+fn is_own_layout(recipe: &Recipe, own: &Name, stage: &Stage) -> bool
+    ensures { result ≡ (bytes_eq own.now stage.now.name && is_free recipe.now stage.now) }
+{
+    *own == stage.name && is_free(recipe, stage)
+}
+
 /// The unchecked stages that are met.
 fn ran_of(alloc: Global, recipe: &Recipe, parts: &[BasisPart]) -> Result<ListOf<Name>, OutOfMemory>
     ensures { IfOk result (λ names. names ≡ filter_map (ran_name parts.now) recipe.now.stages) }
@@ -112,7 +135,11 @@ fn has_layout(recipe: &Recipe, parts: &[BasisPart], stage: &Stage) -> bool
 }
 
 /// Adds a name, if it is wanted.
-fn push_name(names: &mut ListOf<Name>, name: &Name, wanted: bool) -> Result<(), OutOfMemory>
+pub(crate) fn push_name(
+    names: &mut ListOf<Name>,
+    name: &Name,
+    wanted: bool,
+) -> Result<(), OutOfMemory>
     ensures { OnOk result (names.new ≡ names.old ++ cons_option (if wanted then Some name.now else None) []) }
 {
     if wanted {
@@ -124,7 +151,7 @@ fn push_name(names: &mut ListOf<Name>, name: &Name, wanted: bool) -> Result<(), 
 
 /// Whether a stage's check leaves the layout of its artefact free.
 #[tactic(auto, unfolding(crate::specs::Rests::Walk::is_free))]
-fn is_free(recipe: &Recipe, stage: &Stage) -> bool
+pub(crate) fn is_free(recipe: &Recipe, stage: &Stage) -> bool
     ensures { result ≡ is_free recipe.now stage.now }
 {
     match &stage.check {
@@ -187,31 +214,23 @@ fn about(line: &Assumption) -> &Name
     }
 }
 
-/// The stages of whose artefacts lines speak, and that are not on the way back.
+/// The stages whose artefacts are files of sources that lines name.
 fn spoken_of(
     alloc: Global,
     recipe: &Recipe,
-    parts: &[BasisPart],
     lines: &[Assumption],
 ) -> Result<ListOf<Name>, OutOfMemory>
-    ensures { IfOk result (λ names. names ≡ filter_map (spoken_name recipe.now parts.now lines.now) recipe.now.stages) }
+    ensures { IfOk result (λ names. names ≡ filter_map (spoken_name recipe.now lines.now) recipe.now.stages) }
 {
     let mut names = ListOf::new(alloc);
     for stage in recipe.stages().as_slice() {
         push_name(
             &mut names,
             &stage.name,
-            is_spoken(recipe, parts, lines, &stage.name),
+            speak_of(recipe, lines, &stage.name),
         )?;
     }
     Ok(names)
-}
-
-/// Whether a line speaks of a name that is not on the way back.
-fn is_spoken(recipe: &Recipe, parts: &[BasisPart], lines: &[Assumption], name: &Name) -> bool
-    ensures { result ≡ (list_any (speaks_of recipe.now name.now) lines.now && not (meets parts.now name.now)) }
-{
-    speak_of(recipe, lines, name) && !meets(parts, name)
 }
 
 /// Whether one of the lines speaks of a name.
@@ -246,7 +265,7 @@ fn has_file(recipe: &Recipe, source: &Name, file: &Name) -> bool
 }
 
 /// Whether a name is one of these.
-fn is_on(names: &[Name], name: &Name) -> bool
+pub(crate) fn is_on(names: &[Name], name: &Name) -> bool
     ensures { result ≡ is_on names.now name.now }
 {
     names.iter().any(|other| *other == *name)

@@ -1,7 +1,8 @@
 -- A list of items in codes, one item longer.
-use Rattle.std.proofs.Common.{◌≡◌, ℕ, suc, ◌+◌, ◌-◌, ◌<◌, ◌≤◌, true, false, List, [], ◌∷◌, ◌++◌, length, map, get_or, append-nil, append_assoc, refl, sym, ap, subst, ◌∙◌, arith, length-append}
+use Rattle.std.proofs.Common.{◌≡◌, ℕ, suc, ◌+◌, ◌-◌, ◌<◌, ◌≤◌, true, false, List, [], ◌∷◌, ◌++◌, length, map, take, get_or, append-nil, append_assoc, refl, sym, ap, subst, ◌∙◌, arith, length-append}
 use Rattle.std.proofs.lemmas.Bool.{cond-true, cond-false, cases_lt}
 use Rattle.std.proofs.lemmas.Bool.Decides.{nat_tests}
+use Rattle.std.proofs.lemmas.List.{take_more}
 use Rattle.std.proofs.Math.ListN.{get_or-append}
 use Rattle.std.proofs.Math.Seq.{get_or-append_seam}
 use Rattle.std.proofs.Common.{◌⊎◌, inl, inr, nat_lt}
@@ -9,8 +10,33 @@ use Rattle.std.proofs.Common.{Some, None, option_map, OnErr, OnOk, Result, Ok, E
 use Rattle.std.specs.List.{AllByRecursion, slice_get}
 use Rattle.std.proofs.lemmas.Option.{get_or_from_slice_get, slice_get-get_or, slice_get-map, slice_get_past}
 use Rattle.hex_langs.specs.declared.items.item.Item.{Item}
-use Rattle.hex_langs.specs.declared.items.item.Item.TheVariants.{Byte, Pad}
+use Rattle.hex_langs.specs.declared.items.item.Item.TheVariants.{Abs, Byte, Gap, Label, Pad, Rel, Word}
+use Rattle.hex_langs.specs.Items.Labels.{label_in, label_names}
 use Rattle.hex_langs.specs.Items.Representation.Packed.{ArePacked, item_of, items_of}
+
+-- ---- labels
+
+pub labels-append : (items more : List Item) → label_names (items ++ more) ≡ label_names items ++ label_names more
+labels-append [] more = refl
+labels-append (it ∷ items) more =
+    ap (λ (l : List (List ℕ)). label_in it ++ l) (labels-append items more) ∙ sym (append_assoc (label_in it) (label_names items) (label_names more))
+
+pub no-label : (it : Item) → ((name : List ℕ) → it ≡ Label name → ⊥) → label_in it ≡ []
+no-label (Label name) other = absurd (other name refl)
+no-label (Byte byte) other = refl
+no-label (Word value kind name) other = refl
+no-label (Rel name) other = refl
+no-label (Gap one two) other = refl
+no-label (Abs name) other = refl
+no-label Pad other = refl
+
+-- the labels up to an item and that one's
+pub labels-more : (items : List Item) (index : ℕ) (it : Item) → index < length items → it ≡ get_or items index it
+    → label_names (take (index + 1) items) ≡ label_names (take index items) ++ label_in it
+labels-more items index it within is =
+    ap label_names (take_more items index it within) ∙ labels-append (take index items) (get_or items index it ∷ [])
+    ∙ ap (λ (l : List (List ℕ)). label_names (take index items) ++ l) (append-nil (label_in (get_or items index it)))
+    ∙ ap (λ (i : Item). label_names (take index items) ++ label_in i) (sym is)
 
 item_of-byte : (others : List Item) (code : ℕ) → code < 256 → item_of others code ≡ Byte code
 item_of-byte others code small = let test : nat_lt code 256 ≡ true = grind (arith, nat_tests) in cond-true _ _ _ test
@@ -63,6 +89,8 @@ pushed-bytes codes others (byte ∷ bytes) small =
 
 pub packed-byte : (codes : List ℕ) (others : List Item) (byte : ℕ) → byte < 256 → length codes < 33554432 → ArePacked codes others → ArePacked (codes ++ byte ∷ []) others
 packed-byte codes others byte small room packed = record {
+  labels = packed.labels
+      ∙ sym (ap label_names (pushed-byte codes others byte small) ∙ labels-append (items_of codes others) (Byte byte ∷ []) ∙ append-nil (label_names (items_of codes others)));
   few = omega (arith, length-append codes (byte ∷ []));
   fewer = omega (arith, packed.fewer, length-append codes (byte ∷ []));
   known = known-append (256 + length others) (256 + length others) codes byte (omega arith) (omega arith) packed.known;
@@ -100,6 +128,8 @@ pushed-other codes others it packed =
 pub packed-other : (codes : List ℕ) (others : List Item) (it : Item) → length codes < 33554432 → ArePacked codes others
     → ArePacked (codes ++ (256 + length others) ∷ []) (others ++ it ∷ [])
 packed-other codes others it room packed = record {
+  labels = labels-append others (it ∷ []) ∙ ap (λ (l : List (List ℕ)). l ++ label_names (it ∷ [])) packed.labels
+      ∙ sym (ap label_names (pushed-other codes others it packed) ∙ labels-append (items_of codes others) (it ∷ []));
   few = omega (arith, length-append codes ((256 + length others) ∷ []));
   fewer = omega (arith, packed.fewer, length-append codes ((256 + length others) ∷ []), length-append others (it ∷ []));
   known = known-append (256 + length others) (256 + length (others ++ it ∷ [])) codes (256 + length others)

@@ -15,7 +15,8 @@ use Rattle.hex_langs.specs.declared.link.values.HexLanguage.TheVariants.{Hex0, H
 use Rattle.hex_langs.specs.Link.Values.{linked, value_of}
 use Rattle.hex_langs.specs.Link.Laws.{address_after, is_fixed, KeepsApart, renamed}
 use Rattle.std.specs.Prelude.{bytes_eq}
-use Rattle.hex_langs.specs.Link.Link.{address_of, appended, item_bytes, defines, first_repeat, bytes_from, label_in, Labels, link_of, onto, repeats, size_at, unless_repeat}
+use Rattle.hex_langs.specs.Items.Labels.{label_in}
+use Rattle.hex_langs.specs.Link.Link.{address_of, appended, item_bytes, defines, first_repeat, bytes_from, Labels, link_of, onto, repeats, size_at, unless_repeat}
 use Rattle.hex_langs.proofs.LinkLemmas.Joins.{bytes-size}
 
 -- ---- bases

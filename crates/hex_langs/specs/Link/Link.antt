@@ -10,6 +10,7 @@ use Rattle.hex_langs.specs.declared.items.item.Item.{Item}
 use Rattle.hex_langs.specs.declared.items.item.Item.TheVariants.{Byte, Label, Word, Rel, Gap, Abs, Pad}
 use Rattle.hex_langs.specs.declared.items.reader.HexRefusal.{HexRefusal}
 use Rattle.hex_langs.specs.declared.items.reader.HexRefusal.TheVariants as refusal
+use Rattle.hex_langs.specs.Items.Labels.{label_in}
 use Rattle.hex_langs.specs.declared.link.number.Miss.{Miss}
 use Rattle.hex_langs.specs.declared.link.number.Miss.TheVariants.{NoLabel, OutOfReach}
 
@@ -38,11 +39,6 @@ address_of address [] name = None
 address_of address (it ∷ items) name =
     if defines name it then Some address
     else address_of (address + size_at address it) items name
-
--- the label that an item defines
-abbrev pub label_in : Item → List (List ℕ)
-label_in (Label name) = name ∷ []
-label_in it = []
 
 -- whether an item defines a label that was seen
 abbrev pub repeats : List (List ℕ) → Item → Bool

@@ -3,6 +3,7 @@
 ghost use Rattle.std.specs.Prelude.{◌≡◌, ◌<◌, ◌≤◌, ◌+◌, List, [], ◌∷◌, ◌++◌, length, map, slice_get, OnOk, OnErr};
 ghost use Rattle.std.specs.List.{AllByRecursion};
 ghost use Rattle.std.specs.Option.{option_copied};
+ghost use Rattle.hex_langs.specs.Items.Labels.{label_names};
 ghost use Rattle.hex_langs.specs.Items.Representation.Packed.{items_of, ArePacked};
 ghost use Rattle.hex_langs.specs.declared.items.item.Item.TheVariants.{Byte};
 
@@ -150,8 +151,10 @@ impl<'s> Items<'s> {
         self.codes.len()
     }
 
-    /// The items that are no bytes, in their order, for whoever looks for labels to find them quicker. No clause says which these are.
-    pub(crate) fn others(&self) -> &[Item<'s>] {
+    /// The items that are no bytes, in their order, for a reader of the labels: they define the same ones.
+    pub(crate) fn others(&self) -> &[Item<'s>]
+        ensures { label_names result.now ≡ label_names self.now }
+    {
         self.others.as_slice()
     }
 

@@ -1,12 +1,15 @@
 //! The table of labels.
 
 ghost use Rattle.std.specs.Prelude.{◌≡◌, ◌<◌, ◌≤◌, ◌^◌, length, slice_index_or, IfOk};
-ghost use Rattle.indexmap.specs.IndexMap.{IsEmpty};
+ghost use Rattle.indexmap.specs.IndexMap.{IsEmpty, hasher_of};
+ghost use Rattle.hex_langs.specs.Items.Labels.{label_names};
 ghost use Rattle.hex_langs.specs.Link.Link.{size_at};
 ghost use Rattle.hex_langs.specs.Link.Representation.Tables.{Adds, Tables, address_in};
+ghost use Rattle.hex_langs.specs.NameKeys.{IsKeyedBy, begun_by};
 
 use crate::items::{HexRefusal, Item, Items, LabelName};
-use ddc_base::{NamesDigest, NamesKey, OutOfMemory};
+use crate::name_keys::KeyNames;
+use ddc_base::{NamesKey, OutOfMemory};
 use indexmap::IndexMap;
 use std::alloc::Global;
 
@@ -46,23 +49,26 @@ pub(crate) fn item_at<'s>(items: &Items<'s>, index: usize) -> Item<'s>
 
 /// An empty table with room for the labels of items, and with their names as its key.
 fn table_for<'s>(alloc: Global, items: &Items<'s>) -> Result<LabelTable<'s>, OutOfMemory>
-    ensures { IfOk result IsEmpty }
+    ensures empty { IfOk result IsEmpty }
+    ensures keyed { IfOk result (λ table. IsKeyedBy (label_names items.now) table) }
 {
-    let mut names = NamesDigest::new();
+    let (count, key) = count_and_key(items.others());
+    Ok(IndexMap::with_capacity_and_hasher(alloc, count, key)?)
+}
+
+/// How many labels items define, and the key of a table of them.
+fn count_and_key(items: &[Item<'_>]) -> (usize, NamesKey)
+    ensures { result.1.begun ≡ begun_by (label_names items.now) }
+{
+    let mut names = KeyNames::new();
     let mut count = 0_usize;
-    for item in items.others() {
+    for item in items {
         if let Item::Label(name) = item {
             names.add(name.bytes());
             count = count.saturating_add(1);
         }
     }
-    // A digest of no names would be work for nothing.
-    let key = if count == 0 {
-        NamesKey::of_none()
-    } else {
-        names.key()
-    };
-    Ok(IndexMap::with_capacity_and_hasher(alloc, count, key)?)
+    (count, names.key())
 }
 
 /// Adds the label that an item at an address defines, and tells whether its name had one.
@@ -71,7 +77,8 @@ fn add_label<'s>(
     item: &Item<'s>,
     address: u64,
 ) -> Result<bool, OutOfMemory>
-    ensures { Adds result item.now address table.old table.new }
+    ensures adds { Adds result item.now address table.old table.new }
+    ensures kept { hasher_of table.new ≡ hasher_of table.old }
 {
     match item {
         Item::Label(name) => Ok(
@@ -90,7 +97,8 @@ pub(crate) fn labels_of<'s>(
     base: u64,
 ) -> Result<LabelTable<'s>, HexRefusal>
     requires base { base ≤ 2 ^ 37 }
-    ensures { Tables result items.now base }
+    ensures tables { Tables result items.now base }
+    ensures keyed { IfOk result (λ table. IsKeyedBy (label_names items.now) table) }
 {
     let mut table = table_for(alloc, items)?;
     let mut address = base;

@@ -1,7 +1,9 @@
 -- What the code's passes over a source do. No promise rests on its being read.
-use Rattle.std.specs.Prelude.{◌≡◌, ℕ, ◌<◌, ◌≤◌, bytes_eq, Bool, not, if◌then◌else◌, is_some, List, [], ◌∷◌, length, Option, Some, None, Result, Ok, Err}
+use Rattle.std.specs.Prelude.{◌≡◌, ℕ, ◌<◌, ◌≤◌, bytes_eq, Bool, not, if◌then◌else◌, is_some, List, [], ◌∷◌, ◌++◌, length, Option, Some, None, Result, Ok, Err}
 use Rattle.indexmap.specs.IndexMap.{IndexMap, get}
 use Rattle.ddc_base.specs.declared.name_tables.NamesKey.{NamesKey}
+use Rattle.hex_langs.specs.NameKeys.{Took}
+use Rattle.hex_langs.specs.declared.name_keys.KeyNames.{KeyNames}
 use Rattle.hex_langs.specs.declared.items.item.Item.{Item}
 use Rattle.hex_langs.specs.declared.items.token.Token.{Token}
 use Rattle.hex_langs.specs.declared.items.words.Open.{Open}
@@ -14,7 +16,7 @@ use Rattle.m1_lang.specs.Words.Ahead.{words_at}
 use Rattle.m1_lang.specs.Words.Forms.{Tokens}
 use Rattle.m1_lang.specs.declared.refusal.M1Refusal.{M1Refusal}
 use Rattle.m1_lang.specs.declared.refusal.M1Refusal.TheVariants as refusal
-use Rattle.m1_lang.specs.Definitions.{Cut, Defined, Defines, is_value, parts, SourcePart, Plain, plain_words, value_in}
+use Rattle.m1_lang.specs.Definitions.{Cut, Defined, defined_names, Defines, is_value, parts, SourcePart, Plain, plain_words, value_in}
 use Rattle.m1_lang.specs.Expansion.{at_once, counted_items, halt_refusal, then_read, words_reading}
 
 -- the parts of a source from an offset on
@@ -105,6 +107,24 @@ abbrev pub plain_after : List Word → List Word
 plain_after [] = []
 plain_after (name ∷ []) = []
 plain_after (name ∷ value ∷ rest) = plain_words (parts rest)
+
+-- the names of the definitions after a `DEFINE`
+abbrev pub names_after : List Word → List (List ℕ)
+names_after [] = []
+names_after (name ∷ []) = []
+names_after (name ∷ value ∷ rest) = name.text ∷ defined_names (parts rest)
+
+-- names are digested up to an offset: they and those of the definitions from there on are all of these
+pub record TookUpTo (names : KeyNames) (source : List ℕ) (at : ℕ) (all : List (List ℕ)) : Type 0 where
+  pub seen : List (List ℕ)
+  pub took : Took names seen
+  pub whole : seen ++ defined_names (parts_at source at) ≡ all
+
+-- taking the name of one definition
+abbrev pub TakesName : ℕ → List ℕ → ℕ → KeyNames → KeyNames → Type 0
+TakesName after source at old new =
+    ((seen : List (List ℕ)) → Took old seen → TookUpTo new source after (seen ++ names_after (word_list (words_at source at))))
+    × (at ≤ after) × (after ≤ length source)
 
 -- the words after a definition are left
 abbrev pub SkipsOne : ℕ → List ℕ → ℕ → Type 0

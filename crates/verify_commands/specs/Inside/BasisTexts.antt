@@ -8,6 +8,7 @@ abbrev pub basis_text : Basis → List ℕ
 basis_text basis =
     names_text (codes "text") basis.texts
     ++ names_text (codes "layout") basis.layouts
+    ++ names_text (codes "layout") basis.own_layout
     ++ names_text (codes "run") basis.ran
     ++ flat_map assumption_line basis.lines
     ++ names_text (codes "speaks") basis.spoken

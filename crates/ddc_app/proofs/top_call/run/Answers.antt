@@ -2,6 +2,7 @@ use Rattle.std.proofs.Common.{ℕ, List, sym, ap, ◌∙◌, subst}
 use Rattle.command_plan.specs.Plan.{LoadsBytes, Outcome, outcome}
 use Rattle.command_plan.specs.Answered.{is_answer}
 use Rattle.ddc_app.specs.Accepting.{is_compared, verify}
+use Rattle.ddc_app.specs.Accounted.{Accounted}
 use Rattle.ddc_app.specs.Chained.{Chained}
 use Rattle.ddc_app.specs.Commands.{plan_of}
 use Rattle.ddc_app.specs.Scripted.{ScriptReported, ScriptVerified, kaem_verify}
@@ -36,6 +37,15 @@ returns g c =
           let bytes = (sessions.calls _ _ _ _ _ l answers).bytes settled in
           subst (Verified g.M.Meaning.prescribes g.M.Meaning.compiles recipe report files) (sym same)
           (c.verified.ensures recipe report files (subst (λ (w : List (List ℕ)). LoadsBytes (plan_of w) files) words bytes)
+          (sym (ap is_compared (status ∙ ap (λ o. o.status) same)) ∙ compared));
+      accounted = λ settled recipe report words compared.
+          let files = (g.S.Shelf.state c.args.shelf.now).files in
+          let same = ap (λ (w : List (List ℕ)). outcome (plan_of w) files) words in
+          let answers = compared_answers _ compared in
+          let status = sessions.status _ _ _ _ _ l settled answers in
+          let bytes = (sessions.calls _ _ _ _ _ l answers).bytes settled in
+          subst (Accounted g.M.Meaning.prescribes g.M.Meaning.compiles recipe report files) (sym same)
+          (c.accounted.ensures recipe report files (subst (λ (w : List (List ℕ)). LoadsBytes (plan_of w) files) words bytes)
           (sym (ap is_compared (status ∙ ap (λ o. o.status) same)) ∙ compared));
       accepted = λ settled recipe report words compared.
           let files = (g.S.Shelf.state c.args.shelf.now).files in

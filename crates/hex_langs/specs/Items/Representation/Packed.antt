@@ -1,8 +1,9 @@
 -- Items as codes: a code below 256 is a byte, and a higher one the place of another item. No promise rests on its being read.
-use Rattle.std.specs.Prelude.{ℕ, ◌+◌, ◌-◌, ◌<◌, ◌≤◌, nat_lt, Bool, if◌then◌else◌, List, length, map, slice_index_or}
+use Rattle.std.specs.Prelude.{◌≡◌, ℕ, ◌+◌, ◌-◌, ◌<◌, ◌≤◌, nat_lt, Bool, if◌then◌else◌, List, length, map, slice_index_or}
 use Rattle.std.specs.List.{AllByRecursion}
 use Rattle.hex_langs.specs.declared.items.item.Item.{Item}
 use Rattle.hex_langs.specs.declared.items.item.Item.TheVariants.{Byte, Pad}
+use Rattle.hex_langs.specs.Items.Labels.{label_names}
 
 abbrev pub item_of : List Item → ℕ → Item
 item_of others code = if nat_lt code 256 then Byte code else slice_index_or others (code - 256) Pad
@@ -17,3 +18,4 @@ pub record ArePacked (codes : List ℕ) (others : List Item) : Type 0 where
   pub few : length codes ≤ 33554432
   pub fewer : length others ≤ length codes
   pub known : AllByRecursion (λ code. code < 256 + length others) codes
+  pub labels : label_names others ≡ label_names (items_of codes others)

@@ -1,4 +1,5 @@
 use Rattle.std.proofs.Common.{arith, ap, sym, ◌∙◌}
+use Rattle.ddc_base.specs.declared.name_tables.NamesKey.{NamesKey}
 use Rattle.m1_lang.specs.Words.Words.{open_quote, NoWord, Word, word_list, Words}
 use Rattle.m1_lang.specs.Words.Ahead.{words_at}
 use Rattle.m1_lang.specs.Definitions.{parts}
@@ -15,6 +16,7 @@ loop-at-preserved c =
       quote = c.loop-at.invariant.quote ∙ ap open_quote c.in-Word.ensures.0;
       whole = c.loop-at.invariant.whole ∙ ap (λ (w : Words). valued values (parts (word_list w))) c.in-Word.ensures.0
           ∙ ap (valued values) (parts-plain word (word_list (words_at c.args.source.now c.in-Word.after)) (sym c.if-is_define.ensures));
+      keyed = c.loop-at.invariant.keyed;
       within = c.in-Word.ensures.2;
     }
 
@@ -23,14 +25,15 @@ loop-at-preserved-in-Ok c =
     let word : Word = record { at = c.in-Word.start; text = c.in-Word.text.now } in
     let values = values_in c.loop-at.table in
     record {
-      quote = c.loop-at.invariant.quote ∙ ap open_quote c.in-Word.ensures.0 ∙ c.in-Ok.ensures.1;
+      quote = c.loop-at.invariant.quote ∙ ap open_quote c.in-Word.ensures.0 ∙ c.in-Ok.ensures.defines.1;
       whole = c.loop-at.invariant.whole ∙ ap (λ (w : Words). valued values (parts (word_list w))) c.in-Word.ensures.0
-          ∙ define-word values word (word_list (words_at c.args.source.now c.in-Word.after)) (sym c.if-is_define.ensures) ∙ c.in-Ok.ensures.0;
-      within = c.in-Ok.ensures.3;
+          ∙ define-word values word (word_list (words_at c.args.source.now c.in-Word.after)) (sym c.if-is_define.ensures) ∙ c.in-Ok.ensures.defines.0;
+      keyed = ap (λ (key : NamesKey). key.begun) c.in-Ok.ensures.kept ∙ c.loop-at.invariant.keyed;
+      within = c.in-Ok.ensures.defines.3;
     }
 
-pub returns-in-Err : goal.returns-in-Err
-returns-in-Err c =
+pub returns-in-Err-clause-tabulates : goal.returns-in-Err-clause-tabulates
+returns-in-Err-clause-tabulates c =
     let word : Word = record { at = c.in-Word.start; text = c.in-Word.text.now } in
     let source = c.args.source.now in
     let values = values_in c.loop-at.table in
@@ -38,11 +41,11 @@ returns-in-Err c =
     let meant = meant-by values source c.loop-at.at _ c.loop-at.invariant.quote c.loop-at.invariant.whole c.in-Word.ensures.0
     ∙ ap (unless_quoted (open_at source c.in-Word.after)) (define-word values word remaining (sym c.if-is_define.ensures)) in
     rw c.unless_open.ensures (refused (open_at source c.in-Word.after) c.in-Err.why c.in-Word.start c.in-Word.after source
-    c.loop-at.table c.define.new.table _ meant c.in-Err.ensures)
+    c.loop-at.table c.define.new.table _ meant c.in-Err.ensures.defines)
 
-pub returns : goal.returns
-returns c = meant-by (values_in c.loop-at.table) c.args.source.now c.loop-at.at NoWord c.loop-at.invariant.quote c.loop-at.invariant.whole (words-end c.args.source.now c.loop-at.at (omega arith))
+pub returns-clause-tabulates : goal.returns-clause-tabulates
+returns-clause-tabulates c = meant-by (values_in c.loop-at.table) c.args.source.now c.loop-at.at NoWord c.loop-at.invariant.quote c.loop-at.invariant.whole (words-end c.args.source.now c.loop-at.at (omega arith))
 
-pub returns-in-End : goal.returns-in-End
-returns-in-End c =
+pub returns-in-End-clause-tabulates : goal.returns-in-End-clause-tabulates
+returns-in-End-clause-tabulates c =
     meant-by (values_in c.loop-at.table) c.args.source.now c.loop-at.at NoWord c.loop-at.invariant.quote c.loop-at.invariant.whole c.in-End.ensures

@@ -6,7 +6,7 @@ pub returns-then-source-gt-LONGEST_SOURCE : goal.returns-then-source-gt-LONGEST_
 returns-then-source-gt-LONGEST_SOURCE c = expansion-long c.args.source.now (omega arith)
 
 pub returns-in-Err : goal.returns-in-Err
-returns-in-Err c = refused-definitions c.in-Err.why c.args.source.now (omega arith) c.in-Err.ensures
+returns-in-Err c = refused-definitions c.in-Err.why c.args.source.now (omega arith) c.in-Err.ensures.tabulates
 
 pub returns-in-Ok : goal.returns-in-Ok
-returns-in-Ok c = expanded-by c.in-Ok.table c.args.source.now c.items_by.result (omega arith) c.in-Ok.ensures c.items_by.ensures
+returns-in-Ok c = expanded-by c.in-Ok.table c.args.source.now c.items_by.result (omega arith) c.in-Ok.ensures.tabulates c.items_by.ensures

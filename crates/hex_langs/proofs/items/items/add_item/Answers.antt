@@ -1,8 +1,12 @@
 use Rattle.std.proofs.Common.{ap, sym, ◌∙◌, ◌++◌, ◌∷◌, [], List, ℕ}
 use Rattle.hex_langs.specs.declared.items.item.Item.{Item}
 use Rattle.hex_langs.specs.Items.Representation.Packed.{items_of}
-use Rattle.hex_langs.proofs.ItemsLemmas.Packing.{packed-other, pushed-byte, pushed-other}
+use Rattle.hex_langs.proofs.ItemsLemmas.Packing.{packed-byte, packed-other, pushed-byte, pushed-other}
 use Rattle.hex_langs.proofs.items.items.add_item.Goals as goal
+
+pub returns-in_ok-add_byte-in-Byte-clause-packed : goal.returns-in_ok-add_byte-in-Byte-clause-packed
+returns-in_ok-add_byte-in-Byte-clause-packed c =
+    rw c.in_ok-add_byte-in-Byte.ensures.ok (packed-byte c.args.codes.now.items c.args.others.now.items c.in-Byte.byte c.add_byte.ensures.byte c.requires.room c.requires.packed)
 
 pub returns-in_ok-add_byte-in-Byte-clause-ok : goal.returns-in_ok-add_byte-in-Byte-clause-ok
 returns-in_ok-add_byte-in-Byte-clause-ok c =

@@ -1,0 +1,56 @@
+//! Laws of dependencies by length and digest. Each law is the contract of a function that does nothing.
+
+ghost use Rattle.audit_chain.specs.Provenance.{Collision, SameMark, SameMarks, audited_met, mark_named, same_artefacts};
+ghost use Rattle.audit_chain.specs.declared.origin.meeting.Meeting.TheVariants.{Read, Run};
+ghost use Rattle.audit_chain.specs.Rests.Agree.{IsSameArtefact};
+ghost use Rattle.audit_chain.specs.Rests.Basis.{layouts, lines, texts};
+ghost use Rattle.audit_chain.specs.Rests.Walk.{meets, walk};
+ghost use Rattle.wheeler.specs.AllContents.{all_contents, stage_named};
+ghost use Rattle.recipe.specs.Kept.{IsMade, IsRecipe};
+ghost use Rattle.recipe.specs.declared.contents.RecipeContents.{RecipeContents};
+ghost use Rattle.recipe.specs.declared.parts.Stage.{Stage};
+ghost use Rattle.report.specs.Marks.{mark_of};
+ghost use Rattle.report.specs.declared.types.Report.{Report};
+ghost use Rattle.std.specs.Prelude.{◌≡◌, ◌≢◌, ◌⊎◌, [], ℕ, All, List, Some, true};
+ghost use Rattle.audit_rules.specs.Bench.{bench};
+ghost use Rattle.audit_rules.specs.Contents.{content};
+ghost use Rattle.audit_rules.specs.Valid.{IsInputs};
+ghost use Rattle.audit_rules.specs.declared.answer.AuditAnswer.TheVariants.{Completes};
+
+/// In a true report the length and the digest of each name are those of the bytes that the name stands for.
+pub fn marks_are_of_the_contents()
+    ensures { (recipe : RecipeContents) (inputs : List (List ℕ)) (report : Report) (name : List ℕ) → IsRecipe recipe → IsInputs recipe inputs
+        → bench recipe inputs ≡ Completes report → IsMade recipe recipe.stages name
+        → mark_named recipe report name ≡ Some (mark_of (content recipe (all_contents recipe inputs) name)) }
+{}
+
+/// Digests of the dependencies settle the artefact: two true reports of one recipe that agree on the lengths and digests of the texts, of the programs that
+/// are inputs and of the layouts that a check in M1 leaves free have the same artefact of the stage. It has the same bytes; of a stage that is checked in M1
+/// itself, the same items. Otherwise two different contents with one length and one digest are at hand.
+pub fn the_marks_settle_it()
+    ensures { (recipe : RecipeContents) (inputs others : List (List ℕ)) (report other : Report) (name : List ℕ) (stage : Stage)
+        → IsRecipe recipe → IsInputs recipe inputs → IsInputs recipe others
+        → bench recipe inputs ≡ Completes report → bench recipe others ≡ Completes other
+        → stage_named recipe.stages name ≡ Some stage → SameMarks recipe report other name
+        → IsSameArtefact recipe inputs others stage ⊎ Collision }
+{}
+
+/// Where nothing is assumed and no free layout matters, the lengths and digests of the texts alone settle the artefact, whatever programs ran.
+pub fn the_marked_texts_settle_it()
+    ensures { (recipe : RecipeContents) (inputs others : List (List ℕ)) (report other : Report) (name : List ℕ) (stage : Stage)
+        → IsRecipe recipe → IsInputs recipe inputs → IsInputs recipe others
+        → bench recipe inputs ≡ Completes report → bench recipe others ≡ Completes other
+        → stage_named recipe.stages name ≡ Some stage → lines recipe name ≡ [] → layouts recipe name ≡ []
+        → All (SameMark recipe report other) (texts recipe name)
+        → IsSameArtefact recipe inputs others stage ⊎ Collision }
+{}
+
+/// Where no line `audited` or `same` is printed, nothing that is read or run on the way back from the stage has the audited binary's bytes, the stage itself
+/// left out.
+pub fn an_untold_binary_is_not_met()
+    ensures { (recipe : RecipeContents) (inputs : List (List ℕ)) (report : Report) (name : List ℕ) → IsRecipe recipe → IsInputs recipe inputs
+        → bench recipe inputs ≡ Completes report → audited_met recipe report Read name ≡ [] → audited_met recipe report Run name ≡ []
+        → same_artefacts recipe report Read name ≡ [] → same_artefacts recipe report Run name ≡ []
+        → (met : List ℕ) → IsMade recipe recipe.stages met → meets (walk recipe name) met ≡ true → met ≢ name
+        → content recipe (all_contents recipe inputs) met ≢ content recipe (all_contents recipe inputs) recipe.compare.binary }
+{}

@@ -1,0 +1,22 @@
+-- What a yes of `verify RECIPE REPORT` says. docs/reference/verify.md says the same for people. Digests are SHA-256 (FIPS 180-4).
+use Rattle.std.specs.Prelude.{◌≡◌, ℕ, List}
+use Rattle.ddc_base.specs.Outside.{NamedFiles}
+use Rattle.sha2.specs.Sha256.{sha256}
+use Rattle.recipe.specs.declared.contents.RecipeContents.{RecipeContents}
+use Rattle.report.specs.declared.types.Report.{Report}
+use Rattle.verifier.specs.TrueReport.{IsYes, TrueReport}
+use Rattle.ddc_app.specs.Judged.{HoldsReport}
+
+-- the report has the digest of the recipe file's bytes, every line of the report is true of the recipe and its inputs, and the artefact of each compared
+-- stage is the audited binary, byte for byte
+pub record SaysHeadline (bytes : List ℕ) (said : RecipeContents) (inputs : List (List ℕ)) (made : Report) : Type 0 where
+  pub named : made.recipe.0 ≡ sha256 bytes
+  pub yes : IsYes said inputs made
+
+-- the files hold a recipe that reads, its inputs, and a report that reads, and every line of the report is true of them
+pub record HoldsTrueReport (recipe report : List ℕ) (files : NamedFiles) : Type 0 where
+  pub said : RecipeContents
+  pub inputs : List (List ℕ)
+  pub made : Report
+  pub held : HoldsReport recipe report files said inputs made
+  pub is_true : TrueReport said inputs made

@@ -1,0 +1,45 @@
+//! The key of a table over names.
+
+ghost use Rattle.std.specs.Prelude.{◌≡◌, ℕ, List, [], ◌∷◌, ◌++◌};
+ghost use Rattle.hex_langs.specs.NameKeys.{Took, begun_by};
+
+use ddc_base::{NamesDigest, NamesKey};
+
+/// The names that a table will have, as far as they are digested. It takes no memory.
+#[derive(Drop)]
+pub struct KeyNames {
+    digest: NamesDigest,
+    are_none: bool,
+}
+
+impl KeyNames {
+    /// No names.
+    pub fn new() -> KeyNames
+        ensures { Took result [] }
+    {
+        KeyNames {
+            digest: NamesDigest::new(),
+            are_none: true,
+        }
+    }
+
+    /// Takes one more name.
+    pub fn add(&mut self, name: &[u8])
+        ensures { (names : List (List ℕ)) → Took self.old names → Took self.new (names ++ name.now ∷ []) }
+    {
+        self.digest.add(name);
+        self.are_none = false;
+    }
+
+    /// The key of a table that has these names.
+    pub fn key(self) -> NamesKey
+        ensures { (names : List (List ℕ)) → Took self names → result.begun ≡ begun_by names }
+    {
+        // A digest of no names would be work for nothing.
+        if self.are_none {
+            NamesKey::of_none()
+        } else {
+            self.digest.key()
+        }
+    }
+}

@@ -1,0 +1,7 @@
+use Rattle.std.proofs.Common.{◌≡◌, ◌++◌, take}
+use Rattle.std.specs.List.{flat_map}
+use Rattle.verify_commands.specs.Provenance.{block_text}
+use Rattle.verify_commands.proofs.provenance_texts.put_blocks.Given as goal
+
+abbrev pub invariant-loop-line : goal.invariant-loop-line
+invariant-loop-line l = l.text ≡ l.fn.text ++ flat_map (block_text l.recipe l.report) (take l.line-index l.lines)

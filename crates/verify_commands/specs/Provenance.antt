@@ -1,0 +1,102 @@
+-- What `provenance RECIPE REPORT` prints of a true report: the recipe's digest, and for each compared stage its comparison and the dependencies of its
+-- artefact, by name, length and digest. The text is a function of the recipe and the report alone. docs/reference/provenance.md says the same for people.
+use Rattle.std.specs.Prelude.{ℕ, Option, Some, None, List, [], ◌∷◌, ◌++◌, bytes_eq, codes, decimal, flat_map, if◌then◌else◌}
+use Rattle.std.specs.List.{list_any}
+use Rattle.hex.specs.Hex.{encode_lower}
+use Rattle.ddc_base.specs.Lines.{line}
+use Rattle.recipe.specs.declared.contents.RecipeContents.{RecipeContents}
+use Rattle.recipe.specs.declared.parts.Content.{Content}
+use Rattle.recipe.specs.declared.parts.Content.TheVariants.{Input as Given, Stage as Artefact}
+use Rattle.recipe.specs.declared.parts.Source.{Source}
+use Rattle.recipe.specs.Lookups.{content_named}
+use Rattle.report.specs.declared.types.CompareLine.{CompareLine}
+use Rattle.report.specs.declared.types.Compared.{Compared}
+use Rattle.report.specs.declared.types.Compared.TheVariants.{Equal, Differs}
+use Rattle.report.specs.declared.types.Mark.{Mark}
+use Rattle.report.specs.declared.types.Report.{Report}
+use Rattle.report.specs.Lines.{mark_words}
+use Rattle.wheeler.specs.declared.assumption.Assumption.{Assumption}
+use Rattle.audit_chain.specs.declared.origin.meeting.Meeting.TheVariants.{Read, Run}
+use Rattle.audit_chain.specs.Provenance.{audited_met, mark_named, names_source, programs, same_artefacts}
+use Rattle.audit_chain.specs.Rests.Basis.{layouts, lines, own_layout, ran, texts}
+use Rattle.verify_commands.specs.Rests.{names_text}
+use Rattle.verify_commands.specs.Texts.{assumption_line, headline}
+
+-- a length and a digest: a true report has both of every name
+abbrev pub mark_words_of : Option Mark → List (List ℕ)
+mark_words_of None = []
+mark_words_of (Some mark) = mark_words mark
+
+-- the kind of a fact, a name, and the name's length and digest
+abbrev pub marked_line : RecipeContents → Report → List ℕ → List ℕ → List ℕ
+marked_line recipe report what name = line (what ∷ name ∷ mark_words_of (mark_named recipe report name))
+
+abbrev pub marked_text : RecipeContents → Report → List ℕ → List (List ℕ) → List ℕ
+marked_text recipe report what names = flat_map (marked_line recipe report what) names
+
+-- how the artefact and the audited binary compare; where they are equal, their length and digest
+abbrev pub compared_by : RecipeContents → Report → List ℕ → List ℕ → Compared → List ℕ
+compared_by recipe report stage binary (Equal size) = line (codes "equal" ∷ stage ∷ binary ∷ mark_words_of (mark_named recipe report binary))
+compared_by recipe report stage binary (Differs offset ours theirs) =
+    line (codes "differs" ∷ stage ∷ binary ∷ decimal offset ∷ decimal ours ∷ decimal theirs ∷ [])
+
+-- a line for each name, after the kind of the fact
+abbrev pub name_line : List ℕ → List ℕ → List ℕ
+name_line what name = line (what ∷ name ∷ [])
+
+-- an unchecked stage on the way back; the artefact of the compared stage itself is in the line of its comparison
+abbrev pub run_line : RecipeContents → Report → List ℕ → List ℕ → List ℕ
+run_line recipe report own name = if bytes_eq name own then name_line (codes "run") name else marked_line recipe report (codes "run") name
+
+-- a file of a source that an assumption names: people have to read an input; of an artefact they have to ask in turn what it depends on
+abbrev pub file_word : Option Content → List ℕ
+file_word (Some (Artefact index)) = codes "speaks"
+file_word (Some (Given index)) = codes "source"
+file_word None = codes "source"
+
+abbrev pub source_file_line : RecipeContents → Report → List ℕ → List ℕ → List ℕ
+source_file_line recipe report source file =
+    line (file_word (content_named recipe.inputs recipe.stages file) ∷ source ∷ file ∷ mark_words_of (mark_named recipe report file))
+
+unfoldable pub source_text : RecipeContents → Report → List Assumption → Source → List ℕ
+source_text recipe report assumed source = if list_any (names_source source.name) assumed then flat_map (source_file_line recipe report source.name) source.files else []
+
+-- the dependencies that settle the artefact: the inputs that are read on the way back, the inputs that are run there, and the artefacts whose layout a
+-- check in M1 leaves free
+abbrev pub settling_text : RecipeContents → Report → List ℕ → List ℕ
+settling_text recipe report name =
+    marked_text recipe report (codes "text") (texts recipe name)
+    ++ marked_text recipe report (codes "program") (programs recipe name)
+    ++ marked_text recipe report (codes "layout") (layouts recipe name)
+
+-- the compared stage itself, where its check leaves its layout free; the unchecked stages; what has to be believed of programs; and the files of the
+-- sources that these assumptions name
+abbrev pub believed_text : RecipeContents → Report → List ℕ → List ℕ
+believed_text recipe report name =
+    names_text (codes "layout") (own_layout recipe name)
+    ++ flat_map (run_line recipe report name) (ran recipe name)
+    ++ flat_map assumption_line (lines recipe name)
+    ++ flat_map (source_text recipe report (lines recipe name)) recipe.sources
+
+-- where the audited binary itself is met on the way back: as an input, or as an earlier artefact
+abbrev pub met_text : RecipeContents → Report → List ℕ → List ℕ
+met_text recipe report name =
+    names_text (codes "audited read") (audited_met recipe report Read name)
+    ++ names_text (codes "audited run") (audited_met recipe report Run name)
+    ++ names_text (codes "same read") (same_artefacts recipe report Read name)
+    ++ names_text (codes "same run") (same_artefacts recipe report Run name)
+
+unfoldable pub origin_text : RecipeContents → Report → List ℕ → List ℕ
+origin_text recipe report name = settling_text recipe report name ++ (believed_text recipe report name ++ met_text recipe report name)
+
+-- of a compared stage
+unfoldable pub block_text : RecipeContents → Report → CompareLine → List ℕ
+block_text recipe report compare =
+    compared_by recipe report compare.stage compare.binary compare.result ++ origin_text recipe report compare.stage
+
+-- the recipe's file, by its SHA-256 digest
+unfoldable pub recipe_digest_line : RecipeContents → List ℕ
+recipe_digest_line recipe = line (codes "recipe" ∷ encode_lower recipe.digest.0 ∷ [])
+
+abbrev pub provenance_text : RecipeContents → Report → List ℕ
+provenance_text recipe report = headline report.compare ++ recipe_digest_line recipe ++ flat_map (block_text recipe report) report.compare

@@ -1,0 +1,38 @@
+//! Laws of what is printed. Each law is the contract of a function that does nothing.
+
+ghost use Rattle.audit_chain.specs.Provenance.{Collision};
+ghost use Rattle.audit_chain.specs.Rests.Agree.{IsSameArtefact};
+ghost use Rattle.verify_commands.specs.Provenance.{origin_text};
+ghost use Rattle.verify_commands.specs.Verify.{provenance_plan, verify_plan};
+ghost use Rattle.command_plan.specs.Plan.{LoadsBytes, outcome};
+ghost use Rattle.ddc_base.specs.Outside.{NamedFiles};
+ghost use Rattle.wheeler.specs.AllContents.{stage_named};
+ghost use Rattle.recipe.specs.Kept.{IsRecipe};
+ghost use Rattle.recipe.specs.declared.contents.RecipeContents.{RecipeContents};
+ghost use Rattle.recipe.specs.declared.parts.Stage.{Stage};
+ghost use Rattle.report.specs.declared.types.Report.{Report};
+ghost use Rattle.std.specs.Prelude.{◌≡◌, ◌⊎◌, ℕ, List, Some};
+ghost use Rattle.audit_rules.specs.Bench.{bench};
+ghost use Rattle.audit_rules.specs.Valid.{IsInputs};
+ghost use Rattle.audit_rules.specs.declared.answer.AuditAnswer.TheVariants.{Completes};
+
+use audit_chain::origin::laws::the_marks_settle_it;
+
+/// The lines of `provenance` below a comparison settle the artefact: two true reports of one recipe for which these lines are the same have the same artefact
+/// of the stage, of a stage that is checked in M1 the same items. Otherwise two different contents with one length and one digest are at hand.
+pub fn what_is_printed_settles_it()
+    ensures { (recipe : RecipeContents) (inputs others : List (List ℕ)) (report other : Report) (name : List ℕ) (stage : Stage)
+        → IsRecipe recipe → IsInputs recipe inputs → IsInputs recipe others
+        → bench recipe inputs ≡ Completes report → bench recipe others ≡ Completes other
+        → stage_named recipe.stages name ≡ Some stage → origin_text recipe report name ≡ origin_text recipe other name
+        → IsSameArtefact recipe inputs others stage ⊎ Collision }
+{
+    the_marks_settle_it();
+}
+
+/// `provenance` judges as `verify` does: for the same words and files both return the same status, no file changes, and both load the same.
+pub fn it_judges_as_verify()
+    ensures status { (words : List (List ℕ)) (files : NamedFiles) → (outcome (provenance_plan words) files).status ≡ (outcome (verify_plan words) files).status }
+    ensures files { (words : List (List ℕ)) (files : NamedFiles) → (outcome (provenance_plan words) files).files ≡ files }
+    ensures loads { (words : List (List ℕ)) (files : NamedFiles) → LoadsBytes (provenance_plan words) files → LoadsBytes (verify_plan words) files }
+{}
