@@ -39,8 +39,10 @@ class Audit:
             try:
                 output, errors = running.communicate()
             except BaseException:
-                os.killpg(running.pid, signal.SIGKILL)
-                running.wait()
+                # A program that has ended by itself, and was waited for, has no group any more.
+                if running.poll() is None:
+                    os.killpg(running.pid, signal.SIGKILL)
+                    running.wait()
                 for path in set(self.unfinished()) - self.beside:
                     path.unlink()
                 raise
