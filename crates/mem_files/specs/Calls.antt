@@ -1,5 +1,5 @@
--- What each call answers, and the files after it: the first rule that fits (docs/reference/files.md, "Calls").
--- An answer that is an error leaves the files as they were.
+-- What each call returns, and the files after it: the first rule that applies decides (docs/reference/files.md, "Calls").
+-- An error leaves the files unchanged.
 use Rattle.std.specs.Prelude.{ℕ, ◌+◌, ◌-◌, ◌^◌, ℤ, pos, negsuc, ◌+ℤ◌, Bool, true, ◌&&◌, ◌||◌, not, ◌==◌, nat_lt, nat_le, if◌then◌else◌, Option, Some, None, option_and_then, Result, Ok, Err, List, [], ◌∷◌, ◌++◌, length, take, drop, replicate, bit_and, find}
 use Rattle.std.specs.Ordering.{is_lt}
 use Rattle.std.specs.FinMap as map
@@ -34,14 +34,14 @@ first_world = record {
   stream2 = [];
 }
 
--- a new file, under the lowest unused number
+-- a new file under the lowest unused number
 abbrev pub with_file : World → List ℕ → List ℕ → World
 with_file w name content = record w {
   names = map.insert w.names name (lowest_unused w.files);
   files = map.insert w.files (lowest_unused w.files) content;
 }
 
--- `place`: would a file of so many bytes pass a limit?
+-- `place`: would a file of `len` bytes exceed a limit?
 abbrev pub is_full : World → ℕ → Bool
 is_full w len = nat_lt most_content len || nat_lt most_total (total w + len) || nat_le most_names (map.len w.names)
 
@@ -62,7 +62,7 @@ abbrev pub without_unused : World → ℕ → World
 without_unused w number =
     if is_named w number || is_open w number then w else record w { files = map.remove w.files number }
 
--- `remove`, by the number that has the name
+-- `remove`, by the number of the file with the name
 abbrev pub removed_at : World → List ℕ → Option ℕ → Result (Unit {0}) ℕ × World
 removed_at w name None = (Err enoent, w)
 removed_at w name (Some number) = (Ok tt, without_unused (record w { names = map.remove w.names name }) number)
@@ -71,14 +71,14 @@ removed_at w name (Some number) = (Ok tt, without_unused (record w { names = map
 abbrev pub removed : World → List ℕ → Result (Unit {0}) ℕ × World
 removed w name = removed_at w name (map.get w.names name)
 
--- the file that a closed descriptor stood for goes, where nothing else has it
+-- the file of a closed descriptor is dropped if no name and no other descriptor has it
 abbrev pub released : World → OpenFile → World
 released w Input = w
 released w Stream1 = w
 released w Stream2 = w
 released w (File number file_offset access) = without_unused w number
 
--- `close`, by what stands at the descriptor
+-- `close`, by the open file of the descriptor
 abbrev pub closed_at : World → ℕ → Option OpenFile → Result (Unit {0}) ℕ × World
 closed_at w fd None = (Err ebadf, w)
 closed_at w fd (Some open_file) = (Ok tt, released (record w { open_files = map.remove w.open_files fd }) open_file)
@@ -87,23 +87,23 @@ closed_at w fd (Some open_file) = (Ok tt, released (record w { open_files = map.
 abbrev pub closed : World → ℕ → Result (Unit {0}) ℕ × World
 closed w fd = closed_at w fd (map.get w.open_files fd)
 
--- how the flags of openat(2) say that a file is used
+-- how a file is used, from the flags of openat(2)
 abbrev pub mode_of : ℕ → Mode
 mode_of access = if access == o_rdonly then Read else (if access == o_wronly then Write else ReadWrite)
 
 abbrev pub access_of : ℕ → Access
 access_of flags = record { mode = mode_of (bit_and flags o_accmode); appends = has flags o_append }
 
--- the lowest unused descriptor stands for the file, with its file offset at the start
+-- the lowest unused descriptor gets the file, with file offset 0
 abbrev pub with_descriptor : World → ℕ → ℕ → Result ℕ ℕ × World
 with_descriptor w number flags =
     (Ok (lowest_unused w.open_files), record w { open_files = map.insert w.open_files (lowest_unused w.open_files) (File number 0 (access_of flags)) })
 
--- o_trunc empties a present file
+-- o_trunc empties a file that exists
 abbrev pub emptied_if : Bool → World → ℕ → World
 emptied_if truncate w number = if truncate then record w { files = map.insert w.files number [] } else w
 
--- `open_name`, by the number that has the name
+-- `open_name`, by the number of the file with the name
 abbrev pub opened_at : World → List ℕ → ℕ → Option ℕ → Result ℕ ℕ × World
 opened_at w name flags (Some number) =
     if has flags o_creat && has flags o_excl then (Err eexist, w)
@@ -120,7 +120,7 @@ opened w name flags =
     else (if nat_le most_descriptors (map.len w.open_files) then (Err emfile, w)
     else opened_at w name flags (map.get w.names name))
 
--- the number that an offset counts from: 0, the file offset or the length
+-- the base that an offset is added to: 0, the file offset or the length
 abbrev pub seek_base : ℕ → ℕ → ℕ → Option ℕ
 seek_base whence file_offset len =
     if whence == seek_set then Some 0
@@ -133,12 +133,12 @@ abbrev pub as_file_offset : ℤ → Option ℕ
 as_file_offset (pos n) = if nat_lt n (2 ^ 63) then Some n else None
 as_file_offset (negsuc n) = None
 
--- `seek`, by where the file offset goes
+-- `seek`, by the new file offset
 abbrev pub with_file_offset : World → ℕ → ℕ → Access → Option ℕ → Result ℕ ℕ × World
 with_file_offset w fd number access None = (Err einval, w)
 with_file_offset w fd number access (Some file_offset) = (Ok file_offset, record w { open_files = map.insert w.open_files fd (File number file_offset access) })
 
--- `seek`, by what stands at the descriptor
+-- `seek`, by the open file of the descriptor
 abbrev pub sought_at : World → ℕ → ℤ → ℕ → Option OpenFile → Result ℕ ℕ × World
 sought_at w fd offset whence None = (Err ebadf, w)
 sought_at w fd offset whence (Some Input) = (Err espipe, w)
@@ -152,7 +152,7 @@ sought_at w fd offset whence (Some (File number file_offset access)) =
 abbrev pub sought : World → ℕ → ℤ → ℕ → Result ℕ ℕ × World
 sought w fd offset whence = sought_at w fd offset whence (map.get w.open_files fd)
 
--- `ready`, by what stands at the descriptor: at most `count` bytes from the file offset on
+-- `ready`, by the open file of the descriptor: at most `count` bytes from the file offset on
 abbrev pub ready_at : World → ℕ → Option OpenFile → Result (List ℕ) ℕ
 ready_at w count None = Err ebadf
 ready_at w count (Some Input) = Ok []
@@ -165,7 +165,7 @@ ready_at w count (Some (File number file_offset access)) =
 abbrev pub ready : World → ℕ → ℕ → Result (List ℕ) ℕ
 ready w fd count = ready_at w count (map.get w.open_files fd)
 
--- `skip`, by what stands at the descriptor: the file offset rises by `count`
+-- `skip`, by the open file of the descriptor: the file offset increases by `count`
 abbrev pub skipped_at : World → ℕ → ℕ → Option OpenFile → World
 skipped_at w fd count None = w
 skipped_at w fd count (Some Input) = w
@@ -178,11 +178,11 @@ skipped_at w fd count (Some (File number file_offset access)) =
 abbrev pub skipped : World → ℕ → ℕ → World
 skipped w fd count = skipped_at w fd count (map.get w.open_files fd)
 
--- a write goes to the end of a file that appends, else to the file offset
+-- the offset of a write: the end of a file that appends, otherwise the file offset
 abbrev pub write_file_offset : Access → ℕ → ℕ → ℕ
 write_file_offset access end file_offset = if access.appends then end else file_offset
 
--- where a write goes: how many bytes are there now, and the place of the first byte that is written
+-- where a write goes: how many bytes are there now, and the offset of the first byte that is written
 abbrev pub write_place : World → Option OpenFile → Option (ℕ × ℕ)
 write_place w None = None
 write_place w (Some Input) = None
@@ -193,7 +193,7 @@ write_place w (Some (File number file_offset access)) =
     then Some (length (content_of w number), write_file_offset access (length (content_of w number)) file_offset)
     else None
 
--- `fits`, by where the write goes: what refuses a write of `count` bytes
+-- `fits`, by where the write goes: the error that refuses a write of `count` bytes
 abbrev pub fits_at : World → ℕ → Option (ℕ × ℕ) → Result (Unit {0}) ℕ
 fits_at w count None = Err ebadf
 fits_at w count (Some (len, place)) =
@@ -206,18 +206,18 @@ fits_at w count (Some (len, place)) =
 abbrev pub fits : World → ℕ → ℕ → Result (Unit {0}) ℕ
 fits w fd count = fits_at w count (write_place w (map.get w.open_files fd))
 
--- the bytes of a file after `bytes` were written at `place`: a gap before the place is zeros
+-- the bytes of a file after `bytes` were written at the offset `place`; a gap before it is zeros
 abbrev pub written_over : List ℕ → ℕ → List ℕ → List ℕ
 written_over old place bytes = take place old ++ replicate (place - length old) 0 ++ bytes ++ drop (place + length bytes) old
 
--- a file after a write at a place, with the file offset at its end
+-- a file after a write at an offset, with the file offset at the end of the write
 abbrev pub with_content : World → ℕ → ℕ → Access → List ℕ → ℕ → World
 with_content w fd number access bytes place = record w {
   files = map.insert w.files number (written_over (content_of w number) place bytes);
   open_files = map.insert w.open_files fd (File number (place + length bytes) access);
 }
 
--- bytes that fit are written, by what stands at the descriptor
+-- bytes that fit are written, by the open file of the descriptor
 abbrev pub filled : World → ℕ → List ℕ → Option OpenFile → World
 filled w fd bytes None = w
 filled w fd bytes (Some Input) = w
@@ -226,7 +226,7 @@ filled w fd bytes (Some Stream2) = record w { stream2 = w.stream2 ++ bytes }
 filled w fd bytes (Some (File number file_offset access)) =
     with_content w fd number access bytes (write_file_offset access (length (content_of w number)) file_offset)
 
--- `write`, by what refuses it: a write of no byte changes nothing
+-- `write`, by the error that refuses it: a write of no bytes changes nothing
 abbrev pub written_if : World → ℕ → List ℕ → Result (Unit {0}) ℕ → Result (Unit {0}) ℕ × World
 written_if w fd bytes (Err errno) = (Err errno, w)
 written_if w fd bytes (Ok done) = (Ok done, (if length bytes == 0 then w else filled w fd bytes (map.get w.open_files fd)))
@@ -243,16 +243,16 @@ content_at w name = option_and_then (map.get w.files) (map.get w.names name)
 abbrev pub stream : World → ℕ → List ℕ
 stream w which = if which == 1 then w.stream1 else w.stream2
 
--- does a name come after the given one? Each does where none is given
+-- does a name follow the given one? Every name does if none is given
 abbrev pub is_after : Option (List ℕ) → List ℕ → Bool
 is_after None name = true
 is_after (Some given) name = is_lt (bytes_cmp given name)
 
--- `name_after`: the first name, in their order, that comes after the given one; without one, the first of all
+-- `name_after`: the first name after the given one, in byte order; without a given name, the first of all
 abbrev pub name_after : World → Option (List ℕ) → Option (List ℕ)
 name_after w given = find (is_after given) (map.keys w.names)
 
--- `take_content`, by the number that has the name: the file loses its bytes
+-- `take_content`, by the number of the file with the name: the file becomes empty
 abbrev pub drained_at : World → Option ℕ → World
 drained_at w None = w
 drained_at w (Some number) = record w { files = map.insert w.files number [] }

@@ -1,4 +1,4 @@
--- How the representation keeps the world: no promise rests on these files being read.
+-- How the representation keeps the `World`. To read the promises, these files are not needed.
 pub mod Kept
 pub mod Stored
 pub mod FileTable

@@ -1,4 +1,4 @@
--- The limits of the files, which are this project's own (docs/reference/files.md, "Limits").
+-- The limits of the files, which this project chose (docs/reference/files.md, "Limits").
 use Rattle.std.specs.Prelude.{ℕ}
 
 -- bytes of a name, as Linux's NAME_MAX (include/uapi/linux/limits.h)
@@ -8,7 +8,7 @@ most_name = 255
 abbrev pub most_names : ℕ
 most_names = 4096
 
--- descriptors, 0, 1 and 2 among them while they are open
+-- open descriptors, including 0, 1 and 2
 abbrev pub most_descriptors : ℕ
 most_descriptors = 1024
 

@@ -13,7 +13,7 @@ use Rattle.mem_files.specs.World.{World, is_of}
 use Rattle.mem_files.specs.Sound.{AreBytes, IsOpenFileAt}
 use Rattle.mem_files.specs.Outputs.{IsContent}
 
--- a file: its number, its name if it still has one, and its bytes
+-- a file: its number, its name unless that was removed, and its bytes
 pub record ListedFile : Type 0 where
   pub number : ℕ
   pub name : Option (List ℕ)
@@ -23,13 +23,13 @@ pub record ListedFile : Type 0 where
 abbrev pub listed : FileView → ListedFile
 listed view = record { number = view.number; name = option_copied view.name; content = view.content.now }
 
--- the files, the descriptors with what they stand for, and the contents of the streams
+-- the files, the descriptors with their open files, and the contents of the streams
 pub record FileLists : Type 0 where
   pub files : List ListedFile
   pub open_files : List (ℕ × OpenFile)
   pub streams : List (List ℕ)
 
--- the lists that are handed over as slices
+-- the lists that these slices hold
 abbrev pub lists_from : List FileView → List (ℕ × OpenFile) → List ℕ → List ℕ → FileLists
 lists_from files open_files stream1 stream2 = record { files = map listed files; open_files = open_files; streams = stream1 ∷ stream2 ∷ [] }
 
@@ -50,7 +50,7 @@ lists_of w = record {
   streams = w.stream1 ∷ w.stream2 ∷ [];
 }
 
--- the least number that isn't below the given one, with its value
+-- the least number that is not below the given one, with its value
 abbrev pub first_from : {X : Type 0} → fin.FinMap nat_cmp X → ℕ → Option (ℕ × X)
 first_from m number = find (λ e. nat_le number e.0) (fin.entries m)
 
@@ -94,11 +94,11 @@ pub record AreOrdered (lists : FileLists) : Type 0 where
   pub open_files_rise : IsTrue (fin.is_sorted nat_cmp lists.open_files)
   pub two_streams : length lists.streams ≡ 2
 
--- a name as files hold it
+-- a name as the files store it
 abbrev pub IsHeldName : List ℕ → Type 0
 IsHeldName name = IsTrue (is_stripped_name name) × AreBytes name
 
--- what counts and ranges say
+-- what counts and ranges require
 pub record AreInRange (lists : FileLists) : Type 0 where
   pub few_names : length (named lists.files) ≤ most_names
   pub good_names : All (λ e. IsHeldName e.0) (named lists.files)
@@ -111,7 +111,7 @@ pub record AreInRange (lists : FileLists) : Type 0 where
   pub low_open_files : All (λ e. e.0 < most_descriptors) lists.open_files
   pub good_open_files : All (λ e. IsOpenFileAt e.0 e.1) lists.open_files
 
--- is the file that a descriptor stands for among these?
+-- is the file of a descriptor among these?
 abbrev pub is_listed : List ListedFile → OpenFile → Bool
 is_listed files Input = true
 is_listed files Stream1 = true
@@ -122,7 +122,7 @@ is_listed files (File number file_offset access) = list_any (λ file. file.numbe
 abbrev pub is_used : List (ℕ × OpenFile) → ListedFile → Bool
 is_used open_files file = is_some file.name || list_any (λ e. is_of file.number e.1) open_files
 
--- what references say: each descriptor's file is listed, and each listed file has a name or a descriptor
+-- what references require: each descriptor's file is listed, and each listed file has a name or a descriptor
 pub record AreJoined (lists : FileLists) : Type 0 where
   pub held : All (λ e. IsTrue (is_listed lists.files e.1)) lists.open_files
   pub used : All (λ file. IsTrue (is_used lists.open_files file)) lists.files

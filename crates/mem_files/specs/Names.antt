@@ -6,7 +6,7 @@ use Rattle.std.specs.declared.cmp.Ordering.{Ordering}
 use Rattle.std.specs.Cmp.Lexicographic.{slice_cmp}
 use Rattle.mem_files.specs.Limits.{most_name}
 
--- the order of names: byte by byte, and a name before those that it begins
+-- the order of names: byte by byte; a name precedes the longer names that begin with it
 abbrev pub bytes_cmp : List ℕ → List ℕ → Ordering
 bytes_cmp = slice_cmp nat_cmp
 
@@ -15,7 +15,7 @@ abbrev pub begins_with_dot_slash : List ℕ → Bool
 begins_with_dot_slash (a ∷ (b ∷ rest)) = a == 46 && b == 47
 begins_with_dot_slash xs = false
 
--- a name without the `./` that it begins with, again and again
+-- a name without its leading `./`, removed repeatedly
 abbrev pub stripped : List ℕ → List ℕ
 stripped (a ∷ (b ∷ rest)) = if a == 46 && b == 47 then stripped rest else a ∷ (b ∷ rest)
 stripped xs = xs
@@ -24,6 +24,6 @@ stripped xs = xs
 abbrev pub is_file_name : List ℕ → Bool
 is_file_name bytes = nat_le 1 (length bytes) && nat_le (length bytes) most_name && not (list_any (λ byte. byte == 0) bytes)
 
--- a name as the files hold it
+-- a name as the files store it
 abbrev pub is_stripped_name : List ℕ → Bool
 is_stripped_name bytes = is_file_name bytes && not (begins_with_dot_slash bytes)

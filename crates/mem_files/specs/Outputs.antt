@@ -1,4 +1,4 @@
--- What a program leaves in its files: all names with their contents, and one of its outputs.
+-- What a program leaves in its files: all names with their contents, and one output.
 use Rattle.std.specs.Prelude.{ℕ, ◌≤◌, Option, Some, List, length, map, All, IsTrue}
 use Rattle.std.specs.FinMap.{entries, is_sorted}
 use Rattle.mem_files.specs.Limits.{most_content, most_names}
@@ -15,12 +15,12 @@ named_content w entry = (entry.0, content_of w entry.1)
 unfoldable pub left : World → List (List ℕ × List ℕ)
 left w = map (named_content w) (entries w.names)
 
--- what an output is: the first stream, or the file at a path
+-- where an output is: the first stream, or the file at a path
 pub data OutputPlace : Type 0 where
   FirstStream : OutputPlace
   AtPath : List ℕ → OutputPlace
 
--- the content of an output; none where no file has the path
+-- the output contents; none if no file has the path
 abbrev pub out : World → OutputPlace → Option (List ℕ)
 out w FirstStream = Some w.stream1
 out w (AtPath path) = content_at w path
@@ -30,13 +30,13 @@ pub record IsContent (content : List ℕ) : Type 0 where
   pub bytes : AreBytes content
   pub small : length content ≤ most_content
 
--- a name with a content: a guest file name without the `./` that it may begin with
+-- a name and a content: a guest file name that does not begin with `./`
 pub record IsLeftFile (file : List ℕ × List ℕ) : Type 0 where
   pub named : IsTrue (is_stripped_name file.0)
   pub name_bytes : AreBytes file.0
   pub content : IsContent file.1
 
--- what files can leave: no more names than there may be, strictly ascending by their bytes
+-- what files can leave: at most 4,096 names, strictly ascending by their bytes
 pub record AreLeft (files : List (List ℕ × List ℕ)) : Type 0 where
   pub few : length files ≤ most_names
   pub ascending : IsTrue (is_sorted bytes_cmp files)

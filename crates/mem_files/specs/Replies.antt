@@ -1,4 +1,4 @@
--- How an answer that may also be out of memory fits the answer that is meant.
+-- How a result that may be out of memory fits the defined result.
 use Rattle.std.specs.Prelude.{◌≡◌, ℕ, ◌+◌, ◌<◌, Result, Ok, Err, IsOk, IfSome}
 use Rattle.std.specs.FinMap as map
 use Rattle.mem_files.specs.declared.open_file.FileRefusal.{FileRefusal}
@@ -8,14 +8,13 @@ use Rattle.mem_files.specs.declared.open_file.PlaceRefusal.TheVariants.{BadName,
 use Rattle.mem_files.specs.World.{World}
 use Rattle.mem_files.specs.Calls.{write_place}
 
--- the answer and the files after it are those that are meant; or memory was out, where the answer that is meant is no
--- error, and the files are as before
+-- the result and the files after it are the defined ones; or memory ran out, the defined result is no error, and the files are unchanged
 abbrev pub Replies : {X : Type 0} → Result X FileRefusal → World → World → Result X ℕ × World → Type 0
 Replies (Ok answer) old new meant = meant ≡ (Ok answer, new)
 Replies (Err (file.Errno errno)) old new meant = meant ≡ (Err errno, new)
 Replies (Err file.OutOfMemory) old new meant = IsOk meant.0 × (new ≡ old)
 
--- the same for `place`
+-- `Replies` for `place`
 abbrev pub Places : Result (Unit {0}) PlaceRefusal → World → World → Result (Unit {0}) PlaceRefusal × World → Type 0
 Places (Ok done) old new meant = meant ≡ (Ok done, new)
 Places (Err BadName) old new meant = meant ≡ (Err BadName, new)

@@ -1,5 +1,5 @@
--- The rules of files, which every call keeps (docs/reference/files.md, "Rules"), in two parts: what a count or a range says,
--- and what a reference says.
+-- The rules of files, which every call keeps (docs/reference/files.md, "Rules"), in two parts: what counts and ranges
+-- require, and what references require.
 use Rattle.std.specs.Prelude.{◌≡◌, ℕ, ◌^◌, ◌<◌, ◌≤◌, ◌||◌, List, length, Some, IsSome, IsTrue}
 use Rattle.std.specs.FinMap as map
 pub use Rattle.ddc_base.specs.ByteLists.{AreBytes}
@@ -10,14 +10,14 @@ use Rattle.mem_files.specs.Limits.{most_content, most_total, most_descriptors, m
 use Rattle.mem_files.specs.Names.{is_stripped_name}
 use Rattle.mem_files.specs.World.{World, total, is_named, is_open}
 
--- what may stand at a descriptor: the input and the streams have numbers of their own, and a file offset is below 2^63
+-- what a descriptor may stand for: the input and the streams have fixed descriptors, and a file offset is below 2^63
 abbrev pub IsOpenFileAt : ℕ → OpenFile → Type 0
 IsOpenFileAt fd Input = fd ≡ 0
 IsOpenFileAt fd Stream1 = fd ≡ 1
 IsOpenFileAt fd Stream2 = fd ≡ 2
 IsOpenFileAt fd (File number file_offset access) = file_offset < 2 ^ 63
 
--- what counts and ranges say: names, contents and streams are bytes, and no limit is passed
+-- what counts and ranges require: names, contents and streams are bytes, and no limit is exceeded
 pub record IsInLimits (w : World) : Type 0 where
   pub few_names : map.len w.names ≤ most_names
   pub few_open_files : map.len w.open_files ≤ most_descriptors
@@ -35,7 +35,7 @@ pub record IsInLimits (w : World) : Type 0 where
   pub low_open_files : (fd : ℕ) (open_file : OpenFile) → map.get w.open_files fd ≡ Some open_file → fd < most_descriptors
   pub good_open_files : (fd : ℕ) (open_file : OpenFile) → map.get w.open_files fd ≡ Some open_file → IsOpenFileAt fd open_file
 
--- what references say: a name has a file, a file at most one name, an open file is there, and each file has a name or a descriptor
+-- what references require: a name has a file, a file has at most one name, an open file exists, and each file has a name or a descriptor
 pub record IsWorldJoined (w : World) : Type 0 where
   pub held : (name : List ℕ) (number : ℕ) → map.get w.names name ≡ Some number → IsSome (map.get w.files number)
   pub named_once : (name other : List ℕ) (number : ℕ) → map.get w.names name ≡ Some number → map.get w.names other ≡ Some number → name ≡ other

@@ -7,7 +7,7 @@ use Rattle.mem_files.specs.declared.open_file.OpenFile.{OpenFile}
 use Rattle.mem_files.specs.declared.open_file.OpenFile.TheVariants.{Input, Stream1, Stream2, File}
 use Rattle.mem_files.specs.Names.{bytes_cmp}
 
--- names to file numbers, numbers to contents, descriptors to what they stand for, and the two collected streams
+-- names to file numbers, numbers to contents, descriptors to open files, and the two collected streams
 pub record World : Type 0 where
   pub names : map.FinMap bytes_cmp ℕ
   pub files : map.FinMap nat_cmp (List ℕ)
@@ -15,15 +15,15 @@ pub record World : Type 0 where
   pub stream1 : List ℕ
   pub stream2 : List ℕ
 
--- the content of a file: none is empty
+-- the content of a file; empty if there is no such file
 abbrev pub content_of : World → ℕ → List ℕ
 content_of w number = unwrap_or (map.get w.files number) []
 
--- all bytes of all files and both streams
+-- the number of bytes of all files and both streams
 abbrev pub total : World → ℕ
 total w = length w.stream1 + length w.stream2 + sum_by length (map.values w.files)
 
--- does what a descriptor stands for have this file number?
+-- is the open file the file with this number?
 abbrev pub is_of : ℕ → OpenFile → Bool
 is_of number Input = false
 is_of number Stream1 = false
@@ -38,11 +38,11 @@ is_named w number = list_any (λ held. held == number) (map.values w.names)
 abbrev pub is_open : World → ℕ → Bool
 is_open w number = list_any (is_of number) (map.values w.open_files)
 
--- the least number, from n on, that isn't in a rising list
+-- the least number from n on that is not in a rising list
 abbrev pub first_gap : ℕ → List ℕ → ℕ
 first_gap n [] = n
 first_gap n (key ∷ keys) = if key == n then first_gap (n + 1) keys else n
 
--- the least number that isn't a key
+-- the least number that is not a key
 abbrev pub lowest_unused : {X : Type 0} → map.FinMap nat_cmp X → ℕ
 lowest_unused m = first_gap 0 (map.keys m)

@@ -1,4 +1,4 @@
-//! The calls, over a table: the first rule that fits.
+//! The calls on a table. The first rule that applies decides.
 
 ghost use Rattle.std.specs.Prelude.{◌≡◌, ◌+◌, ◌-◌, ◌<◌, ◌≤◌, ◌≢◌, ◌^◌, pos, ◌+ℤ◌, IfOk, IsOkAnd, IsSome, OnOk, OnErr, MatchResult, Ok, Err, Some, None, length, take, drop, [], unwrap_or};
 ghost use Rattle.std.specs.Option.{option_copied};
@@ -18,14 +18,14 @@ use crate::{
 use ddc_base::OutOfMemory;
 use std::alloc::{AllocError, Global};
 
-/// Is this bit of the flags set?
+/// Whether this bit of the flags is set.
 fn has(flags: u32, bit: u32) -> bool
     ensures { result ≡ has flags bit }
 {
     flags & bit != 0
 }
 
-/// How the flags of openat(2) say that a file is used.
+/// How a file is used, from the flags of openat(2).
 fn access_of(flags: u32) -> Access
     ensures { result ≡ access_of flags }
 {
@@ -38,7 +38,7 @@ fn access_of(flags: u32) -> Access
     Access { mode, appends }
 }
 
-/// The number that an offset counts from.
+/// The base that an offset is added to: 0, the file offset or the length; `None` for an unknown `whence`.
 fn seek_base(whence: u32, file_offset: u64, len: u64) -> Option<u64>
     ensures { result ≡ seek_base whence file_offset len }
 {
@@ -50,7 +50,7 @@ fn seek_base(whence: u32, file_offset: u64, len: u64) -> Option<u64>
     }
 }
 
-/// A file offset after an offset, from 0 to 2^63 - 1.
+/// A base plus an offset; `None` outside 0 to 2^63 - 1.
 fn moved_file_offset(base: u64, offset: i64) -> Option<u64>
     requires { base < 2 ^ 63 }
     ensures { result ≡ as_file_offset (pos base +ℤ offset) }
@@ -96,7 +96,7 @@ impl FileTable {
         Ok(())
     }
 
-    /// Would a new file with so many bytes pass a limit?
+    /// Whether a new file of `len` bytes would exceed a limit.
     fn is_full(&self, len: u64) -> bool
         requires { IsSound self.now }
         ensures { result ≡ is_full self.now len }
@@ -178,7 +178,7 @@ impl FileTable {
         Ok(())
     }
 
-    /// A file that a descriptor stood for goes, where nothing else has it.
+    /// Drops the file that a closed descriptor stood for, if no name and no other descriptor has it.
     fn release(&mut self, open_file: OpenFile)
         requires { HasFile self.old open_file }
         ensures { self.new ≡ released self.old open_file }
@@ -188,7 +188,7 @@ impl FileTable {
         }
     }
 
-    /// A file with neither a name nor a descriptor goes.
+    /// Drops a file if it has neither a name nor a descriptor.
     fn drop_unused(&mut self, number: u32)
         requires { IsSome (map.get self.old.files number) }
         ensures { self.new ≡ without_unused self.old number }
@@ -249,7 +249,7 @@ impl FileTable {
     pub fn ready(&self, fd: u32, count: u64) -> Result<&[u8], u16>
         requires { IsSound self.now }
         ensures answer { MatchResult result (λ bytes. ready self.now fd count ≡ Ok bytes.now) (λ errno. ready self.now fd count ≡ Err errno) }
-        // As many bytes are ready again, so that `skip` may follow.
+        // A repeated read returns as many bytes, as `skip` requires.
         ensures skippable { IfOk result (λ bytes. IsOkAnd (ready self.now fd (length bytes.now)) (λ again. length again ≡ length bytes.now)) }
     {
         match self.open_file(fd) {
@@ -290,7 +290,7 @@ impl FileTable {
         }
     }
 
-    /// Where a write goes: how many bytes are there now, and the place of the first byte that is written.
+    /// Where a write goes: how many bytes are there now, and the offset of the first byte that is written.
     pub fn write_place(&self, fd: u32) -> Option<(u64, u64)>
         ensures { result ≡ write_place self.now (map.get self.now.open_files fd) }
     {
@@ -408,14 +408,14 @@ impl FileTable {
     }
 }
 
-/// The place of a write: the end of a file that appends, else the file offset.
+/// The offset of a write: the end of a file that appends, otherwise the file offset.
 fn write_file_offset(access: Access, end: u64, file_offset: u64) -> u64
     ensures { result ≡ write_file_offset access end file_offset }
 {
     if access.appends { end } else { file_offset }
 }
 
-/// At most `count` bytes past a file offset.
+/// At most `count` bytes from a file offset on.
 fn part(content: &[u8], file_offset: u64, count: u64) -> &[u8]
     ensures { result.now ≡ take count (drop file_offset content.now) }
 {

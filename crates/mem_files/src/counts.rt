@@ -1,4 +1,4 @@
-//! Of each file number, how many descriptors stand for the file. Past the end of a list of counts there are none.
+//! How many descriptors stand for each file number. Past the end of the list, the count is 0.
 
 ghost use Rattle.std.specs.Prelude.{◌≡◌, ◌+◌, ◌<◌, ◌≤◌, ◌^◌, ℕ, OnOk, OnErr, Some, slice_index_or};
 ghost use Rattle.mem_files.specs.Inside.Counts.{opens_in};

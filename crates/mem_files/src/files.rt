@@ -1,4 +1,4 @@
-//! The files of a guest, with what each call answers.
+//! The files of a guest, and what each call returns.
 
 ghost use Rattle.std.specs.Prelude.{◌≡◌, ◌⊎◌, IsTrue, IfOk, IsOkAnd, MatchResult, OnErr, OnOk, Ok, Err, is_some, length, option_map, unwrap_or, []};
 ghost use Rattle.std.specs.Option.{option_copied};
@@ -17,8 +17,8 @@ use std::marker::Model;
 
 /// The files of a guest in memory: names, contents, descriptors and two collected streams, within the limits.
 ///
-/// Seen as a `World`. A look-up of a name or a number costs its logarithm at most, a read or a write of n bytes costs n,
-/// and bytes that are written at the end cost the same each on average.
+/// Contracts see them as a `World`. Looking up a name or a number takes at most logarithmic time. A read or a write of
+/// n bytes takes time n; appending takes constant time per byte on average.
 #[derive(Drop)]
 pub struct Files {
     table: FileTable,
@@ -40,7 +40,7 @@ impl Model for Files {
 }
 
 impl Files {
-    /// No files, with the empty input at descriptor 0 and the streams at 1 and 2.
+    /// The files of a new guest: none, with the empty input at descriptor 0 and the streams at 1 and 2.
     pub fn new(alloc: Global) -> Result<Files, OutOfMemory>
         ensures { IfOk result (λ files. files ≡ first_world) }
     {
@@ -48,7 +48,7 @@ impl Files {
         Ok(Files { table })
     }
 
-    /// The files that lists stand for.
+    /// The files that these lists represent.
     pub fn from_lists(
         alloc: Global,
         files: &[FileView<'_>],
@@ -65,14 +65,14 @@ impl Files {
         Ok(Files { table })
     }
 
-    /// Adds a named file; `./` is taken off the name first.
+    /// Adds a named file. Removes `./` from the start of the name first.
     pub fn place(&mut self, name: &[u8], content: &[u8]) -> Result<(), PlaceRefusal>
         ensures { Places result self.old self.new (placed self.old name.now content.now) }
     {
         self.table.place(name, content)
     }
 
-    /// Opens a file by its name, as openat(2) does with these flags; answers the new descriptor.
+    /// Opens a file by its name, as openat(2) does with these flags. Returns the new descriptor.
     /// Errors: `EINVAL`, `EMFILE`, `EEXIST`, `ENOENT`, `ENOSPC`.
     pub fn open_name(&mut self, name: &[u8], flags: u32) -> Result<u32, FileRefusal>
         requires { IsTrue (is_stripped_name name.now) }
@@ -88,23 +88,23 @@ impl Files {
         self.table.close(fd)
     }
 
-    /// Moves a file offset, as lseek(2) does; answers where it is now. Errors: `EBADF`, `ESPIPE`, `EINVAL`.
+    /// Moves a file offset, as lseek(2) does. Returns the new file offset. Errors: `EBADF`, `ESPIPE`, `EINVAL`.
     pub fn seek(&mut self, fd: u32, offset: i64, whence: u32) -> Result<u64, u16>
         ensures { sought self.old fd offset whence ≡ (result, self.new) }
     {
         self.table.seek(fd, offset, whence)
     }
 
-    /// What a read of at most `count` bytes gives. Error: `EBADF`.
+    /// The bytes that a read of at most `count` bytes returns. Error: `EBADF`.
     pub fn ready(&self, fd: u32, count: u64) -> Result<&[u8], u16>
         ensures answer { MatchResult result (λ bytes. ready self.now fd count ≡ Ok bytes.now) (λ errno. ready self.now fd count ≡ Err errno) }
-        // As many bytes are ready again, so that `skip` may follow.
+        // A repeated read returns as many bytes, as `skip` requires.
         ensures skippable { IfOk result (λ bytes. IsOkAnd (ready self.now fd (length bytes.now)) (λ again. length again ≡ length bytes.now)) }
     {
         self.table.ready(fd, count)
     }
 
-    /// Ends a read of `count` bytes: the file offset rises by `count`.
+    /// Ends a read of `count` bytes: the file offset increases by `count`.
     pub fn skip(&mut self, fd: u32, count: u64)
         requires { IsOkAnd (ready self.old fd count) (λ bytes. length bytes ≡ count) }
         ensures { self.new ≡ skipped self.old fd count }
@@ -119,19 +119,20 @@ impl Files {
         self.table.write_place(fd).is_some()
     }
 
-    /// Whether a write of `count` bytes would be done. Errors: `EBADF`, `EFBIG`, `ENOSPC`.
+    /// Whether a write of `count` bytes is allowed. Errors: `EBADF`, `EFBIG`, `ENOSPC`.
     pub fn fits(&self, fd: u32, count: u64) -> Result<(), u16>
         ensures { result ≡ fits self.now fd count }
     {
         self.table.fits(fd, count)
     }
 
-    /// Writes bytes that fit: at the file offset, at the end of a file that appends, or at the end of a stream.
+    /// Writes bytes that fit: at the file offset, at the end of a file that appends, or at the end of a stream. Out of
+    /// memory: nothing changes.
     pub fn write(&mut self, fd: u32, bytes: &[u8]) -> Result<(), OutOfMemory>
         requires { fits self.old fd (length bytes.now) ≡ Ok tt }
         ensures ok { OnOk result (written self.old fd bytes.now ≡ (Ok tt, self.new)) }
         ensures err { OnErr result (self.new ≡ self.old) }
-        // Bytes that are there already take no memory.
+        // Overwriting bytes allocates no memory.
         ensures memory { OnErr result (Grows self.old fd (length bytes.now)) }
     {
         self.table.write(fd, bytes)
@@ -165,34 +166,34 @@ impl Files {
     pub fn stream(&self, which: u8) -> &[u8]
         requires { (which ≡ 1) ⊎ (which ≡ 2) }
         ensures bytes { result.now ≡ stream self.now which }
-        // Files keep their rules.
+        // The files are sound (docs/reference/files.md, "Rules").
         ensures sound { IsSound self.now }
     {
         self.table.stream(which)
     }
 
-    /// Shows that the files keep their rules.
+    /// Proves that the files are sound (`IsSound`).
     pub fn show_sound(&self)
         ensures { IsSound self.now }
     {
         let _ = &self.table;
     }
 
-    /// The least name that is greater than the given one, byte by byte; without one, the least of all.
+    /// The least name greater than the given one, byte by byte; without a given name, the least of all.
     pub fn name_after(&self, name: Option<&[u8]>) -> Option<&[u8]>
         ensures { option_copied result ≡ name_after self.now (option_copied name.entry) }
     {
         self.table.name_after(name)
     }
 
-    /// The file with the least number that isn't below the given one.
+    /// The file with the least number that is not below the given one.
     pub fn file_from(&self, number: u32) -> Option<FileView<'_>>
         ensures { option_map listed result ≡ file_from self.now number }
     {
         self.table.file_from(number)
     }
 
-    /// The least descriptor that isn't below the given one, with what it stands for.
+    /// The least descriptor that is not below the given one, with its open file.
     pub fn open_file_from(&self, fd: u32) -> Option<(u32, OpenFile)>
         ensures { result ≡ open_file_from self.now fd }
     {
@@ -208,7 +209,7 @@ impl Files {
 }
 
 impl Files {
-    /// Adds a named file as `place` does, which takes the bytes over.
+    /// Adds a named file as `place` does, but takes ownership of the bytes.
     pub fn place_moved(&mut self, name: &[u8], content: Vec<u8>) -> Result<(), PlaceRefusal>
         ensures { Places result self.old self.new (placed self.old name.now content.items) }
     {
@@ -216,7 +217,7 @@ impl Files {
         self.table.place_moved(name, content)
     }
 
-    /// The bytes of the file of this name, which stays and has none then; no bytes where no file has it.
+    /// Takes the bytes of the file of this name; the file stays, empty. Returns no bytes if no file has the name.
     pub fn take_content(&mut self, alloc: Global, name: &[u8]) -> Vec<u8>
         requires { IsTrue (is_stripped_name name.now) }
         ensures value { result.items ≡ unwrap_or (content_at self.old name.now) [] }

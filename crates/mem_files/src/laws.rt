@@ -1,4 +1,4 @@
-//! What the calls do together: laws about their definitions.
+//! Laws about the definitions of several calls together.
 
 ghost use Rattle.std.specs.Prelude.{◌≡◌, ◌<◌, ◌≤◌, ℕ, ℤ, pos, List, length, All, IsTrue, IsSome, IsOkAnd, Ok, Some, None, false};
 ghost use Rattle.std.specs.FinMap as map;
@@ -16,7 +16,7 @@ ghost use Rattle.std.specs.List.{Contains};
 
 use crate::*;
 
-/// Bytes that were written are read at the same place.
+/// A read at the offset of a write returns the bytes that were written.
 pub fn written_bytes_are_read()
     ensures { (w new : World) (fd number file_offset : ℕ) (access : Access) (bytes : List ℕ)
         → IsSound w → map.get w.open_files fd ≡ Some (File number file_offset access)
@@ -25,7 +25,7 @@ pub fn written_bytes_are_read()
         → ready (sought new fd (pos file_offset) seek_set).1 fd (length bytes) ≡ Ok bytes }
 {}
 
-/// To remove a name changes nothing of what a descriptor reads.
+/// Removing a name does not change what a descriptor reads.
 pub fn removed_file_is_read()
     ensures { (w : World) (name : List ℕ) (fd count : ℕ)
         → ready (removed w name).1 fd count ≡ ready w fd count }
@@ -37,7 +37,7 @@ pub fn number_has_one_name()
         → map.get w.names name ≡ Some number → map.get w.names other ≡ Some number → name ≡ other }
 {}
 
-/// The files of a start keep the rules, and each call keeps them where its names and its bytes are bytes.
+/// The files of a start are sound, and each call keeps them sound if its names and contents are bytes.
 pub fn calls_keep_the_rules()
     ensures at_start { IsSound first_world }
     ensures at_place { (w : World) (name content : List ℕ) → IsSound w → AreBytes name → AreBytes content
@@ -52,8 +52,8 @@ pub fn calls_keep_the_rules()
     ensures at_remove { (w : World) (name : List ℕ) → IsSound w → IsSound (removed w name).1 }
 {}
 
-/// What files that keep their rules leave: at most 4,096 names of 1 to 255 bytes, strictly ascending, each with the content of its
-/// file; no content or stream is longer than 268,435,456 bytes, and an output is the first stream or one of these contents.
+/// Sound files leave at most 4,096 names of 1 to 255 bytes, strictly ascending, each with the content of its file.
+/// No content or stream is longer than 268,435,456 bytes. An output is the first stream or one of these contents.
 pub fn what_is_left_keeps_the_limits()
     ensures left { (w : World) → IsSound w → AreLeft (left w) }
     ensures names { (w : World) → IsSound w → All (λ file. (1 ≤ length file.0) × (length file.0 ≤ most_name)) (left w) }
@@ -64,7 +64,7 @@ pub fn what_is_left_keeps_the_limits()
         → Contains (left w) (path, content) }
 {}
 
-/// The lowest unused number is none of the numbers, and every smaller number is one of them: of descriptors and of files.
+/// The lowest unused number is not in use, and every smaller number is. This holds for descriptors and for files.
 pub fn lowest_unused_is_free()
     ensures open_files { (w : World) → map.get w.open_files (lowest_unused w.open_files) ≡ None }
     ensures open_files_below { (w : World) (fd : ℕ) → fd < lowest_unused w.open_files → IsSome (map.get w.open_files fd) }
@@ -72,7 +72,7 @@ pub fn lowest_unused_is_free()
     ensures files_below { (w : World) (number : ℕ) → number < lowest_unused w.files → IsSome (map.get w.files number) }
 {}
 
-/// The numbers of the code are those of Linux and the written limits.
+/// The numbers in the code are those of Linux and the defined limits.
 pub fn numbers_are_those_written()
     ensures errors { (ENOENT ≡ enoent) × (EBADF ≡ ebadf) × (EEXIST ≡ eexist) × (EINVAL ≡ einval)
         × (EMFILE ≡ emfile) × (EFBIG ≡ efbig) × (ENOSPC ≡ enospc) × (ESPIPE ≡ espipe) }

@@ -1,7 +1,7 @@
 //! Files of one guest program, held in memory: names, contents, descriptors and the two collected streams.
 //!
-//! docs/reference/files.md has the rules for a reader, and specs/World.antt and specs/Calls.antt the same for the
-//! prover. There are no directories: a `/` is a byte of a name like another.
+//! The rules are in docs/reference/files.md for readers, and in specs/World.antt and specs/Calls.antt for the prover.
+//! There are no directories: `/` is an ordinary byte of a name.
 #![tactic(auto)]
 
 mod calls;
@@ -24,50 +24,50 @@ pub use view::FileView;
 
 /// No such file (Linux, asm-generic/errno-base.h, as the other error numbers).
 pub const ENOENT: u16 = 2;
-/// Not a descriptor, or not one for this use.
+/// Not a descriptor, or not one that can be used in this way.
 pub const EBADF: u16 = 9;
-/// The file is there already.
+/// The file exists already.
 pub const EEXIST: u16 = 17;
-/// An argument that the call doesn't know.
+/// An argument that the call does not know.
 pub const EINVAL: u16 = 22;
-/// No more descriptors.
+/// No more descriptors are available.
 pub const EMFILE: u16 = 24;
 /// The file would be too large.
 pub const EFBIG: u16 = 27;
-/// No more room.
+/// No space is left within the limits.
 pub const ENOSPC: u16 = 28;
 /// A descriptor that has no file offset.
 pub const ESPIPE: u16 = 29;
 
-/// The bits of the flags that say how a file is opened (Linux, asm-generic/fcntl.h, as the other flags).
+/// The bits of the flags that hold the access mode (Linux, asm-generic/fcntl.h, as the other flags).
 pub const O_ACCMODE: u32 = 3;
-/// To read alone.
+/// Read only.
 pub const O_RDONLY: u32 = 0;
-/// To write alone.
+/// Write only.
 pub const O_WRONLY: u32 = 1;
-/// To read and to write.
+/// Read and write.
 pub const O_RDWR: u32 = 2;
-/// An absent file is made.
+/// Creates a file that does not exist.
 pub const O_CREAT: u32 = 64;
-/// With `O_CREAT`: a present file is refused.
+/// With `O_CREAT`: refuses a file that exists.
 pub const O_EXCL: u32 = 128;
-/// A present file is emptied.
+/// Empties a file that exists.
 pub const O_TRUNC: u32 = 512;
 /// Each write goes to the end of the file.
 pub const O_APPEND: u32 = 1024;
 
-/// An offset counts from the start (Linux, lseek(2), as the other two).
+/// The offset counts from the start (Linux, lseek(2), as the other two).
 pub const SEEK_SET: u32 = 0;
-/// An offset counts from the file offset.
+/// The offset counts from the file offset.
 pub const SEEK_CUR: u32 = 1;
-/// An offset counts from the end.
+/// The offset counts from the end.
 pub const SEEK_END: u32 = 2;
 
-/// The most bytes of a file or a stream.
+/// The most bytes of one file or one stream.
 pub const MAX_CONTENT: u64 = 268_435_456;
 /// The most bytes of all files and streams together.
 pub const MAX_TOTAL: u64 = 536_870_912;
-/// The most descriptors, 0, 1 and 2 among them while they are open.
+/// The most open descriptors, including 0, 1 and 2.
 pub const MAX_OPEN_FILES: usize = 1_024;
 /// The most names.
 pub const MAX_NAMES: usize = 4_096;

@@ -7,10 +7,10 @@ ghost use Rattle.mem_files.specs.Names.{stripped, is_file_name, is_stripped_name
 use crate::MAX_NAME;
 use arrayvec::ArrayVec;
 
-/// A name as it stands in the tree of names: it takes no memory of its own.
+/// A name as a key of the tree of names. It needs no allocation of its own.
 pub type NameKey = ArrayVec<u8, MAX_NAME>;
 
-/// As many bytes of a name as a key has room for: all of a guest file name.
+/// The first 255 bytes of a name, as a key: all of a guest file name.
 pub fn key(name: &[u8]) -> NameKey
     ensures { result.items ≡ take MAX_NAME name.now }
 {
@@ -21,7 +21,7 @@ pub fn key(name: &[u8]) -> NameKey
     }
 }
 
-/// A name without the `./` that it begins with, again and again.
+/// A name without its leading `./`, removed repeatedly.
 pub fn strip(name: &[u8]) -> &[u8]
     ensures { result.now ≡ stripped name.now }
 {
@@ -32,7 +32,7 @@ pub fn strip(name: &[u8]) -> &[u8]
     rest
 }
 
-/// Is this a guest file name: 1 to 255 bytes, none of them zero?
+/// Whether this is a guest file name: 1 to 255 bytes, none of them zero.
 pub fn is_file_name(name: &[u8]) -> bool
     ensures { result ≡ is_file_name name.now }
 {
@@ -42,14 +42,14 @@ pub fn is_file_name(name: &[u8]) -> bool
     !has_zero(name)
 }
 
-/// Is this a guest file name that doesn't begin with `./`?
+/// Whether this is a guest file name that does not begin with `./`.
 pub fn is_stripped_name(name: &[u8]) -> bool
     ensures { result ≡ is_stripped_name name.now }
 {
     is_file_name(name) && !begins_with_dot_slash(name)
 }
 
-/// Does a name begin with `./`?
+/// Whether a name begins with `./`.
 fn begins_with_dot_slash(name: &[u8]) -> bool
     ensures { result ≡ begins_with_dot_slash name.now }
 {
@@ -59,7 +59,7 @@ fn begins_with_dot_slash(name: &[u8]) -> bool
     }
 }
 
-/// Is there a zero byte?
+/// Whether a name has a zero byte.
 fn has_zero(name: &[u8]) -> bool
     ensures { result ≡ list_any (λ byte. byte == 0) name.now }
 {

@@ -1,4 +1,4 @@
-//! Numbers of which some are used.
+//! Sets of numbers in use.
 
 ghost use Rattle.std.specs.Prelude.{◌≡◌, ◌+◌, ◌*◌, ◌^◌, ◌<◌, ◌≤◌, ℕ, IfOk, true, false, length, set, drop, replicate, slice_index_or};
 ghost use Rattle.mem_files.specs.Inside.Numbers.{mark, IsRightBut};
@@ -6,14 +6,14 @@ ghost use Rattle.mem_files.specs.Inside.Numbers.{mark, IsRightBut};
 use std::alloc::{AllocError, Global};
 use std::marker::Model;
 
-/// The numbers below a power of two, and which of them are used.
+/// The numbers below a power of two, and which of them are in use.
 ///
-/// Seen as a list that tells of each number whether it is used. Each change and each search costs the logarithm of the
-/// list's length, and none but `new` takes memory.
+/// Contracts see a list with one truth value per number. Each change and each search takes time logarithmic in the
+/// list's length. Only `new` allocates.
 #[derive(Drop)]
 pub struct Numbers {
-    /// A tree in a list: node 1 is the root, below node i lie 2i and 2i + 1, and the nodes from `leaves` on are the
-    /// numbers. A node is set where all numbers below it are used.
+    /// A tree in a list: node 1 is the root, the children of node i are 2i and 2i + 1, and the nodes from `leaves` on
+    /// are the numbers. A node is set if all numbers below it are in use.
     full: Vec<bool>,
     leaves: usize,
     height: u32,
@@ -48,7 +48,7 @@ impl Numbers {
         })
     }
 
-    /// A number is used.
+    /// Marks a number as used.
     pub fn insert(&mut self, number: u32)
         requires { number < length self.old }
         ensures { self.new ≡ set self.old number true }
@@ -56,7 +56,7 @@ impl Numbers {
         self.mark(number, true);
     }
 
-    /// A number is unused.
+    /// Marks a number as unused.
     pub fn remove(&mut self, number: u32)
         requires { number < length self.old }
         ensures { self.new ≡ set self.old number false }
@@ -64,7 +64,7 @@ impl Numbers {
         self.mark(number, false);
     }
 
-    /// The lowest unused number; their count, where all are used.
+    /// The lowest unused number; the count of numbers if all are used.
     pub fn lowest_unused(&self) -> usize
         ensures unused { slice_index_or self.now result false ≡ false }
         ensures used { (number : ℕ) → number < result → slice_index_or self.now number false ≡ true }
@@ -85,7 +85,7 @@ impl Numbers {
     }
 }
 
-/// Mends a node and those above it, after one below it changed.
+/// Updates a node and those above it after one of its children changed.
 fn settle(full: &mut [bool], from: usize)
     requires inside { 2 * from + 1 < length full.old }
     requires right { IsRightBut from full.old }
@@ -99,7 +99,7 @@ fn settle(full: &mut [bool], from: usize)
     }
 }
 
-/// The leftmost leaf that isn't set, below a root that isn't set.
+/// The leftmost unset leaf below an unset root.
 fn leftmost(full: &[bool], height: u32) -> usize
     requires sized { length full.now ≡ 2 * 2 ^ height }
     requires right { IsRightBut 0 full.now }

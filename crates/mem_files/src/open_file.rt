@@ -1,4 +1,4 @@
-//! What a descriptor stands for, and how calls refuse.
+//! What a descriptor stands for, and why calls refuse.
 
 ghost use Rattle.std.specs.Prelude.{◌≡◌};
 ghost use Rattle.mem_files.specs.Access.{is_read, is_written};
@@ -32,7 +32,7 @@ pub enum Mode {
     ReadWrite,
 }
 
-/// How a descriptor uses its file.
+/// How a descriptor may use its file.
 #[derive(Clone, Copy, Debug, PartialEq, Eq)]
 pub struct Access {
     pub mode: Mode,
@@ -41,7 +41,7 @@ pub struct Access {
 }
 
 impl Access {
-    /// May the file be read?
+    /// Whether the file may be read.
     pub fn is_read(self) -> bool
         ensures { result ≡ is_read self }
     {
@@ -52,7 +52,7 @@ impl Access {
         }
     }
 
-    /// May the file be written?
+    /// Whether the file may be written.
     pub fn is_written(self) -> bool
         ensures { result ≡ is_written self }
     {
@@ -64,25 +64,25 @@ impl Access {
     }
 }
 
-/// Why a file isn't opened or written.
+/// Why a file is not opened or written.
 #[derive(Clone, Copy)]
 pub enum FileRefusal {
     /// Linux's error number.
     Errno(u16),
-    /// No more memory in this process: the guest doesn't see it.
+    /// This process is out of memory. The guest does not see it.
     OutOfMemory,
 }
 
-/// Why a file isn't placed.
+/// Why a file is not placed.
 #[derive(Clone, Copy, PartialEq, Eq)]
 pub enum PlaceRefusal {
-    /// What is left of the name is no guest file name: 1 to 255 bytes, none of them zero.
+    /// The stripped name is not a guest file name (1 to 255 bytes, none of them zero).
     BadName,
-    /// The name is held already.
+    /// The name exists already.
     Twice,
-    /// A limit would be passed.
+    /// A limit would be exceeded.
     Full,
-    /// No more memory in this process.
+    /// This process is out of memory.
     OutOfMemory,
 }
 

@@ -1,4 +1,4 @@
-//! A table made of lists.
+//! A table made from lists.
 
 ghost use Rattle.std.specs.Prelude.{◌≡◌, ◌+◌, ◌<◌, ◌≤◌, ◌^◌, IfOk, IfSome, OnOk, IsTrue, None, [], map as map_list, length, sum_by};
 ghost use Rattle.std.specs.List.{All, IsDistinct};
@@ -16,7 +16,7 @@ use crate::{FileView, MAX_NAME, MAX_NAMES, MAX_OPEN_FILES, OpenFile};
 use std::alloc::{AllocError, Global};
 
 impl FileTable {
-    /// The table of lists that keep their rules.
+    /// The table of lists that are ordered and in range.
     pub fn of_lists(
         alloc: Global,
         files: &[FileView<'_>],
@@ -36,7 +36,7 @@ impl FileTable {
         Ok(table)
     }
 
-    /// Puts all files.
+    /// Adds all files.
     fn put_files(&mut self, files: &[FileView<'_>]) -> Result<(), AllocError>
         requires bare { self.old ≡ bare_world }
         requires rise { IsTrue (map.is_sorted nat_cmp (numbered_contents (map_list listed files.now))) }
@@ -53,7 +53,7 @@ impl FileTable {
         Ok(())
     }
 
-    /// Puts a file under a number of its own.
+    /// Adds a file under a number that is not in use.
     fn put_file(&mut self, file: &FileView<'_>) -> Result<(), AllocError>
         requires unused { map.get self.old.files file.now.number ≡ None }
         requires low { file.now.number < MAX_NAMES + MAX_OPEN_FILES }
@@ -68,7 +68,7 @@ impl FileTable {
         }
     }
 
-    /// Puts all descriptors.
+    /// Adds all descriptors.
     fn put_open_files(&mut self, open_files: &[(u32, OpenFile)]) -> Result<(), AllocError>
         requires empty { self.old.open_files ≡ map.empty }
         requires rise { IsTrue (map.is_sorted nat_cmp open_files.now) }

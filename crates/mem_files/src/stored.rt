@@ -1,4 +1,4 @@
-//! One file as it lies in memory.
+//! One file in memory.
 
 ghost use Rattle.std.specs.Prelude.{◌≡◌, ◌+◌, ◌-◌, ◌<◌, ◌≤◌, ◌^◌, IfOk, OnOk, OnErr, IsSome, Some, None, is_some, length, unwrap_or, take, drop, replicate, ◌++◌, []};
 ghost use Rattle.std.specs.Option.{option_copied};
@@ -8,7 +8,7 @@ use crate::FileView;
 use std::alloc::{AllocError, Global};
 use std::mem;
 
-/// A file: its name, if it still has one, and its bytes.
+/// A file: its name, unless that was removed, and its bytes.
 #[derive(Drop)]
 pub struct Stored {
     name: Option<Vec<u8>>,
@@ -60,7 +60,7 @@ impl Stored {
     }
 }
 
-/// How many bytes a file has; none where there is no file.
+/// How many bytes a file has; 0 if there is no file.
 pub fn len(cell: &Option<Stored>) -> usize
     ensures { result ≡ length (unwrap_or (content_in cell.now) []) }
 {
@@ -70,7 +70,7 @@ pub fn len(cell: &Option<Stored>) -> usize
     }
 }
 
-/// The name goes.
+/// Removes the name.
 pub fn unname(cell: &mut Option<Stored>)
     ensures name { name_in cell.new ≡ None }
     ensures content { content_in cell.new ≡ content_in cell.old }
@@ -80,7 +80,7 @@ pub fn unname(cell: &mut Option<Stored>)
     }
 }
 
-/// The bytes go.
+/// Removes the bytes.
 pub fn empty(cell: &mut Option<Stored>)
     requires { IsSome cell.old }
     ensures name { name_in cell.new ≡ name_in cell.old }
@@ -91,7 +91,7 @@ pub fn empty(cell: &mut Option<Stored>)
     }
 }
 
-/// Writes bytes at a place; a gap before the place is zeros. Answers how many bytes were added.
+/// Writes bytes at an offset, and fills a gap before it with zeros. Returns how many bytes were added.
 pub fn overwrite(cell: &mut Option<Stored>, place: usize, bytes: &[u8]) -> Result<usize, AllocError>
     requires held { IsSome cell.old }
     requires small { place + length bytes.now < 2 ^ 63 }
@@ -108,7 +108,7 @@ pub fn overwrite(cell: &mut Option<Stored>, place: usize, bytes: &[u8]) -> Resul
     Ok(len(cell) - before)
 }
 
-/// Writes bytes at a place; a gap before the place is zeros.
+/// Writes bytes at an offset, and fills a gap before it with zeros.
 fn put(content: &mut Vec<u8>, place: usize, bytes: &[u8]) -> Result<(), AllocError>
     requires { place + length bytes.now < 2 ^ 63 }
     ensures ok { OnOk result (content.new.items ≡ written_over content.old.items place bytes.now) }
@@ -120,7 +120,7 @@ fn put(content: &mut Vec<u8>, place: usize, bytes: &[u8]) -> Result<(), AllocErr
     Ok(())
 }
 
-/// Adds zeros up to an end.
+/// Appends zeros up to a length.
 fn grow(content: &mut Vec<u8>, end: usize) -> Result<(), AllocError>
     ensures ok { OnOk result (content.new.items ≡ content.old.items ++ replicate (end - length content.old.items) 0) }
     ensures err { OnErr result (content.new.items ≡ content.old.items) }
@@ -132,7 +132,7 @@ fn grow(content: &mut Vec<u8>, end: usize) -> Result<(), AllocError>
     Ok(())
 }
 
-/// Copies bytes to a place.
+/// Copies bytes to an offset.
 fn copy_at(content: &mut [u8], place: usize, bytes: &[u8])
     requires { place + length bytes.now ≤ length content.old }
     ensures { content.new ≡ take place content.old ++ bytes.now ++ drop (place + length bytes.now) content.old }
@@ -141,7 +141,7 @@ fn copy_at(content: &mut [u8], place: usize, bytes: &[u8])
 }
 
 impl Stored {
-    /// A file of this name, which takes the bytes over.
+    /// A file of this name that takes ownership of the bytes.
     pub fn moved(alloc: Global, name: &[u8], content: Vec<u8>) -> Result<Stored, AllocError>
         ensures name { IfOk result (λ file. name_in (Some file) ≡ Some name.now) }
         ensures content { IfOk result (λ file. content_in (Some file) ≡ Some content.items) }
@@ -151,7 +151,7 @@ impl Stored {
     }
 }
 
-/// The bytes of a file, which it loses.
+/// Takes the bytes of a file; the file stays, empty.
 pub fn take(alloc: Global, cell: &mut Option<Stored>) -> Vec<u8>
     requires { IsSome cell.old }
     ensures name { name_in cell.new ≡ name_in cell.old }

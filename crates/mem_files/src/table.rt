@@ -1,4 +1,4 @@
-//! Names, files, descriptors and streams as they lie in memory: each call here is one change of the world.
+//! Names, files, descriptors and streams in memory. Each call here is one change of the `World`.
 
 ghost use Rattle.std.specs.Prelude.{◌≡◌, ◌+◌, ◌-◌, ◌<◌, ◌^◌, IfOk, OnOk, OnErr, IsSome, Some, None, option_map, ℕ, ◌≤◌, List, length, false, find, map as map_list, [], ◌++◌};
 ghost use Rattle.std.specs.Option.{option_copied};
@@ -35,7 +35,7 @@ pub struct FileTable {
     open_files: Vec<Option<OpenFile>>,
     used_open_files: Numbers,
     open_file_count: usize,
-    /// Of each file number, how many descriptors stand for the file.
+    /// How many descriptors stand for each file number.
     open_counts: Vec<u32>,
     stream1: Vec<u8>,
     stream2: Vec<u8>,
@@ -78,7 +78,7 @@ impl FileTable {
         })
     }
 
-    /// No files, and the three first descriptors.
+    /// No files, and the first three descriptors.
     pub fn new(alloc: Global) -> Result<FileTable, AllocError>
         ensures { IfOk result (λ table. table ≡ first_world) }
     {
@@ -89,7 +89,7 @@ impl FileTable {
         Ok(table)
     }
 
-    /// What a descriptor stands for.
+    /// The open file of a descriptor.
     pub fn open_file(&self, fd: u32) -> Option<OpenFile>
         ensures { result ≡ map.get self.now.open_files fd }
     {
@@ -101,11 +101,11 @@ impl FileTable {
         ensures { result ≡ map.get self.now.names name.now }
     {
         let held = self.names.get(&key(name)).copied();
-        // A longer name is held nowhere, though its front may be.
+        // A longer name is not in the tree, even if its first 255 bytes are.
         if name.len() > MAX_NAME { None } else { held }
     }
 
-    /// The bytes of a file; none where there is no such file.
+    /// The bytes of a file; none if there is no such file.
     pub fn content(&self, number: u32) -> &[u8]
         ensures { result.now ≡ content_of self.now number }
     {
@@ -126,7 +126,7 @@ impl FileTable {
         }
     }
 
-    /// How many bytes there are in all.
+    /// The number of bytes of all files and streams.
     pub fn total(&self) -> u64
         ensures { result ≡ total self.now }
     {
@@ -178,7 +178,7 @@ impl FileTable {
         self.used_files.lowest_unused() as u32
     }
 
-    /// Puts what a descriptor stands for at the lowest unused one, which is the answer.
+    /// Gives an open file the lowest unused descriptor, and returns the descriptor.
     pub fn add_open_file(&mut self, open_file: OpenFile) -> Result<u32, AllocError>
         requires { map.len self.old.open_files < MAX_OPEN_FILES }
         ensures ok { IfOk result (λ fd. (fd ≡ lowest_unused self.old.open_files)
@@ -190,7 +190,7 @@ impl FileTable {
         Ok(fd)
     }
 
-    /// Puts what a descriptor stands for at an unused one.
+    /// Gives an open file this unused descriptor.
     pub fn put_open_file(&mut self, fd: u32, open_file: OpenFile) -> Result<(), AllocError>
         requires unused { map.get self.old.open_files fd ≡ None }
         requires low { fd < MAX_OPEN_FILES }
@@ -205,7 +205,7 @@ impl FileTable {
         Ok(())
     }
 
-    /// What a descriptor stands for changes, but for its file.
+    /// Replaces the open file of a descriptor by one for the same file.
     pub fn set_open_file(&mut self, fd: u32, open_file: OpenFile)
         requires held { IsSome (map.get self.old.open_files fd) }
         requires same_file { (number : ℕ) → opens_in number (map.get self.old.open_files fd) ≡ opens_in number (Some open_file) }
@@ -214,7 +214,7 @@ impl FileTable {
         self.open_files[fd as usize] = Some(open_file);
     }
 
-    /// A descriptor goes.
+    /// Removes a descriptor.
     pub fn clear_open_file(&mut self, fd: u32)
         requires { IsSome (map.get self.old.open_files fd) }
         ensures { self.new ≡ record self.old { open_files = map.remove self.old.open_files fd } }
@@ -225,7 +225,7 @@ impl FileTable {
         self.open_file_count -= 1;
     }
 
-    /// A new file, under the lowest unused number.
+    /// Adds a file under the lowest unused number.
     pub fn add_file(&mut self, name: &[u8], content: &[u8]) -> Result<(), AllocError>
         requires absent { map.get self.old.names name.now ≡ None }
         requires short { length name.now ≤ MAX_NAME }
@@ -238,7 +238,7 @@ impl FileTable {
         self.put_named(number, name, content)
     }
 
-    /// A new file under an unused number.
+    /// Adds a named file under an unused number.
     pub fn put_named(&mut self, number: u32, name: &[u8], content: &[u8]) -> Result<(), AllocError>
         requires absent { map.get self.old.names name.now ≡ None }
         requires short { length name.now ≤ MAX_NAME }
@@ -260,7 +260,7 @@ impl FileTable {
         Ok(())
     }
 
-    /// A new file without a name, under an unused number.
+    /// Adds a file without a name under an unused number.
     pub fn put_unnamed(&mut self, number: u32, content: &[u8]) -> Result<(), AllocError>
         requires unused { map.get self.old.files number ≡ None }
         requires low { number < MAX_NAMES + MAX_OPEN_FILES }
@@ -276,7 +276,7 @@ impl FileTable {
         Ok(())
     }
 
-    /// A name goes from its file.
+    /// Removes a name from its file.
     pub fn unname(&mut self, name: &[u8], number: u32)
         requires { map.get self.old.names name.now ≡ Some number }
         ensures { self.new ≡ record self.old { names = map.remove self.old.names name.now } }
@@ -285,7 +285,7 @@ impl FileTable {
         stored::unname(&mut self.files[number as usize]);
     }
 
-    /// A file without a name goes.
+    /// Drops a file without a name.
     pub fn drop_file(&mut self, number: u32)
         requires held { IsSome (map.get self.old.files number) }
         requires unnamed { is_named self.old number ≡ false }
@@ -296,7 +296,7 @@ impl FileTable {
         self.used_files.remove(number);
     }
 
-    /// A file loses its bytes.
+    /// Removes the bytes of a file.
     pub fn empty(&mut self, number: u32)
         requires { IsSome (map.get self.old.files number) }
         ensures { self.new ≡ record self.old { files = map.insert self.old.files number [] } }
@@ -305,7 +305,7 @@ impl FileTable {
         stored::empty(&mut self.files[number as usize]);
     }
 
-    /// Writes bytes at a place of a file; a gap before the place is zeros.
+    /// Writes bytes at an offset of a file, and fills a gap before it with zeros.
     pub fn overwrite(&mut self, number: u32, place: usize, bytes: &[u8]) -> Result<(), AllocError>
         requires held { IsSome (map.get self.old.files number) }
         requires small { place + length bytes.now < 2 ^ 63 }
@@ -319,7 +319,7 @@ impl FileTable {
         Ok(())
     }
 
-    /// Bytes more in stream 1.
+    /// Appends bytes to stream 1.
     pub fn extend_stream1(&mut self, bytes: &[u8]) -> Result<(), AllocError>
         requires { total self.old + length bytes.now < 2 ^ 64 }
         ensures ok { OnOk result (self.new ≡ record self.old { stream1 = self.old.stream1 ++ bytes.now }) }
@@ -330,7 +330,7 @@ impl FileTable {
         Ok(())
     }
 
-    /// Bytes more in stream 2.
+    /// Appends bytes to stream 2.
     pub fn extend_stream2(&mut self, bytes: &[u8]) -> Result<(), AllocError>
         requires { total self.old + length bytes.now < 2 ^ 64 }
         ensures ok { OnOk result (self.new ≡ record self.old { stream2 = self.old.stream2 ++ bytes.now }) }
@@ -341,7 +341,7 @@ impl FileTable {
         Ok(())
     }
 
-    /// The file with the least number that isn't below the given one.
+    /// The file with the least number that is not below the given one.
     pub fn file_from(&self, number: u32) -> Option<FileView<'_>>
         ensures { option_map listed result ≡ file_from self.now number }
     {
@@ -351,7 +351,7 @@ impl FileTable {
         }
     }
 
-    /// The least descriptor that isn't below the given one, with what it stands for.
+    /// The least descriptor that is not below the given one, with its open file.
     pub fn open_file_from(&self, fd: u32) -> Option<(u32, OpenFile)>
         ensures { result ≡ open_file_from self.now fd }
     {
@@ -361,7 +361,7 @@ impl FileTable {
         }
     }
 
-    /// The least name that is greater than the given one; without one, the least of all.
+    /// The least name greater than the given one; without a given name, the least of all.
     pub fn name_after(&self, name: Option<&[u8]>) -> Option<&[u8]>
         ensures { option_copied result ≡ name_after self.now (option_copied name.entry) }
     {
@@ -369,7 +369,7 @@ impl FileTable {
     }
 }
 
-/// The first name that comes after the given one; without one, the first of all.
+/// The first name after the given one; without a given name, the first of all.
 fn next_name<'a>(names: &'a BTreeMap<NameKey, u32>, name: Option<&[u8]>) -> Option<&'a [u8]>
     requires { All (λ e. length e.0.items ≤ MAX_NAME) names.now.entries }
     ensures { option_copied result ≡ find (is_after (option_copied name.entry)) (map_list (λ e. e.0.items) names.now.entries) }
@@ -380,7 +380,7 @@ fn next_name<'a>(names: &'a BTreeMap<NameKey, u32>, name: Option<&[u8]>) -> Opti
     }
 }
 
-/// Where the names begin that come after the given one; without one, all of them.
+/// The lower bound of the names after the given one; without a given name, no bound.
 fn start_after(name: Option<&[u8]>) -> Bound<NameKey>
     ensures { (held : List ℕ) → length held ≤ MAX_NAME → begins result held ≡ is_after (option_copied name.entry) held }
 {
@@ -391,7 +391,7 @@ fn start_after(name: Option<&[u8]>) -> Bound<NameKey>
 }
 
 impl FileTable {
-    /// A new file under the lowest unused number, which takes the bytes over.
+    /// Adds a file under the lowest unused number, and takes ownership of the bytes.
     pub fn add_moved(&mut self, name: &[u8], content: Vec<u8>) -> Result<(), AllocError>
         requires absent { map.get self.old.names name.now ≡ None }
         requires short { length name.now ≤ MAX_NAME }
@@ -404,7 +404,7 @@ impl FileTable {
         self.put_moved(number, name, content)
     }
 
-    /// A new file under an unused number, which takes the bytes over.
+    /// Adds a file under an unused number, and takes ownership of the bytes.
     fn put_moved(&mut self, number: u32, name: &[u8], content: Vec<u8>) -> Result<(), AllocError>
         requires absent { map.get self.old.names name.now ≡ None }
         requires short { length name.now ≤ MAX_NAME }
@@ -427,7 +427,7 @@ impl FileTable {
         Ok(())
     }
 
-    /// The bytes of a file, which it loses.
+    /// Takes the bytes of a file; the file stays, empty.
     pub fn take(&mut self, number: u32) -> Vec<u8>
         requires { IsSome (map.get self.old.files number) }
         ensures value { result.items ≡ content_of self.old number }

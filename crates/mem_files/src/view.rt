@@ -1,6 +1,6 @@
 //! A file as lists show it.
 
-/// A file of a guest: its number, its name if it still has one, and its bytes.
+/// A file of a guest: its number, its name unless that was removed, and its bytes.
 #[derive(Clone, Copy)]
 pub struct FileView<'a> {
     pub number: u32,

@@ -1,4 +1,4 @@
--- What contracts see of a `FlatRam` and of a `PagedRam`: a memory, which is whole, and of the second also the pages that are held.
+-- What contracts see of a `FlatRam` and of a `PagedRam`: a memory in whole pages and, of a `PagedRam`, which pages have stored bytes.
 use Rattle.std.specs.Prelude.{ℕ, List}
 use Rattle.paged_mem.specs.Memory.{Memory, IsWhole}
 
@@ -7,7 +7,7 @@ pub record Held : Type 0 where
   pub bytes : Memory
   pub whole : IsWhole bytes
 
--- a memory of which some pages are held, by their numbers
+-- a memory, and the numbers of the pages that have stored bytes
 pub record PagedMemory : Type 0 where
   pub bytes : Memory
   pub whole : IsWhole bytes

@@ -1,4 +1,4 @@
--- How the representation keeps a memory: no promise rests on these files being read.
+-- How the representation keeps a memory. To read the promises, these files are not needed.
 pub mod Entries
 pub mod Flat
 pub mod Codes

@@ -13,31 +13,31 @@ Memory = FinMap nat_cmp ℕ
 abbrev pub page_size : ℕ
 page_size = 4096
 
--- the first multiple of a page's bytes that is not below `n`
+-- the first multiple of the page size that is not below `n`
 abbrev pub page_up : ℕ → ℕ
 page_up n = (n + 4095) / 4096 * 4096
 
--- mapped addresses come in whole pages of 4,096 bytes below 2 ^ 38, and each holds a byte
+-- mapped addresses are whole pages of 4,096 bytes below 2 ^ 38, and each holds a byte
 pub record IsWhole (m : Memory) : Type 0 where
   pub small : (at byte : ℕ) → get m at ≡ Some byte → byte < 256
   pub low : (at byte : ℕ) → get m at ≡ Some byte → at < 2 ^ 38
   pub pages : (at other : ℕ) → at / 4096 ≡ other / 4096 → contains_key m at ≡ contains_key m other
 
--- a byte before those that follow it, where all of them are there
+-- a byte followed by the rest, if both are there
 abbrev pub prepended : Option ℕ → Option (List ℕ) → Option (List ℕ)
 prepended None rest = None
 prepended (Some byte) rest = option_map (λ bytes. byte ∷ bytes) rest
 
--- the count bytes from an address, or none where one of them is unmapped
+-- the count bytes from an address on, or none if one of them is unmapped
 unfoldable pub bytes_at : Memory → ℕ → ℕ → Option (List ℕ)
 bytes_at m at zero = Some []
 bytes_at m at (suc count) = prepended (get m at) (bytes_at m (suc at) count)
 
--- whether the count bytes from an address are all mapped
+-- whether the count bytes from an address on are all mapped
 abbrev pub maps : Memory → ℕ → ℕ → Bool
 maps m at count = is_some (bytes_at m at count)
 
--- no address of the count from this one is mapped
+-- none of the count addresses from this one on is mapped
 abbrev pub IsFree : Memory → ℕ → ℕ → Type 0
 IsFree m at count = (address : ℕ) → at ≤ address → address < at + count → get m address ≡ None
 
@@ -46,25 +46,25 @@ unfoldable pub with_bytes : Memory → ℕ → List ℕ → Memory
 with_bytes m at [] = m
 with_bytes m at (byte ∷ bytes) = insert (with_bytes m (suc at) bytes) at byte
 
--- the memory without the count addresses from this one
+-- the memory without the count addresses from this one on
 unfoldable pub without : Memory → ℕ → ℕ → Memory
 without m at count = retain_keys m (λ address. not (nat_le at address && nat_lt address (at + count)))
 
--- zero bytes, so many
+-- count zero bytes
 unfoldable pub zeros : ℕ → List ℕ
 zeros count = replicate count 0
 
--- the number of bytes that stand lowest first
+-- the number that these bytes are, lowest byte first
 unfoldable pub number_of : List ℕ → ℕ
 number_of [] = 0
 number_of (byte ∷ bytes) = byte + 256 * number_of bytes
 
--- the low bytes of a number, so many, lowest first
+-- the low count bytes of a number, lowest byte first
 unfoldable pub bytes_of : ℕ → ℕ → List ℕ
 bytes_of zero value = []
 bytes_of (suc count) value = value % 256 ∷ bytes_of count (value / 256)
 
--- the little-endian number of the count bytes from an address, or none where one of them is unmapped
+-- the little-endian number of the count bytes from an address on, or none if one of them is unmapped
 abbrev pub reads : Memory → ℕ → ℕ → Option ℕ
 reads m at count = option_map number_of (bytes_at m at count)
 

@@ -1,4 +1,4 @@
--- What the calls of a memory answer, by cases on the answer (docs/reference/memory.md).
+-- What the calls of a memory return, by cases (docs/reference/memory.md).
 use Rattle.std.specs.Prelude.{◌≡◌, ℕ, ◌+◌, ◌*◌, ◌/◌, ◌%◌, ◌^◌, ◌<◌, ◌≤◌, Bool, true, false, Option, None, Some, Result, Ok, Err, List, length, ⊤}
 use Rattle.std.specs.FinMap.{get}
 use Rattle.paged_mem.specs.Memory.{Memory, maps, with_bytes, bytes_of, zeros}
@@ -16,8 +16,7 @@ count_of W2 = 2
 count_of W4 = 4
 count_of W8 = 8
 
--- bytes are written from an address on, all or none: refused exactly where one of them is unmapped, which comes
--- before want of memory
+-- bytes are written from an address on, all or none: refused exactly if one of them is unmapped, or else if memory runs out
 abbrev pub Writes : Memory → ℕ → List ℕ → Result ⊤ StoreRefusal → Memory → Type 0
 Writes old at bytes (Ok _) new = (maps old at (length bytes) ≡ true) × (new ≡ with_bytes old at bytes)
 Writes old at bytes (Err Unmapped) new = (maps old at (length bytes) ≡ false) × (new ≡ old)
@@ -27,12 +26,12 @@ Writes old at bytes (Err OutOfMemory) new = (maps old at (length bytes) ≡ true
 abbrev pub Stores : Memory → ℕ → ℕ → ℕ → Result ⊤ StoreRefusal → Memory → Type 0
 Stores old at count value result new = Writes old at (bytes_of count value) result new
 
--- they are written, where the answer is true; else nothing is
+-- the low bytes of a number are written if the result is true; otherwise nothing changes
 abbrev pub StoresNear : Memory → ℕ → ℕ → ℕ → Bool → Memory → Type 0
 StoresNear old at count value true new = (maps old at (length (bytes_of count value)) ≡ true) × (new ≡ with_bytes old at (bytes_of count value))
 StoresNear old at count value false new = new ≡ old
 
--- the first mapped page that holds or follows an address, and the mapped pages in a row from it on
+-- the first mapped page that holds or follows an address, and the consecutive mapped pages from it on
 pub record IsRun (m : Memory) (at first pages : ℕ) : Type 0 where
   pub aligned : first % 4096 ≡ 0
   pub from : at / 4096 * 4096 ≤ first
@@ -42,7 +41,7 @@ pub record IsRun (m : Memory) (at first pages : ℕ) : Type 0 where
   pub before : (address : ℕ) → at / 4096 * 4096 ≤ address → address < first → get m address ≡ None
   pub low : first + 4096 * pages ≤ 2 ^ 38
 
--- the first run of mapped pages from the page of an address on, or none where no mapped byte is left
+-- the first run of mapped pages from the page of an address on, or none if no mapped byte follows
 abbrev pub RunsFrom : Memory → ℕ → Option (ℕ × ℕ) → Type 0
 RunsFrom m at None = (address : ℕ) → at / 4096 * 4096 ≤ address → get m address ≡ None
 RunsFrom m at (Some run) = IsRun m at run.0 run.1

@@ -67,7 +67,7 @@ fn number_from(entries: &[Entry], start: usize, width: Width) -> u64
     }
 }
 
-/// The number at an address, found by a search among all pages.
+/// The number at an address, found by a search among all pages; `None` if a byte of it is unmapped.
 #[cold]
 #[inline(never)]
 fn load_anywhere(pages: &[u64], entries: &[Entry], at: u64, width: Width) -> Option<u64>
@@ -81,7 +81,7 @@ fn load_anywhere(pages: &[u64], entries: &[Entry], at: u64, width: Width) -> Opt
     }
 }
 
-/// The number at an address that lies within a page of one of the rows.
+/// The number at an address, if its bytes lie in one page of one of the rows; otherwise `None`.
 #[inline(always)]
 pub fn load_near(
     _pages: &[u64],
@@ -104,8 +104,8 @@ pub fn load_near(
     None
 }
 
-/// The four bytes at a multiple of 4, where their page lies in one of the rows and holds bytes. That page is remembered in `code`, so that
-/// the next fetch from it looks for no entry.
+/// The four bytes at a multiple of 4, if their page is in one of the rows and has stored bytes. `code` remembers that
+/// page: the next fetch from it looks up no entry.
 #[inline(always)]
 pub fn fetch_near(
     _pages: &[u64],
@@ -128,7 +128,7 @@ pub fn fetch_near(
     word_in(_pages, entries, *code, at)
 }
 
-/// The page of an address, where it lies in one of the rows and holds bytes; no page else.
+/// The page of an address, if it is in one of the rows and has stored bytes; otherwise a row of no pages.
 #[inline(always)]
 fn held_page(_pages: &[u64], entries: &[Entry], rows: &Rows, at: u64) -> PageRow
     requires pages { ArePages _pages.now entries.now }
@@ -145,7 +145,7 @@ fn held_page(_pages: &[u64], entries: &[Entry], rows: &Rows, at: u64) -> PageRow
     }
 }
 
-/// The four bytes at a multiple of 4, where they lie on this page, which holds bytes.
+/// The four bytes at a multiple of 4, if they lie on this page, which has stored bytes.
 #[inline(always)]
 fn word_in(_pages: &[u64], entries: &[Entry], page: PageRow, at: u64) -> Option<u64>
     requires pages { ArePages _pages.now entries.now }
@@ -161,7 +161,7 @@ fn word_in(_pages: &[u64], entries: &[Entry], page: PageRow, at: u64) -> Option<
     None
 }
 
-/// The number at an address; none where a byte of it is unmapped.
+/// The number at an address; `None` if a byte of it is unmapped.
 #[inline(always)]
 pub fn load_at(pages: &[u64], entries: &[Entry], rows: &Rows, at: u64, width: Width) -> Option<u64>
     requires pages { ArePages pages.now entries.now }
@@ -175,7 +175,8 @@ pub fn load_at(pages: &[u64], entries: &[Entry], rows: &Rows, at: u64, width: Wi
     }
 }
 
-/// Where the bytes of `count` addresses from `at` on begin, if all of them are on these pages. On one page of a row they are found at once.
+/// The index where the bytes of `count` addresses from `at` on begin, if all of them are on these pages. On one page of
+/// a row, no search is needed.
 #[inline(always)]
 fn start_of(pages: &[u64], rows: &Rows, at: u64, count: u64) -> Option<usize>
     requires rising { Rises pages.now }
@@ -193,7 +194,7 @@ fn start_of(pages: &[u64], rows: &Rows, at: u64, count: u64) -> Option<usize>
     span(pages, at, count)
 }
 
-/// Fills `out` from an address on; `false`, with `out` as it was, where a byte is unmapped.
+/// Fills `out` from an address on. If a byte is unmapped: returns `false`, and `out` is unchanged.
 pub fn read_at(pages: &[u64], entries: &[Entry], rows: &Rows, at: u64, out: &mut [u8]) -> bool
     requires pages { ArePages pages.now entries.now }
     requires rows { AreRowsOf pages.now rows.now }
@@ -209,7 +210,7 @@ pub fn read_at(pages: &[u64], entries: &[Entry], rows: &Rows, at: u64, out: &mut
     }
 }
 
-/// Writes bytes from an address on, all or none. The memory of all pages that it touches is taken before.
+/// Writes bytes from an address on, all or none. Allocates the memory of all pages concerned before it writes.
 pub fn write_at(
     alloc: Global,
     pages: &[u64],
@@ -246,7 +247,7 @@ pub fn write_at(
     }
 }
 
-/// Stores the low bytes of a number at an address that lies within a page of one of the rows, where that page holds its bytes.
+/// Stores the low bytes of a number, if the access lies in one page of one of the rows and that page has stored bytes.
 #[inline(always)]
 pub fn store_near(
     _pages: &[u64],
@@ -278,7 +279,7 @@ pub fn store_near(
     false
 }
 
-/// The page at an address: unmapped, zero where it holds no bytes, or its bytes.
+/// The page at an address: unmapped, zero if it has no stored bytes, or its bytes.
 pub fn page_at<'a>(pages: &[u64], entries: &'a [Entry], first: u64) -> PageView<'a>
     requires pages { ArePages pages.now entries.now }
     requires aligned { first % 4096 ≡ 0 }

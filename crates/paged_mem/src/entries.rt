@@ -1,4 +1,4 @@
-//! The entries of pages: reading and writing over several of them.
+//! Entries of pages: reads and writes that span several pages.
 
 ghost use Rattle.std.specs.Prelude.{◌≡◌, ℕ, ◌+◌, ◌-◌, ◌*◌, ◌%◌, ◌^◌, ◌<◌, ◌≤◌, length, take, drop, is_some, IsSome, OnOk, OnErr, None, List, slice_index, slice_index_or};
 ghost use Rattle.paged_mem.specs.Inside.Entries.{AreFull, page_content, flat, held_pages};
@@ -12,7 +12,7 @@ use ddc_base::OutOfMemory;
 use std::alloc::{AllocFailed, Global};
 use std::cmp;
 
-/// A mapped page's 4,096 bytes, or nothing where all of them are zero since the page was mapped.
+/// A mapped page's 4,096 bytes, or `None` if all of them have been zero since the page was mapped.
 pub type Entry = Option<Box<[u8; PAGE_LEN]>>;
 
 /// The little-endian number of an access that lies within a page.
@@ -27,7 +27,7 @@ pub fn number_in(entry: &Entry, low: usize, width: Width) -> u64
     }
 }
 
-/// The same, of a page that holds its bytes.
+/// The little-endian number of an access that lies within a page with stored bytes.
 #[inline(always)]
 pub fn number_held(entry: &Entry, low: usize, width: Width) -> u64
     requires held { IsSome entry.now }
@@ -62,7 +62,7 @@ fn fill_from(entry: &Entry, low: usize, out: &mut [u8])
     }
 }
 
-/// Writes over the bytes of a page that holds its bytes, from an index on.
+/// Overwrites bytes from an index on in a page that has stored bytes.
 pub fn put_into(entry: &mut Entry, low: usize, source: &[u8])
     requires held { IsSome entry.old }
     requires within { low + length source.now ≤ 4096 }
@@ -76,7 +76,7 @@ pub fn put_into(entry: &mut Entry, low: usize, source: &[u8])
     }
 }
 
-/// How many of `left` bytes from an index on lie on its page.
+/// How many of the `left` bytes from an index on lie on the page of that index.
 fn piece(at: usize, left: usize) -> usize
     ensures few { result ≤ left }
     ensures within { at % 4096 + result ≤ 4096 }
@@ -105,7 +105,7 @@ pub fn read(entries: &[Entry], start: usize, out: &mut [u8])
     }
 }
 
-/// Writes over the bytes of these pages from an index on, where each page that is touched holds its bytes.
+/// Overwrites the bytes of these pages from an index on. Each page concerned has stored bytes.
 pub fn write(entries: &mut [Entry], start: usize, source: &[u8])
     requires full { AreFull entries.old }
     requires within { start + length source.now ≤ 4096 * length entries.old }
@@ -129,7 +129,7 @@ pub fn write(entries: &mut [Entry], start: usize, source: &[u8])
     }
 }
 
-/// Takes the memory of a page that holds no bytes yet, zero bytes at first.
+/// Allocates the bytes of a page that has none stored yet; they are zero at first.
 fn hold(alloc: Global, entry: &mut Entry) -> Result<(), OutOfMemory>
     requires { length (page_content entry.old) ≡ 4096 }
     ensures bytes { page_content entry.new ≡ page_content entry.old }
@@ -150,7 +150,7 @@ fn hold(alloc: Global, entry: &mut Entry) -> Result<(), OutOfMemory>
     }
 }
 
-/// Takes the memory of each of these pages that holds no bytes yet, zero bytes at first.
+/// Allocates the bytes of each of these pages that has none stored yet; they are zero at first.
 pub fn take_memory(
     alloc: Global,
     entries: &mut [Entry],
@@ -175,7 +175,7 @@ pub fn take_memory(
     Ok(())
 }
 
-/// How many of these entries hold bytes.
+/// How many of these entries have stored bytes.
 pub fn count_held(entries: &[Entry]) -> u64
     requires { length entries.now < 2 ^ 64 }
     ensures { (pages : List ℕ) → length pages ≡ length entries.now → result ≡ length (held_pages pages entries.now) }

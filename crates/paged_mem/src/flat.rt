@@ -13,8 +13,8 @@ use std::marker::Model;
 
 /// A guest's memory in one vector: the mapped page numbers, ascending, and the bytes of all those pages in that order.
 ///
-/// A look-up is a binary search on page numbers, after a guess each for pages in a row from the first one on, as a program's are, and up
-/// to the last one, as the stack's are.
+/// A lookup first guesses that the page is in the row from the first page on (a program's), or in the row up to the
+/// last page (the stack's). If neither is true, it searches the page numbers by halves.
 #[derive(Drop)]
 pub struct FlatRam {
     pages: Vec<u64>,

@@ -5,7 +5,7 @@ ghost use Rattle.std.specs.List.{range_with_len};
 use crate::entries::Entry;
 use std::alloc::AllocError;
 
-/// Makes room for `count` more elements before the one at `at`, each `value` at first.
+/// Inserts `count` elements before the one at `at`, each equal to `value`.
 pub fn open_gap<T: Copy>(
     list: &mut Vec<T>,
     at: usize,
@@ -23,7 +23,7 @@ pub fn open_gap<T: Copy>(
     Ok(())
 }
 
-/// Takes away `count` elements from the one at `at` on.
+/// Removes `count` elements from the one at `at` on.
 pub fn close_gap<T: Drop>(list: &mut Vec<T>, at: usize, count: usize)
     requires { at + count ≤ vec_len list.old }
     ensures { list.new.items ≡ take at list.old.items ++ drop (at + count) list.old.items }
@@ -33,7 +33,7 @@ pub fn close_gap<T: Drop>(list: &mut Vec<T>, at: usize, count: usize)
     list.truncate(len - count);
 }
 
-/// Makes room for `count` page numbers before the one at `at`: those in a row from `number` on.
+/// Inserts `count` consecutive page numbers from `number` on before the one at `at`.
 pub fn insert_numbers(
     pages: &mut Vec<u64>,
     at: usize,
@@ -53,7 +53,7 @@ pub fn insert_numbers(
     Ok(())
 }
 
-/// Adds `count` entries of pages that hold no bytes.
+/// Appends `count` entries of pages without stored bytes.
 fn add_entries(entries: &mut Vec<Entry>, count: usize) -> Result<(), AllocError>
     ensures ok { OnOk result (entries.new.items ≡ entries.old.items ++ replicate count None) }
     ensures err { OnErr result (entries.new.items ≡ entries.old.items) }
@@ -68,7 +68,7 @@ fn add_entries(entries: &mut Vec<Entry>, count: usize) -> Result<(), AllocError>
     Ok(())
 }
 
-/// Makes room for `count` entries before the one at `at`, each of a page that holds no bytes.
+/// Inserts `count` entries of pages without stored bytes before the one at `at`.
 pub fn open_entries(entries: &mut Vec<Entry>, at: usize, count: usize) -> Result<(), AllocError>
     requires { at ≤ vec_len entries.old }
     ensures ok { OnOk result (entries.new.items ≡ take at entries.old.items ++ (replicate count None ++ drop at entries.old.items)) }

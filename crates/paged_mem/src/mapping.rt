@@ -10,7 +10,7 @@ use crate::{PAGE, PAGE_LEN};
 use ddc_base::OutOfMemory;
 use std::alloc::AllocError;
 
-/// Puts `count` pages of zeros where none is, from the page at `first` on.
+/// Maps `count` pages of zeros, none of them mapped before, from the page at `first` on.
 pub fn map_pages(
     pages: &mut Vec<u64>,
     bytes: &mut Vec<u8>,
@@ -37,7 +37,7 @@ pub fn map_pages(
     }
 }
 
-/// Takes away `count` mapped pages from the page at `first` on.
+/// Unmaps `count` mapped pages from the page at `first` on.
 pub fn unmap_pages(pages: &mut Vec<u64>, bytes: &mut Vec<u8>, first: u64, count: usize)
     requires sound { AreFlatPages pages.old.items bytes.old.items }
     requires aligned { first % 4096 ≡ 0 }
@@ -51,7 +51,7 @@ pub fn unmap_pages(pages: &mut Vec<u64>, bytes: &mut Vec<u8>, first: u64, count:
     close_gap(bytes, PAGE_LEN * at, PAGE_LEN * count);
 }
 
-/// Puts `count` pages that hold no bytes where none is, from the page at `first` on.
+/// Maps `count` pages without stored bytes, none of them mapped before, from the page at `first` on.
 pub fn map_entries(
     pages: &mut Vec<u64>,
     entries: &mut Vec<Entry>,
@@ -79,7 +79,7 @@ pub fn map_entries(
     }
 }
 
-/// Takes away `count` mapped pages from the page at `first` on, with what they hold.
+/// Unmaps `count` mapped pages from the page at `first` on, and frees their bytes.
 pub fn unmap_entries(pages: &mut Vec<u64>, entries: &mut Vec<Entry>, first: u64, count: usize)
     requires pages { ArePages pages.old.items entries.old.items }
     requires aligned { first % 4096 ≡ 0 }

@@ -17,12 +17,12 @@ use ddc_base::OutOfMemory;
 use std::alloc::Global;
 use std::marker::Model;
 
-/// A guest's memory that costs what is written: each mapped page has an entry, which holds the page's 4,096 bytes, or nothing as long as
-/// all of them are zero since the page was mapped.
+/// A guest's memory that allocates bytes only for pages that were written. Each mapped page has an entry: the page's
+/// 4,096 bytes, or nothing while all of them are zero since the page was mapped.
 ///
-/// An address in the row of pages from the first one on, in the row after it, or in the one up to the last one, is found at once, any other
-/// by a search. The page of the last fetch is remembered, where it holds bytes.
-/// Contracts see the map, and the numbers of the pages that are held.
+/// Three rows of pages need no search: the row from the first page on, the row after it, and the row up to the last page.
+/// Any other address is found by a search. The page of the last fetch is remembered if it has stored bytes.
+/// Contracts see the map, and the numbers of the pages with stored bytes.
 #[derive(Drop)]
 pub struct PagedRam {
     pages: Vec<u64>,
@@ -54,7 +54,7 @@ impl Model for PagedRam {
 }
 
 impl PagedRam {
-    /// How many mapped pages hold bytes: the others take no memory but their entry's.
+    /// How many mapped pages have stored bytes. The other pages use no memory but their entry's.
     pub fn held(&self) -> u64
         ensures { result ≡ length self.now.held }
     {
@@ -83,8 +83,8 @@ impl Ram for PagedRam {
         load_at(&self.pages, &self.entries, &self.rows, at, width)
     }
 
-    /// Takes the memory of each page that it touches and that holds no bytes yet, before it writes. Where that is wanting, no byte
-    /// has changed, and some of these pages may hold their zeros.
+    /// Before it writes, allocates the bytes of each page concerned that has none stored yet. Out of memory: no byte
+    /// has changed, and some of these pages may now have stored zeros.
     #[inline(always)]
     fn store(&mut self, at: u64, width: Width, value: u64) -> Result<(), StoreRefusal>
         ensures stores { Stores self.old.bytes at (count_of width) value result self.new.bytes }
@@ -104,7 +104,7 @@ impl Ram for PagedRam {
         load_near(&self.pages, &self.entries, &self.rows, at, width)
     }
 
-    /// Remembers the page, where it lies in one of the rows and holds bytes, so that the next fetch from it looks for no entry.
+    /// Remembers the page if it is in one of the rows and has stored bytes: the next fetch from it looks up no entry.
     #[inline(always)]
     fn fetch_near(&mut self, at: u64) -> Option<u64>
         requires { at % 4 ≡ 0 }
@@ -131,7 +131,7 @@ impl Ram for PagedRam {
         read_at(&self.pages, &self.entries, &self.rows, at, out)
     }
 
-    /// Takes the memory of each page that it touches and that holds no bytes yet, before it writes.
+    /// Before it writes, allocates the bytes of each page concerned that has none stored yet.
     fn write_from(&mut self, at: u64, source: &[u8]) -> Result<(), StoreRefusal>
         ensures writes { Writes self.old.bytes at source.now result self.new.bytes }
         ensures raises { length self.new.held ≤ length self.old.held + pages_touched at (length source.now) }

@@ -18,7 +18,7 @@ pub fn rank(pages: &[u64], number: u64) -> usize
     }
 }
 
-/// Which of the pages has this number. Pages in a row from the first one on, or up to the last one, are found at once.
+/// The index of the page with this number. Pages in a row from the first one on, or up to the last one, are found without a search.
 pub fn find(pages: &[u64], number: u64) -> Option<usize>
     requires { Rises pages.now }
     ensures { result ≡ place pages.now number }
@@ -50,7 +50,7 @@ fn is_at(pages: &[u64], index: usize, number: u64) -> bool
     index < pages.len() && pages[index] == number
 }
 
-/// Where the bytes of `count` addresses from `at` on begin, if all of them are on these pages.
+/// The index where the bytes of `count` addresses from `at` on begin, if all of them are on these pages.
 pub fn span(pages: &[u64], at: u64, count: u64) -> Option<usize>
     requires rising { Rises pages.now }
     requires low { AreLow pages.now }
@@ -74,7 +74,7 @@ pub fn span(pages: &[u64], at: u64, count: u64) -> Option<usize>
     }
 }
 
-/// Writes `source` in place of as many bytes from an index on.
+/// Overwrites as many bytes as `source` has, from an index on.
 pub fn put(bytes: &mut Vec<u8>, start: usize, source: &[u8])
     requires { start + length source.now ≤ vec_len bytes.old }
     ensures { bytes.new.items ≡ overwritten bytes.old.items start source.now }
@@ -87,7 +87,7 @@ pub fn put_number(bytes: &mut Vec<u8>, start: usize, width: Width, value: u64)
     requires { start + count_of width ≤ vec_len bytes.old }
     ensures { bytes.new.items ≡ overwritten bytes.old.items start (bytes_of (count_of width) value) }
 {
-    // Slices of a fixed length are written by one store.
+    // A slice of a fixed length is written by one store.
     let low = value.to_le_bytes();
     match width {
         Width::W1 => put(bytes, start, &low[..1]),
@@ -142,7 +142,7 @@ pub fn number(bytes: &[u8], start: usize, width: Width) -> u64
     }
 }
 
-/// The first page with this number or a later one, and how many pages there are in a row from it on.
+/// The first page with this number or a later one, and how many consecutive pages there are from it on.
 pub fn row_from(pages: &[u64], number: u64) -> Option<(u64, u64)>
     requires rising { Rises pages.now }
     requires low { AreLow pages.now }

@@ -16,7 +16,7 @@ pub enum Width {
 }
 
 impl Width {
-    /// How many bytes such an access has.
+    /// How many bytes an access of this width has.
     pub fn count(self) -> u64
         ensures { result ≡ count_of self }
     {
@@ -29,16 +29,16 @@ impl Width {
     }
 }
 
-/// Why a write was refused. `Unmapped` comes before want of memory.
+/// Why a write was refused. If both reasons hold, it is `Unmapped`.
 #[derive(Clone, Copy, PartialEq, Eq)]
 pub enum StoreRefusal {
     Unmapped,
     OutOfMemory,
 }
 
-/// What a page holds: nothing, 4,096 zero bytes, or the 4,096 bytes that are borrowed.
+/// The contents of a page: unmapped, 4,096 zero bytes, or the 4,096 bytes that are borrowed.
 ///
-/// `Zero` and `Full` both speak of a mapped page, and a page that is all zero may be shown either way.
+/// `Zero` and `Full` are both mapped pages. A page whose bytes are all zero may be shown either way.
 #[derive(Clone, Copy, PartialEq, Eq)]
 pub enum PageView<'a> {
     Unmapped,
@@ -46,56 +46,57 @@ pub enum PageView<'a> {
     Full(&'a [u8]),
 }
 
-/// A guest's memory, seen as the finite map from its mapped addresses to bytes.
+/// A guest's memory. Contracts see it as the finite map from its mapped addresses to bytes.
 ///
-/// The mapped addresses are whole pages of 4,096 bytes below 2^38. Alignment never matters, a number stands lowest
-/// byte first, and an address past 2^64 - 1 is unmapped: nothing wraps.
+/// The mapped addresses are whole pages of 4,096 bytes below 2^38. Any alignment is accepted, numbers are
+/// little-endian, and addresses do not wrap: an address past 2^64 - 1 is unmapped.
 pub trait Ram: Sized + Drop {
     ghost bytes: { Self → Memory };
 
-    /// Memory with nothing mapped. It takes no memory, and keeps the allocator.
+    /// Memory with nothing mapped. Keeps the allocator, and allocates nothing.
     fn empty(alloc: Global) -> Self
         ensures { bytes result ≡ map.empty };
 
-    /// The little-endian number at an address, zero-extended; `None` exactly where a byte of it is unmapped.
+    /// The little-endian number at an address, zero-extended; `None` exactly if a byte of it is unmapped.
     fn load(&self, at: u64, width: Width) -> Option<u64>
         ensures value { result ≡ reads (bytes self.now) at (count_of width) }
         ensures fits { IfSome result (λ value. value < 2 ^ (8 * count_of width)) };
 
-    /// Stores the low bytes of a number, little-endian; a refusal leaves the memory as it was.
+    /// Stores the low bytes of a number, little-endian. A refusal leaves the memory unchanged.
     fn store(&mut self, at: u64, width: Width, value: u64) -> Result<(), StoreRefusal>
         ensures { Stores (bytes self.old) at (count_of width) value result (bytes self.new) };
 
-    /// The number at an address where it is found without a search; `None` says nothing.
+    /// The number at an address, if it is found without a search. `None` does not say that a byte is unmapped.
     fn load_near(&self, at: u64, width: Width) -> Option<u64>
         ensures value { IfSome result (λ value. reads (bytes self.now) at (count_of width) ≡ Some value) }
         ensures fits { IfSome result (λ value. value < 2 ^ (8 * count_of width)) };
 
-    /// The four bytes at a multiple of 4, as `load_near` finds them; the memory may remember where it found them.
+    /// The four bytes at a multiple of 4, as `load_near` finds them. The memory may remember where it found them.
     fn fetch_near(&mut self, at: u64) -> Option<u64>
         requires { at % 4 ≡ 0 }
         ensures same { bytes self.new ≡ bytes self.old }
         ensures value { IfSome result (λ value. reads (bytes self.old) at 4 ≡ Some value) }
         ensures fits { IfSome result (λ value. value < 2 ^ 32) };
 
-    /// Stores as `store` does, and answers `true`, where that takes neither a search nor memory of the host; else nothing is stored.
+    /// Stores as `store` does and returns `true`, if that needs neither a search nor an allocation. Otherwise returns
+    /// `false` and stores nothing.
     fn store_near(&mut self, at: u64, width: Width, value: u64) -> bool
         ensures { StoresNear (bytes self.old) at (count_of width) value result (bytes self.new) };
 
-    /// Whether all `count` bytes from an address are mapped; no bytes are.
+    /// Whether all `count` bytes from an address on are mapped; `true` if `count` is 0.
     fn mapped(&self, at: u64, count: u64) -> bool
         ensures { result ≡ maps (bytes self.now) at count };
 
-    /// Fills `out` from an address on; `false`, with `out` as it was, exactly where a byte is unmapped.
+    /// Fills `out` from an address on. Returns `false` and leaves `out` unchanged exactly if a byte is unmapped.
     fn read_into(&self, at: u64, out: &mut [u8]) -> bool
         ensures answer { result ≡ maps (bytes self.now) at (length out.old) }
         ensures moved { out.new ≡ unwrap_or (bytes_at (bytes self.now) at (length out.old)) out.old };
 
-    /// Writes bytes from an address on, all or none; a refusal leaves the memory as it was.
+    /// Writes bytes from an address on, all or none. A refusal leaves the memory unchanged.
     fn write_from(&mut self, at: u64, source: &[u8]) -> Result<(), StoreRefusal>
         ensures { Writes (bytes self.old) at source.now result (bytes self.new) };
 
-    /// Maps `pages` pages from the page at `first` on, with zero bytes. Want of memory leaves the memory as it was.
+    /// Maps `pages` pages of zero bytes from the page at `first` on. Out of memory: the memory is unchanged.
     fn map_zero(&mut self, first: u64, pages: u64) -> Result<(), OutOfMemory>
         requires aligned { first % 4096 ≡ 0 }
         requires low { first + 4096 * pages ≤ 2 ^ 38 }
@@ -103,14 +104,14 @@ pub trait Ram: Sized + Drop {
         ensures ok { OnOk result (bytes self.new ≡ with_bytes (bytes self.old) first (zeros (4096 * pages))) }
         ensures err { OnErr result (bytes self.new ≡ bytes self.old) };
 
-    /// Takes away `pages` mapped pages from the page at `first` on. It takes no memory.
+    /// Unmaps `pages` mapped pages from the page at `first` on. Allocates nothing.
     fn unmap(&mut self, first: u64, pages: u64)
         requires aligned { first % 4096 ≡ 0 }
         requires present { IsTrue (maps (bytes self.old) first (4096 * pages)) }
         ensures { bytes self.new ≡ without (bytes self.old) first (4096 * pages) };
 
-    /// The address of the first page and the number of pages of the first maximal run of mapped pages that holds or
-    /// follows `at`, clipped to begin at the page of `at`; `None` where none does.
+    /// The first maximal run of mapped pages that holds or follows `at`: the address of its first page and its number of pages.
+    /// The run is clipped to begin at the page of `at`. `None` if there is no such run.
     fn run_from(&self, at: u64) -> Option<(u64, u64)>
         ensures { RunsFrom (bytes self.now) at result };
 

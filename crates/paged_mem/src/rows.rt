@@ -1,4 +1,4 @@
-//! Rows of pages, in which an address is found without a search.
+//! Rows of consecutive pages, in which an address is found without a search.
 
 ghost use Rattle.std.specs.Prelude.{◌≡◌, ℕ, ◌+◌, ◌/◌, ◌^◌, ◌<◌, IfSome, List, Some};
 ghost use Rattle.paged_mem.specs.Inside.Entries.{AreRowsOf, Entry, IsHeldPage, IsRowOf};
@@ -6,8 +6,8 @@ ghost use Rattle.paged_mem.specs.Inside.Flat.{AreLow, Rises, place};
 
 use crate::PAGE;
 
-/// Pages with numbers in a row: the address of the first one, how many bytes all of them have, and where the first one stands among the
-/// mapped pages.
+/// Pages with consecutive numbers: the address of the first one, the number of bytes of all of them, and the index of
+/// the first one among the mapped pages.
 #[derive(Clone, Copy, PartialEq, Eq)]
 pub struct PageRow {
     pub base: u64,
@@ -16,7 +16,7 @@ pub struct PageRow {
 }
 
 impl PageRow {
-    /// The row of no pages.
+    /// The row without pages.
     pub fn none() -> PageRow
         ensures held { (pages : List ℕ) (entries : List Entry) → IsHeldPage pages entries result }
         ensures start { result.index ≡ 0 }
@@ -29,7 +29,7 @@ impl PageRow {
     }
 }
 
-/// Where the page of an address stands among the mapped pages, if it lies in this row.
+/// The index of an address's page among the mapped pages, if it lies in this row.
 #[inline(always)]
 pub fn find_in(row: PageRow, at: u64) -> Option<usize>
     requires { row.index + row.size < 2 ^ 64 }
@@ -43,7 +43,7 @@ pub fn find_in(row: PageRow, at: u64) -> Option<usize>
     }
 }
 
-/// The pages in a row from the one at an index on; none where no page stands there.
+/// The consecutive pages from the one at an index on; the row without pages if there is no page at the index.
 pub fn row_at(pages: &[u64], start: usize) -> PageRow
     requires rising { Rises pages.now }
     requires low { AreLow pages.now }
@@ -71,7 +71,7 @@ pub fn row_at(pages: &[u64], start: usize) -> PageRow
     }
 }
 
-/// The pages in a row up to the last one.
+/// The consecutive pages up to the last one.
 pub fn last_row(pages: &[u64]) -> PageRow
     requires rising { Rises pages.now }
     requires low { AreLow pages.now }
@@ -98,8 +98,8 @@ pub fn last_row(pages: &[u64]) -> PageRow
     }
 }
 
-/// The row from the first page on, the row after it, and the one up to the last page: a program's, its data's where they lie apart, and its
-/// stack's.
+/// Three rows: from the first page on, the row after it, and up to the last page. These are usually a program's, its
+/// data's if they lie apart, and its stack's.
 #[derive(Clone, Copy)]
 pub struct Rows {
     pub first: PageRow,
@@ -108,7 +108,7 @@ pub struct Rows {
 }
 
 impl Rows {
-    /// The rows of no pages.
+    /// The rows of a memory without pages.
     pub fn none() -> Rows
         ensures { (pages : List ℕ) → AreRowsOf pages result }
     {
@@ -133,7 +133,7 @@ impl Rows {
         }
     }
 
-    /// Where the page of an address stands among the mapped pages, if it lies in one of the rows.
+    /// The index of an address's page among the mapped pages, if it lies in one of the rows.
     #[inline(always)]
     pub fn find(&self, at: u64) -> Option<usize>
         requires first { self.now.first.index + self.now.first.size < 2 ^ 64 }
@@ -141,7 +141,7 @@ impl Rows {
         requires last { self.now.last.index + self.now.last.size < 2 ^ 64 }
         ensures { (pages : List ℕ) → Rises pages → AreRowsOf pages self.now → IfSome result (λ index. place pages (at / 4096) ≡ Some index) }
     {
-        // The compiler knows this index, and adds none.
+        // The compiler knows this index, and adds nothing for it.
         let first = PageRow {
             index: 0,
             ..self.first

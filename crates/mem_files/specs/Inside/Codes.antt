@@ -1,4 +1,4 @@
--- How the prover stores a world: a crate above that stores one names it.
+-- How the prover stores a `World`. A crate that stores one names this.
 use Rattle.std.specs.Prelude.{ℕ, List, refl}
 use Rattle.std.specs.Ordering.{nat_cmp}
 use Rattle.std.specs.FinMap as map

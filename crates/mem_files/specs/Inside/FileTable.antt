@@ -1,4 +1,4 @@
--- The world that a table stands for, and what each table keeps.
+-- The `World` that a table represents, and the invariant of a table.
 use Rattle.std.specs.Prelude.{◌≡◌, ℕ, ◌+◌, ◌≤◌, Bool, false, IsTrue, Option, Some, None, is_some, slice_index_or, List, map, length, sum_by}
 use Rattle.std.specs.FinMap.{from_sorted, is_sorted, get, len}
 use Rattle.mem_files.specs.declared.open_file.OpenFile.{OpenFile}
@@ -49,11 +49,11 @@ world_of p = record {
   stream2 = p.stream2;
 }
 
--- each number is used whose cell is full, and no other
+-- exactly the numbers whose cell is full are used
 abbrev pub Uses : {X : Type 0} → List Bool → List (Option X) → Type 0
 Uses used cells = (number : ℕ) → slice_index_or used number false ≡ is_some (slice_index_or cells number None)
 
--- the cells of descriptors are few, and what is counted and used is right
+-- the cells of descriptors are few, and the counts and the used numbers are right
 pub record AreOpenFiles (open_files : List (Option OpenFile)) (used : List Bool) (count : ℕ) (open_counts : List ℕ) : Type 0 where
   pub few : length open_files ≤ most_descriptors
   pub enough : length used ≡ 1024
@@ -61,8 +61,8 @@ pub record AreOpenFiles (open_files : List (Option OpenFile)) (used : List Bool)
   pub counted : count ≡ len (map_of open_files)
   pub opens : (number : ℕ) → slice_index_or open_counts number 0 ≡ sum_by (opens_in number) open_files
 
--- the names are in order and short, the cells are few, what is counted and used is right, and a file holds the name under
--- which it is found
+-- the names are in order and short, the cells are few, the counts and the used numbers are right, and a file holds the
+-- name that leads to it
 pub record IsConsistent (p : Parts) : Type 0 where
   pub sorted : IsTrue (is_sorted bytes_cmp p.names)
   pub short : (name : List ℕ) (number : ℕ) → get (from_sorted {R = bytes_cmp} p.names) name ≡ Some number → length name ≤ most_name

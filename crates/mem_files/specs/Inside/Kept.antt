@@ -1,4 +1,4 @@
--- What every `Files` keeps, as its calls use it: the rules of specs/Sound.antt in one list, and bytes apart.
+-- The invariant of every `Files` in the form its calls use: the rules of specs/Sound.antt in one list, and bytes apart.
 use Rattle.std.specs.Prelude.{◌≡◌, ℕ, ◌+◌, ◌^◌, ◌<◌, ◌≤◌, ◌||◌, List, length, Some, IsSome, IsTrue}
 use Rattle.std.specs.FinMap as map
 use Rattle.mem_files.specs.declared.open_file.OpenFile.{OpenFile}
@@ -8,21 +8,21 @@ use Rattle.mem_files.specs.Names.{is_stripped_name}
 use Rattle.mem_files.specs.World.{World, total, is_named, is_open}
 use Rattle.mem_files.specs.Sound.{AreBytes}
 
--- the file that a descriptor stands for is there
+-- the file of a descriptor exists
 abbrev pub HasFile : World → OpenFile → Type 0
 HasFile w Input = Unit {0}
 HasFile w Stream1 = Unit {0}
 HasFile w Stream2 = Unit {0}
 HasFile w (File number file_offset access) = IsSome (map.get w.files number)
 
--- what stands at a descriptor: the input and the streams have their own, and an open file is there, with its file offset below 2^63
+-- what a descriptor may stand for: the input and the streams have fixed descriptors; an open file exists, with its file offset below 2^63
 abbrev pub IsHeldOpenFile : World → ℕ → OpenFile → Type 0
 IsHeldOpenFile w fd Input = fd ≡ 0
 IsHeldOpenFile w fd Stream1 = fd ≡ 1
 IsHeldOpenFile w fd Stream2 = fd ≡ 2
 IsHeldOpenFile w fd (File number file_offset access) = IsSome (map.get w.files number) × (file_offset < 2 ^ 63)
 
--- the limits are kept, and names, files and descriptors fit together
+-- the limits are kept, and names, files and descriptors agree
 pub record IsKept (w : World) : Type 0 where
   pub few_names : map.len w.names ≤ most_names
   pub few_open_files : map.len w.open_files ≤ most_descriptors

@@ -1,11 +1,11 @@
--- A world to which files are added one by one.
+-- A `World` to which files are added one by one.
 use Rattle.std.specs.Prelude.{ℕ, Option, None, Some, List}
 use Rattle.std.specs.FinMap as fin
 use Rattle.mem_files.specs.Names.{bytes_cmp}
 use Rattle.mem_files.specs.World.{World}
 use Rattle.mem_files.specs.Lists.{ListedFile}
 
--- a file more, under a number of its own
+-- one more file, under a number of its own
 abbrev pub with_title : fin.FinMap bytes_cmp ℕ → Option (List ℕ) → ℕ → fin.FinMap bytes_cmp ℕ
 with_title names None number = names
 with_title names (Some name) number = fin.insert names name number

@@ -5,7 +5,7 @@ use Rattle.std.specs.Prelude.{◌≡◌, ◌≢◌, ℕ, ◌+◌, ◌*◌, ◌^�
 abbrev pub mark : List Bool → ℕ → Bool
 mark full node = slice_index_or full node false
 
--- each node with nodes below it is marked where both of them are; one node aside
+-- each node with children is marked exactly if both children are; the node `but` is exempt
 abbrev pub IsRightBut : ℕ → List Bool → Type 0
 IsRightBut but full =
     (node : ℕ) → 1 ≤ node → 2 * node < length full → node ≢ but → mark full node ≡ (mark full (2 * node) && mark full (2 * node + 1))

@@ -8,7 +8,7 @@ use base.Stored.{coded_via}
 use Rattle.paged_mem.specs.Memory.{Memory, IsWhole}
 use Rattle.paged_mem.specs.Held.{Held, PagedMemory}
 
--- a memory in whole pages is one value, whatever shows that it is whole
+-- a memory in whole pages is one value: every proof that it is whole is the same
 IsWhole-prop : (m : Memory) → IsProp (IsWhole m)
 IsWhole-prop m = hlevel props
 

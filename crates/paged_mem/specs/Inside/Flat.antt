@@ -1,5 +1,5 @@
--- How a `FlatRam` keeps its memory; no promise rests on its being read. Page numbers rise, and the bytes of all those pages
--- stand in that order in one list.
+-- How a `FlatRam` keeps its memory. To read the promises, this file is not needed.
+-- Page numbers rise, and the bytes of all those pages are in one list, in that order.
 use Rattle.std.specs.Prelude.{◌≡◌, ◌≢◌, ℕ, zero, suc, ◌+◌, ◌*◌, ◌/◌, ◌%◌, ◌^◌, ◌<◌, ◌≤◌, Option, None, Some, if◌then◌else◌, ◌==◌, List, [], ◌∷◌, ◌++◌, length, take, drop, slice_index}
 use Rattle.std.specs.Option.{option_map}
 use Rattle.std.specs.FinMap.{empty}
@@ -10,12 +10,12 @@ unfoldable pub memory_of : List ℕ → List ℕ → Memory
 memory_of [] bytes = empty
 memory_of (page ∷ pages) bytes = with_bytes (memory_of pages (drop 4096 bytes)) (4096 * page) (take 4096 bytes)
 
--- which of the pages has this number
+-- the index of the page with this number
 unfoldable pub place : List ℕ → ℕ → Option ℕ
 place [] number = None
 place (page ∷ pages) number = if page == number then Some 0 else option_map (λ i. 1 + i) (place pages number)
 
--- where in the list of bytes the byte of an address stands
+-- the index of an address's byte in the list of bytes
 abbrev pub slot : List ℕ → ℕ → Option ℕ
 slot pages at = option_map (λ i. 4096 * i + at % 4096) (place pages (at / 4096))
 
@@ -34,13 +34,13 @@ pub record AreFlatPages (pages bytes : List ℕ) : Type 0 where
   pub full : length bytes ≡ 4096 * length pages
   pub small : (i : ℕ) → slice_index bytes i < 256
 
--- so many pages have a number below this one
+-- `rank` is how many pages have a number below this one
 pub record IsRank (pages : List ℕ) (number rank : ℕ) : Type 0 where
   pub within : rank ≤ length pages
   pub below : (k : ℕ) → k < rank → slice_index pages k < number
   pub above : (k : ℕ) → rank ≤ k → k < length pages → number ≤ slice_index pages k
 
--- the first page with a number or a later one, at its place, and so many pages in a row from it on
+-- the index and number of the first page with this number or a later one, and how many consecutive pages there are from it on
 pub record IsRowAt (pages : List ℕ) (number start first count : ℕ) : Type 0 where
   pub rank : IsRank pages number start
   pub some : 1 ≤ count
@@ -52,12 +52,12 @@ abbrev pub IsRow : List ℕ → ℕ → Option (ℕ × ℕ) → Type 0
 IsRow pages number None = IsRank pages number (length pages)
 IsRow pages number (Some row) = (start : ℕ) × IsRowAt pages number start row.0 row.1
 
--- the bytes of count addresses in a row stand in a row, or one of those addresses is on none of the pages
+-- the index where the bytes of count consecutive addresses begin in the list, or none if one of those addresses is on none of the pages
 abbrev pub Spans : List ℕ → ℕ → ℕ → Option ℕ → Type 0
 Spans pages at count (Some start) = (start + count ≤ 4096 * length pages) × ((k : ℕ) → k < count → slot pages (at + k) ≡ Some (start + k))
 Spans pages at count None = (k : ℕ) × (k < count) × (slot pages (at + k) ≡ None)
 
--- a list with these elements in place of as many from an index on
+-- a list in which these elements replace as many from an index on
 abbrev pub overwritten : List ℕ → ℕ → List ℕ → List ℕ
 overwritten bytes start source = take start bytes ++ (source ++ drop (start + length source) bytes)
 

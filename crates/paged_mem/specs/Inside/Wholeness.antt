@@ -1,4 +1,4 @@
--- That the pages of both representations are a whole memory: what the models rest on, which may not name proofs/.
+-- The pages of both representations are a whole memory. The models use this, and may not name proofs/.
 use Rattle.std.proofs.Common.{◌≡◌, ◌≢◌, ℕ, suc, ◌+◌, ◌-◌, ◌*◌, ◌/◌, ◌%◌, ◌<◌, ◌≤◌, cond, Option, None, Some, is_some, List, [], ◌∷◌, length, get_or, take, drop, refl, sym, ap, ◌∙◌, arith, ◌⊎◌, inl, inr, length-drop, length-take}
 use Rattle.std.proofs.Props.{props}
 use Rattle.std.specs.Option.{option_map}
