@@ -1,6 +1,6 @@
--- The fields of an ELF file that the loader reads, little-endian, at their offsets and of their widths in the 64-bit format.
--- Public source: System V Application Binary Interface (gABI), chapter 4 "Object Files", and chapter 5 "Program Loading and
--- Dynamic Linking". docs/reference/loader.md says the same for people.
+-- The fields of an ELF file that the loader reads: little-endian, at the offsets and of the widths of the 64-bit format.
+-- Public source: System V Application Binary Interface (gABI), chapter 4 "Object Files", and chapter 5 "Program Loading
+-- and Dynamic Linking". docs/reference/loader.md is the page for readers.
 use Rattle.std.specs.Prelude.{ℕ, zero, suc, ◌+◌, List, [], ◌∷◌, drop}
 use Rattle.byteorder.specs.Endian.{little_number}
 
@@ -54,7 +54,7 @@ p_filesz file header = field file (header + 32) 8
 abbrev pub p_memsz : List ℕ → ℕ → ℕ
 p_memsz file header = field file (header + 40) 8
 
--- the offsets of `count` program headers of 56 bytes each, of which the first begins at `first`
+-- the offsets of `count` program headers of 56 bytes each; the first one begins at `first`
 unfoldable pub offsets_from : ℕ → ℕ → List ℕ
 offsets_from first zero = []
 offsets_from first (suc count) = first ∷ offsets_from (first + 56) count

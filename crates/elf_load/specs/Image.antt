@@ -1,5 +1,5 @@
 -- The image of a file: its first refusal, or what is to be placed in memory.
--- docs/reference/loader.md says the same for people.
+-- docs/reference/loader.md is the page for readers.
 use Rattle.std.specs.Prelude.{◌≡◌, ◌≤◌, ◌<◌, ℕ, ◌+◌, ◌*◌, ◌%◌, ◌^◌, ◌==◌, Bool, ◌&&◌, ◌||◌, not, cond, nat_eq, nat_lt, List, [], ◌∷◌, ◌++◌, length, Option, Some, None, Result, Ok, Err, All, AllPairs, Any, sum_by, true}
 use Rattle.std.specs.List.{list_any, starts_with}
 use Rattle.elf_load.specs.declared.Segment.{Segment}
@@ -9,16 +9,16 @@ use Rattle.elf_load.specs.declared.refusal.ElfRefusal.TheVariants.{Short, Magic,
 use Rattle.elf_load.specs.Fields.{elf_magic, ei_class, ei_data, e_type, e_machine, e_entry, e_phoff, e_phentsize, e_phnum, headers}
 use Rattle.elf_load.specs.Segments.{is_interpreter, segments_of, is_out_of_range, paged_size, page_end, any_share, holds_address, break_after, IsPlaced, AreApart}
 
--- a rule: where its test is true, its refusal fits
+-- a rule: if its test is true, its refusal applies
 abbrev pub Rule : Type 0
 Rule = Bool × ElfRefusal
 
--- the refusal of the first rule that fits
+-- the refusal of the first rule that applies
 abbrev pub first_refusal : List Rule → Option ElfRefusal
 first_refusal [] = None
 first_refusal (rule ∷ rest) = cond rule.0 (Some rule.1) (first_refusal rest)
 
--- the file is ELF-64, little-endian, an executable for RISC-V, and holds its header table
+-- the file is ELF-64, little-endian, an executable for RISC-V, and contains its header table
 unfoldable pub header_rules : List ℕ → List Rule
 header_rules file =
     (nat_lt (length file) 64, Short)
@@ -29,7 +29,7 @@ header_rules file =
     ∷ (not (e_phentsize file == 56) || nat_lt (length file) (e_phoff file + 56 * e_phnum file), HeaderRange)
     ∷ []
 
--- it asks for no interpreter, and has 1 to 16 segments
+-- the file requests no interpreter, and has 1 to 16 segments
 unfoldable pub table_rules : List ℕ → List Rule
 table_rules file =
     (list_any (is_interpreter file) (headers file), Interpreter)
@@ -37,7 +37,7 @@ table_rules file =
     ∷ (nat_lt 16 (length (segments_of file)), TooMany)
     ∷ []
 
--- each segment is in range in a file of `size` bytes, all of them together are small, and no two share a page
+-- each segment is in range in a file of `size` bytes, all of them together are within the limit, and no two share a page
 unfoldable pub placing_rules : ℕ → List Segment → List Rule
 placing_rules size segments =
     (list_any (is_out_of_range size) segments || nat_lt 268435456 (sum_by paged_size segments), SegmentRange)
@@ -64,16 +64,16 @@ accepted_image file = record {
   first_break = break_after (segments_of file);
 }
 
--- the refusal, or else the image
+-- the refusal, or otherwise the image
 abbrev pub refused_or : Option ElfRefusal → Image → Result Image ElfRefusal
 refused_or (Some refusal) image = Err refusal
 refused_or None image = Ok image
 
--- the first refusal, or else entry, segments and first break
+-- the first refusal, or otherwise entry, segments and first break
 unfoldable pub image_of : List ℕ → Result Image ElfRefusal
 image_of file = refused_or (first_refusal (rules file)) (accepted_image file)
 
--- what every accepted image is, in a file of `size` bytes
+-- the properties of every accepted image of a file of `size` bytes
 pub record IsLoadable (size : ℕ) (image : Image) : Type 0 where
   pub some : 0 < length image.segments.items
   pub few : length image.segments.items ≤ 16

@@ -1,2 +1,2 @@
--- How the loader splits its checks: no promise rests on these files being read.
+-- How the loader splits its checks. To read the promises, these files are not needed.
 pub mod Checks

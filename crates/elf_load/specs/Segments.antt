@@ -1,16 +1,16 @@
--- Segments: what a file asks to be placed in memory, and where its pages lie.
--- docs/reference/loader.md says the same for people.
+-- Segments: what a file places in memory, and in which pages.
+-- docs/reference/loader.md is the page for readers.
 use Rattle.std.specs.Prelude.{◌≤◌, ◌<◌, ℕ, ◌+◌, ◌-◌, ◌*◌, ◌/◌, ◌^◌, ◌==◌, Bool, false, ◌&&◌, ◌||◌, not, nat_lt, nat_le, List, [], ◌∷◌, ◌⊎◌, max, map}
 use Rattle.std.specs.List.{filter, fold, list_any}
 use Rattle.paged_mem.specs.Memory.{page_up}
 use Rattle.elf_load.specs.declared.Segment.{Segment}
 use Rattle.elf_load.specs.Fields.{headers, p_type, p_offset, p_vaddr, p_filesz, p_memsz}
 
--- PT_INTERP: the program wants an interpreter
+-- PT_INTERP: the program requests an interpreter
 abbrev pub is_interpreter : List ℕ → ℕ → Bool
 is_interpreter file header = p_type file header == 3
 
--- PT_LOAD, where it takes memory at all
+-- PT_LOAD, if it takes memory at all
 abbrev pub is_load : List ℕ → ℕ → Bool
 is_load file header = p_type file header == 1 && not (p_memsz file header == 0)
 
@@ -23,7 +23,7 @@ segment_at file header = record {
   memory_size = p_memsz file header;
 }
 
--- the segments that those of the program headers describe that take memory
+-- the segments of those program headers that take memory
 unfoldable pub loads_among : List ℕ → List ℕ → List Segment
 loads_among file offsets = map (segment_at file) (filter (is_load file) offsets)
 
@@ -46,7 +46,7 @@ first_page segment = page_down segment.address
 unfoldable pub page_end : Segment → ℕ
 page_end segment = page_up (segment_end segment)
 
--- the bytes of its pages
+-- the number of bytes of the segment's pages
 abbrev pub paged_size : Segment → ℕ
 paged_size segment = page_end segment - first_page segment
 
@@ -61,7 +61,7 @@ is_out_of_range size segment =
 abbrev pub share_page : Segment → Segment → Bool
 share_page one other = nat_lt (first_page one) (page_end other) && nat_lt (first_page other) (page_end one)
 
--- some two of the segments do
+-- some two of the segments share a page
 abbrev pub any_share : List Segment → Bool
 any_share [] = false
 any_share (segment ∷ rest) = list_any (share_page segment) rest || any_share rest
@@ -70,17 +70,17 @@ any_share (segment ∷ rest) = list_any (share_page segment) rest || any_share r
 abbrev pub holds_address : ℕ → Segment → Bool
 holds_address address segment = nat_le segment.address address && nat_lt address (segment_end segment)
 
--- where the last of the segments ends, whole pages: the first byte of the heap
+-- the end of the last segment, rounded up to whole pages: the first byte of the heap
 abbrev pub break_after : List Segment → ℕ
 break_after segments = page_up (fold (λ most segment. max most (segment_end segment)) 0 segments)
 
--- the segment's bytes stand in a file of `size` bytes, and its pages below 2^37
+-- the segment's bytes are in a file of `size` bytes, and its pages are below 2^37
 pub record IsPlaced (size : ℕ) (segment : Segment) : Type 0 where
   pub is_there : 0 < segment.memory_size
   pub file_size : segment.file_size ≤ segment.memory_size
   pub in_range : segment.offset + segment.file_size ≤ size
   pub low : page_end segment ≤ 2 ^ 37
 
--- the pages of one lie below those of the other
+-- all pages of one are below those of the other
 abbrev pub AreApart : Segment → Segment → Type 0
 AreApart one other = (page_end one ≤ first_page other) ⊎ (page_end other ≤ first_page one)

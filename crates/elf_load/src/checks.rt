@@ -1,4 +1,4 @@
-//! The checks of the header, of where the segments lie, and of the entry.
+//! Checks the header, the positions of the segments, and the entry.
 
 ghost use Rattle.elf_load.specs.Fields.{e_phoff, e_phnum};
 ghost use Rattle.elf_load.specs.Image.{header_rules, placing_rules, entry_rules};
@@ -11,17 +11,17 @@ ghost use Rattle.std.specs.Prelude.{◌≡◌, ◌+◌, ◌*◌, ◌^◌, ◌<�
 use super::{ElfRefusal, Segment, fields};
 use paged_mem::PAGE;
 
-/// Every segment's pages end here or below.
+/// The highest address at which a segment's pages may end.
 const HIGHEST: u64 = 1 << 37;
-/// The pages of all segments take at most these bytes together.
+/// The most bytes that the pages of all segments take together.
 const MOST_TOGETHER: u64 = 268_435_456;
 
-/// RISC-V and an executable file, by the ELF standard's numbers.
+/// RISC-V and an executable file, in the numbers of the ELF standard.
 const RISC_V: u16 = 243;
 
 const EXECUTABLE: u16 = 2;
 
-/// Whether the file is an ELF-64 executable for RISC-V that holds its header table.
+/// Checks that the file is an ELF-64 executable for RISC-V and contains its header table.
 #[tactic(auto, unfolding(crate::specs::Image::header_rules))]
 pub(crate) fn check_header(file: &[u8]) -> Result<(), ElfRefusal>
     ensures judged { Judges (header_rules file.now) result }
@@ -60,8 +60,7 @@ fn holds_table(file: &[u8]) -> bool
     first <= size && table <= size - first
 }
 
-/// Whether the segments lie in a file of `size` bytes and below the highest page, and each has its
-/// pages alone.
+/// Checks that the segments lie in a file of `size` bytes and below the highest page, and that no two share a page.
 #[tactic(auto, unfolding(crate::specs::Image::placing_rules), using(crate::proofs::Pages::all_low))]
 pub(crate) fn check_placing(segments: &[Segment], size: u64) -> Result<(), ElfRefusal>
     requires { length segments.now ≤ 16 }
@@ -100,7 +99,7 @@ fn is_out_of_range(segment: &Segment, size: u64) -> bool
         || segment.address > HIGHEST - segment.memory_size
 }
 
-/// The bytes of the segments' pages together.
+/// The number of bytes of all the segments' pages.
 fn pages_together(segments: &[Segment]) -> u64
     requires few { length segments.now ≤ 16 }
     requires low { All IsLow segments.now }
@@ -113,7 +112,7 @@ fn pages_together(segments: &[Segment]) -> u64
     together
 }
 
-/// The bytes of the segment's pages.
+/// The number of bytes of the segment's pages.
 #[tactic(auto, using(crate::proofs::Pages::first_below_end, crate::proofs::Pages::page_end_low))]
 fn paged_size(segment: &Segment) -> u64
     requires { IsLow segment.now }
@@ -168,7 +167,7 @@ fn page_end(segment: &Segment) -> u64
     page_up(segment.address + segment.memory_size)
 }
 
-/// Refuses an entry that is no multiple of 4, or in no segment.
+/// Refuses an entry that is not a multiple of 4 or is in no segment.
 #[tactic(auto, unfolding(crate::specs::Image::entry_rules))]
 pub(crate) fn check_entry(entry: u64, segments: &[Segment]) -> Result<(), ElfRefusal>
     ensures { Judges (entry_rules entry segments.now) result }
@@ -210,7 +209,7 @@ pub(crate) fn break_after(segments: &[Segment]) -> u64
     page_up(end)
 }
 
-/// The first multiple of a page's bytes that is not below `address`.
+/// The first multiple of the page size that is not below `address`.
 fn page_up(address: u64) -> u64
     requires { address ≤ 2 ^ 37 }
     ensures { result ≡ page_up address }

@@ -1,4 +1,4 @@
-//! The loader: what an ELF file asks to be placed in memory, and where its program begins.
+//! The loader: the parts of an ELF file to place in memory, and where its program begins.
 //!
 //! The rules, with their public sources, are in docs/reference/loader.md.
 #![tactic(auto)]
@@ -16,20 +16,20 @@ mod table;
 
 pub use refusal::ElfRefusal;
 
-/// A part of a file that is to stand in memory: PT_LOAD of the ELF standard.
+/// A part of a file to be placed in memory: PT_LOAD of the ELF standard.
 #[derive(Clone, Copy, PartialEq, Eq, Default)]
 pub struct Segment {
     /// The address of its first byte (p_vaddr).
     pub address: u64,
     /// The offset of its first byte in the file (p_offset).
     pub offset: u64,
-    /// How many bytes the file holds (p_filesz); zeros follow them in memory.
+    /// How many bytes the file holds (p_filesz). Zeros follow them in memory.
     pub file_size: u64,
     /// How many bytes it takes in memory (p_memsz).
     pub memory_size: u64,
 }
 
-/// What an accepted file asks for.
+/// What an accepted file requires: its segments, its entry and its first break.
 #[derive(Drop)]
 pub struct Image {
     /// The address of the first instruction, a multiple of 4 within a segment.
@@ -42,13 +42,13 @@ pub struct Image {
 
 /// Reads a static ELF-64 program for RISC-V.
 ///
-/// Answers the first refusal that fits, in the order of [`ElfRefusal`]'s variants; else the entry,
-/// the segments and the first break. Takes no memory.
+/// Returns the first refusal that applies, in the order of [`ElfRefusal`]'s variants; otherwise the entry, the segments
+/// and the first break. Allocates nothing.
 ///
 /// Public source: System V ABI (gABI), "Object Files" and "Program Loading and Dynamic Linking".
 pub fn read_image(file: &[u8]) -> Result<Image, ElfRefusal>
     ensures value { result ≡ image_of file.now }
-    // What the layer above relies on.
+    // The properties that the crates above use.
     ensures sound { IfOk result (IsLoadable (length file.now)) }
 {
     checks::check_header(file)?;

@@ -1,4 +1,4 @@
-//! The header table: the segments that it lists, in order.
+//! Reads the header table: the segments that it lists, in order.
 
 ghost use Rattle.elf_load.specs.Fields.{headers, e_phoff, e_phnum};
 ghost use Rattle.elf_load.specs.Image.{table_rules};
@@ -15,7 +15,7 @@ const LOAD: u32 = 1;
 
 const INTERPRETER: u32 = 3;
 
-/// The segments of a file that holds its header table, or the first refusal for that table.
+/// The segments of a file that contains its header table, or the first refusal for that table.
 #[tactic(auto, unfolding(crate::specs::Image::table_rules))]
 pub(crate) fn read_segments(file: &[u8]) -> Result<ArrayVec<Segment, 16>, ElfRefusal>
     requires { HoldsTable file.now }
@@ -32,7 +32,7 @@ pub(crate) fn read_segments(file: &[u8]) -> Result<ArrayVec<Segment, 16>, ElfRef
     Ok(segments)
 }
 
-/// Whether a program header asks for an interpreter.
+/// Whether a program header requests an interpreter.
 #[tactic(auto, using(crate::proofs::Tables::interpreter_here, crate::proofs::Tables::interpreter_later, crate::proofs::Tables::ends_of_headers))]
 fn has_interpreter(file: &[u8]) -> bool
     requires { HoldsTable file.now }
@@ -46,7 +46,7 @@ fn has_interpreter(file: &[u8]) -> bool
     false
 }
 
-/// The segments of the program headers that take memory, where they are at most 16.
+/// The segments of the program headers that take memory, if there are at most 16.
 #[tactic(auto, using(crate::proofs::Tables::steps_of_loads))]
 fn loads(file: &[u8]) -> Result<ArrayVec<Segment, 16>, ElfRefusal>
     requires { HoldsTable file.now }
@@ -61,7 +61,7 @@ fn loads(file: &[u8]) -> Result<ArrayVec<Segment, 16>, ElfRefusal>
     Ok(segments)
 }
 
-/// Appends the segment of the program header at `header`, where that takes memory.
+/// Appends the segment of the program header at `header` if it takes memory.
 #[tactic(auto, using(crate::proofs::Tables::kinds_of_loads))]
 fn take_load(
     file: &[u8],

@@ -1,4 +1,4 @@
--- How an answer that may also be out of memory fits what is meant.
+-- How a result that may be out of memory fits the defined result.
 use Rattle.std.specs.Prelude.{◌≡◌, ℕ, ◌<◌, ◌⊎◌, Result, IsOk, IsOkAnd}
 use Rattle.paged_mem.specs.Memory.{page_up}
 use Rattle.linux_calls.specs.declared.CallEnd.{CallEnd}
@@ -6,7 +6,7 @@ use Rattle.linux_calls.specs.declared.CallEnd.TheVariants.{Back, Exit, Unknown, 
 use Rattle.linux_calls.specs.Linux.{sys_openat, sys_read, sys_write, sys_brk}
 use Rattle.linux_calls.specs.Calls.{CallState, CallOutcome, goes, exits, is_unknown, answer_of}
 
--- the calls that take memory of the host: one that opens a file, one that moves bytes, one that gives the heap pages
+-- the calls that may run out of memory: one that opens a file, one that copies bytes, one that adds pages to the heap
 abbrev pub TakesMemory : ℕ → CallState → Result ℕ ℕ → CallState → Type 0
 TakesMemory number old answer next =
     ((number ≡ sys_openat) × IsOk answer)
@@ -14,8 +14,7 @@ TakesMemory number old answer next =
     ⊎ (((number ≡ sys_write) × IsOkAnd answer (λ count. 0 < count))
     ⊎ ((number ≡ sys_brk) × (page_up old.heap.now < page_up next.heap.now))))
 
--- the answer and the state after it are those that are meant; or memory was out, in a call that takes memory, and the
--- state is as before
+-- the result and the state after it are the defined ones; or memory ran out in a call that takes memory, and the state is unchanged
 abbrev pub IsAnswer : ℕ → CallState → CallState → CallOutcome → CallEnd → Type 0
 IsAnswer number old new (goes answer next) (Back value) = (value ≡ answer_of answer) × (new ≡ next)
 IsAnswer number old new (goes answer next) OutOfMemory = TakesMemory number old answer next × (new ≡ old)

@@ -1,5 +1,6 @@
--- The call table: what each call answers, and the memory, files and heap after it, by the first rule that fits
--- (docs/reference/calls.md, "The table"). An error changes nothing.
+-- The call table: what each call returns, and the memory, files and heap after it. The first rule that applies decides
+-- (docs/reference/calls.md, "The table").
+-- An error changes nothing.
 use Rattle.std.specs.Prelude.{ℕ, ◌-◌, ◌%◌, ◌^◌, nat_le, not, ◌==◌, if◌then◌else◌, Result, Ok, Err, List, [], ◌∷◌, length, slice_index, bit_and}
 use Rattle.std.specs.Int.{cast_signed, w64}
 use Rattle.std.specs.FinMap.{get, contains_key}
@@ -22,32 +23,32 @@ pub record CallState : Type 0 where
 abbrev pub state : Memory → World → Heap → CallState
 state memory files heap = record { memory = memory; files = files; heap = heap }
 
--- what a call comes to: it goes back to the guest with a value or an error, ends the program, or is unknown
+-- the outcome of a call: it returns to the guest with a value or an error, ends the program, or is unknown
 pub data CallOutcome : Type 0 where
   goes : Result ℕ ℕ → CallState → CallOutcome
   exits : ℕ → CallOutcome
   is_unknown : ℕ → CallOutcome
 
--- what the guest gets: the value, or the number of the error, negated modulo 2 ^ 64
+-- what the guest gets: the value, or the error number negated modulo 2 ^ 64
 abbrev pub answer_of : Result ℕ ℕ → ℕ
 answer_of (Ok value) = value
 answer_of (Err errno) = (2 ^ 64 - errno) % 2 ^ 64
 
--- an answer for the guest, with the files after it
+-- a result for the guest, with the files after it
 abbrev pub back : CallState → Result ℕ ℕ × World → CallOutcome
 back s meant = goes meant.0 (record s { files = meant.1 })
 
--- a value with the state after it, or an error with the same state
+-- a value with the state after it, or an error with the unchanged state
 abbrev pub or_same_state : CallState → Result (ℕ × CallState) ℕ → CallOutcome
 or_same_state s (Ok (value, next)) = goes (Ok value) next
 or_same_state s (Err errno) = goes (Err errno) s
 
--- an answer that is `value` where there is no error
+-- a result that is `value` if there is no error
 abbrev pub answering : {A : Type 0} → ℕ → Result A ℕ × World → Result ℕ ℕ × World
 answering value (Ok done, files) = (Ok value, files)
 answering value (Err errno, files) = (Err errno, files)
 
--- what a call on the files comes to, or an error before it with the same files
+-- the result of a call on the files, or an earlier error with the unchanged files
 abbrev pub or_same_files : World → Result (Result ℕ ℕ × World) ℕ → Result ℕ ℕ × World
 or_same_files w (Ok meant) = meant
 or_same_files w (Err errno) = (Err errno, w)
@@ -65,14 +66,14 @@ accessed m w directory path mode = do
   error_unless enoent (contains_key w.names name)
   Ok 0
 
--- the mode is not kept
+-- the mode is not stored
 abbrev pub mode_changed : Memory → World → ℕ → ℕ → Result ℕ ℕ
 mode_changed m w directory path = do
   name ← name_in_directory m w directory path
   error_unless enoent (contains_key w.names name)
   Ok 0
 
--- the flags are looked at between the path and the directory
+-- the path is checked first, then the flags, then the directory
 abbrev pub opened_as : Memory → World → ℕ → ℕ → ℕ → Result ℕ ℕ × World
 opened_as m w directory path flags = or_same_files w do
   name ← name_at m path
@@ -80,7 +81,7 @@ opened_as m w directory path flags = or_same_files w do
   here ← in_directory w directory name
   Ok (opened w here (low flags))
 
--- the bytes that are ready are read, all or none
+-- the bytes that are ready are copied to memory, all or none
 abbrev pub read_at : CallState → ℕ → ℕ → ℕ → Result (ℕ × CallState) ℕ
 read_at s fd buffer count = do
   bytes ← ready s.files fd count
@@ -88,7 +89,7 @@ read_at s fd buffer count = do
     error_unless efault (maps s.memory buffer (length bytes))
     Ok (length bytes, record s { memory = with_bytes s.memory buffer bytes; files = skipped s.files fd (length bytes) }))
 
--- the bytes are written, all or none
+-- the bytes are copied from memory to the file, all or none
 abbrev pub written_at : Memory → World → ℕ → ℕ → ℕ → Result ℕ ℕ × World
 written_at m w fd buffer count = or_same_files w do
   place ← or_error ebadf (write_place w (get w.open_files fd))
@@ -96,19 +97,19 @@ written_at m w fd buffer count = or_same_files w do
     bytes ← or_error efault (bytes_at m buffer count)
     Ok (answering (length bytes) (written w fd bytes)))
 
--- brk answers the break after the call
+-- brk returns the break after the call
 abbrev pub moved_break : CallState → ℕ → CallOutcome
 moved_break s to = goes (Ok (break_heap s.heap to).now) (record s {
   memory = break_memory s.memory s.heap to;
   heap = break_heap s.heap to;
 })
 
--- what stands in the row of a number; a number without a row is unknown
+-- the outcome in the row of a number; a number without a row is unknown
 abbrev pub looked_up : ℕ → List (ℕ × CallOutcome) → CallOutcome
 looked_up number [] = is_unknown number
 looked_up number ((of, outcome) ∷ rows) = if number == of then outcome else looked_up number rows
 
--- the table
+-- the call table: the outcome of each call, by its number
 abbrev pub syscall : ℕ → List ℕ → CallState → CallOutcome
 syscall number arguments s =
     let a = slice_index arguments 0 in

@@ -3,7 +3,7 @@ use Rattle.std.specs.Prelude.{◌≡◌, ℕ, ◌+◌, ◌-◌, ◌/◌, ◌%◌
 use Rattle.paged_mem.specs.Memory.{Memory, maps, page_up, IsFree, with_bytes, without, zeros}
 use Rattle.linux_calls.specs.declared.Heap.{Heap}
 
--- the pages of the heap, up to the break, are mapped, and the rest of those that it may have is not
+-- the pages of the heap are mapped up to the break; the rest of the pages that it may have are not
 pub record IsHeapOf (m : Memory) (heap : Heap) : Type 0 where
   pub aligned : heap.first % 4096 ≡ 0
   pub small : heap.limit ≤ 2 ^ 30
@@ -13,19 +13,19 @@ pub record IsHeapOf (m : Memory) (heap : Heap) : Type 0 where
   pub mapped : maps m heap.first (page_up heap.now - heap.first) ≡ true
   pub free : IsFree m (page_up heap.now) (page_up (heap.first + heap.limit) - page_up heap.now)
 
--- the address is in none of the pages that the heap has or may have
+-- the address is outside all pages that the heap has or may have
 abbrev pub is_apart_from_heap : Heap → ℕ → Bool
 is_apart_from_heap heap address = nat_lt address heap.first || nat_le (page_up (heap.first + heap.limit)) address
 
--- the memory when the heap's pages end at `new` and no longer at `old`: pages that come read 0
+-- the memory when the heap's pages end at `new` instead of `old`: new pages read 0
 abbrev pub resized : Memory → ℕ → ℕ → Memory
 resized m old new = if nat_lt old new then with_bytes m old (zeros (new - old)) else without m new (old - new)
 
--- is this no break that the heap may have?
+-- is the address no valid break of this heap?
 abbrev pub is_outside : Heap → ℕ → Bool
 is_outside heap to = nat_lt to heap.first || nat_lt (heap.first + heap.limit) to
 
--- the heap and its memory after brk: another break is refused, and nothing changes
+-- the heap and its memory after brk: an invalid break is refused, and nothing changes
 abbrev pub break_heap : Heap → ℕ → Heap
 break_heap heap to = if is_outside heap to then heap else record heap { now = to }
 

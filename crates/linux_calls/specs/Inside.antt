@@ -1,2 +1,2 @@
--- How the code splits a call: no promise rests on these files being read.
+-- How the code splits a call. To read the promises, these files are not needed.
 pub mod Parts

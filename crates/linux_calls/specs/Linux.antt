@@ -1,4 +1,4 @@
--- Numbers of Linux's interface for programs that the call table uses, beside those of the files.
+-- Numbers of Linux's interface for programs that the call table uses, in addition to those of the files.
 use Rattle.std.specs.Prelude.{ℕ, ◌-◌, ◌^◌}
 
 -- error numbers: Linux, include/uapi/asm-generic/errno-base.h, and errno.h for the last
@@ -11,7 +11,7 @@ enotdir = 20
 abbrev pub enametoolong : ℕ
 enametoolong = 36
 
--- the working directory as a directory argument, -100 in 32 bits: Linux, include/uapi/linux/fcntl.h
+-- the directory argument that means the working directory, -100 in 32 bits: Linux, include/uapi/linux/fcntl.h
 abbrev pub at_fdcwd : ℕ
 at_fdcwd = 2 ^ 32 - 100
 

@@ -1,6 +1,6 @@
 //! The Linux calls that a guest may make, on its memory, its files and its heap.
 //!
-//! docs/reference/calls.md has the rules for a reader, and specs/Calls.antt the same for the prover.
+//! The rules are in docs/reference/calls.md for readers, and in specs/Calls.antt for the prover.
 #![tactic(auto)]
 
 pub mod laws;
@@ -19,8 +19,8 @@ pub struct CallRegs {
     pub a: [u64; 6],
 }
 
-/// What a call comes to: the value that the guest gets, the status it ends with, a number that is no call here, or want
-/// of memory of this process, which the guest doesn't see.
+/// The result of a call: a value for the guest, an exit status, the number of an unknown call, or this process is out
+/// of memory. The guest does not see the last one.
 #[derive(Clone, Copy, PartialEq, Eq)]
 pub enum CallEnd {
     Back(u64),
@@ -29,7 +29,7 @@ pub enum CallEnd {
     OutOfMemory,
 }
 
-/// The heap: the address where it begins, its break, and how many bytes it may have.
+/// The heap: the address where it begins, its break, and the most bytes that it may have.
 #[derive(Clone, Copy)]
 pub struct Heap {
     pub first: u64,
@@ -37,17 +37,17 @@ pub struct Heap {
     pub limit: u64,
 }
 
-/// An address that isn't mapped (Linux, asm-generic/errno-base.h, as ENOTDIR).
+/// An address that is not mapped (Linux, asm-generic/errno-base.h, as ENOTDIR).
 pub const EFAULT: u16 = 14;
 /// Not a directory.
 pub const ENOTDIR: u16 = 20;
 /// A path that is too long (Linux, asm-generic/errno.h).
 pub const ENAMETOOLONG: u16 = 36;
 
-/// The working directory as a directory argument, -100 in 32 bits (Linux, fcntl.h).
+/// The directory argument that means the working directory: -100 in 32 bits (Linux, fcntl.h).
 pub const AT_FDCWD: u32 = 0xffff_ff9c;
 
-/// Linux, asm-generic/unistd.h, as the other numbers.
+/// The number of unlinkat (Linux, asm-generic/unistd.h, as the other numbers).
 pub const SYS_UNLINKAT: u64 = 35;
 
 pub const SYS_FACCESSAT: u64 = 48;

@@ -9,7 +9,7 @@ use crate::path::{check_directory, low, read_path, read_path_in};
 use mem_files::{EINVAL, ENOENT, FileRefusal, Files, O_ACCMODE};
 use paged_mem::Ram;
 
-/// A value for the guest, or the negated number of an error.
+/// A result for the guest: the value, or the negated number of the error.
 pub fn back(answer: Result<u64, u16>) -> CallEnd
     ensures { result ≡ CallEnd.Back (answer_of answer) }
 {
@@ -51,7 +51,7 @@ pub fn faccessat<R: Ram>(ram: &R, files: &Files, dir: u64, at: u64, mode: u64) -
     Ok(0)
 }
 
-/// fchmodat(dir, path, mode): the mode isn't kept.
+/// fchmodat(dir, path, mode): the mode is not stored.
 pub fn fchmodat<R: Ram>(ram: &R, files: &Files, dir: u64, at: u64) -> Result<u64, u16>
     ensures { result ≡ mode_changed (R.bytes ram.now) files.now dir at }
 {
@@ -62,7 +62,7 @@ pub fn fchmodat<R: Ram>(ram: &R, files: &Files, dir: u64, at: u64) -> Result<u64
     Ok(0)
 }
 
-/// openat(dir, path, flags, mode): the flags are looked at between the path and the directory.
+/// openat(dir, path, flags, mode): checks the path, then the flags, then the directory.
 pub fn openat<R: Ram>(ram: &R, files: &mut Files, dir: u64, at: u64, flags: u64) -> CallEnd
     ensures { IsFilesAnswer files.old files.new (opened_as (R.bytes ram.now) files.old dir at flags) result }
 {

@@ -1,4 +1,4 @@
-//! Paths: how they are read, and the directory argument beside them.
+//! Reading paths and the directory argument that goes with them.
 
 ghost use Rattle.std.specs.Prelude.{◌≡◌, ◌%◌, MatchResult, IfOk, IsTrue, Ok, Err};
 ghost use Rattle.mem_files.specs.Names.{is_stripped_name};
@@ -16,7 +16,7 @@ pub fn low(register: u64) -> u32
     (register % 0x1_0000_0000) as u32
 }
 
-/// The text at an address, up to the zero byte that ends it within 256 bytes.
+/// The text at an address, without the zero byte that ends it, which must be among the first 256 bytes.
 fn read_text<R: Ram>(ram: &R, at: u64) -> Result<ArrayVec<u8, 256>, u16>
     ensures { MatchResult result
         (λ text. text_at (R.bytes ram.now) at 256 ≡ Ok text.items)
@@ -38,7 +38,7 @@ fn read_text<R: Ram>(ram: &R, at: u64) -> Result<ArrayVec<u8, 256>, u16>
     Err(ENAMETOOLONG)
 }
 
-/// The name of a file that the path at an address names: what `strip` leaves of it.
+/// The file name in the path at an address: the path after `strip`.
 pub fn read_path<R: Ram>(ram: &R, at: u64) -> Result<ArrayVec<u8, 256>, u16>
     ensures value { MatchResult result
         (λ name. name_at (R.bytes ram.now) at ≡ Ok name.items)
@@ -56,7 +56,7 @@ pub fn read_path<R: Ram>(ram: &R, at: u64) -> Result<ArrayVec<u8, 256>, u16>
     }
 }
 
-/// Whether the directory argument is right for a name.
+/// Whether the directory argument is valid for a name.
 pub fn check_directory(files: &Files, dir: u64, name: &[u8]) -> Result<(), u16>
     ensures { MatchResult result
         (λ _. in_directory files.now dir name.now ≡ Ok name.now)
@@ -71,7 +71,7 @@ pub fn check_directory(files: &Files, dir: u64, name: &[u8]) -> Result<(), u16>
     Err(EBADF)
 }
 
-/// The name that the path at an address names, with the right directory argument.
+/// The file name in the path at an address, if the directory argument is valid.
 pub fn read_path_in<R: Ram>(
     ram: &R,
     files: &Files,

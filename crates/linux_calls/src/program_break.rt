@@ -17,7 +17,7 @@ fn page_up(address: u64) -> u64
     address.next_multiple_of(PAGE)
 }
 
-/// Maps the pages from `old` to `new`, or takes away those from `new` to `old`.
+/// Maps the pages from `old` to `new`, or unmaps those from `new` to `old`.
 fn resize<R: Ram>(ram: &mut R, old: u64, new: u64) -> Result<(), OutOfMemory>
     requires aligned { old % 4096 ≡ 0 }
     requires aligned_too { new % 4096 ≡ 0 }
@@ -36,7 +36,7 @@ fn resize<R: Ram>(ram: &mut R, old: u64, new: u64) -> Result<(), OutOfMemory>
     }
 }
 
-/// brk(to): the break becomes `to`, if the heap may end there; the break is answered.
+/// brk(to): moves the break to `to` if the heap may end there. Returns the break after the call.
 pub fn brk<R: Ram>(ram: &mut R, heap: &mut Heap, to: u64) -> CallEnd
     requires { IsHeapOf (R.bytes ram.old) heap.old }
     ensures answer { IsBreakAnswer (R.bytes ram.old) heap.old to (R.bytes ram.new) heap.new result }

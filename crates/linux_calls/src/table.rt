@@ -23,10 +23,10 @@ fn close(files: &mut Files, fd: u32) -> Result<u64, u16>
     Ok(0)
 }
 
-/// Carries a call out: what the guest gets, and the memory, the files and the heap after it.
+/// Performs a call. Returns the guest's result, and updates the memory, the files and the heap.
 ///
-/// An error is `Back` of its negated number modulo 2^64, and changes nothing; neither do `Exit`, `Unknown` and
-/// `OutOfMemory`. The heap's pages stay mapped up to its break, and no further.
+/// An error is `Back` with its negated number modulo 2^64. An error, `Exit`, `Unknown` and `OutOfMemory` change nothing.
+/// The heap's pages stay mapped up to its break, and no further.
 pub fn call<R: Ram>(
     alloc: Global,
     regs: &CallRegs,

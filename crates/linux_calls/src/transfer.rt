@@ -1,4 +1,4 @@
-//! The calls that move bytes between memory and files.
+//! The calls that copy bytes between memory and files.
 
 ghost use Rattle.std.specs.Prelude.{◌≡◌, true, IfOk, Some};
 ghost use Rattle.paged_mem.specs.Memory.{bytes_at, maps};
@@ -15,14 +15,14 @@ use mem_files::{EBADF, Files};
 use paged_mem::{Ram, StoreRefusal};
 use std::alloc::{AllocError, Global};
 
-/// The bytes of memory that a call moves: the address of the first, and how many they are.
+/// The bytes of memory that a call copies: the address of the first, and their number.
 #[derive(Clone, Copy)]
 pub struct Buffer {
     pub at: u64,
     pub count: u64,
 }
 
-/// read(fd, buffer, count): the bytes that are ready are read, all or none.
+/// read(fd, buffer, count): copies the bytes that are ready to memory, all or none.
 pub fn read<R: Ram>(ram: &mut R, files: &mut Files, fd: u32, buffer: Buffer) -> CallEnd
     ensures answer { (heap : the_heap)
         → IsAnswer sys_read (state (R.bytes ram.old) files.old heap) (state (R.bytes ram.new) files.new heap)
@@ -57,7 +57,7 @@ fn copy_of<R: Ram>(alloc: Global, ram: &R, buffer: Buffer) -> Result<Vec<u8>, Al
     Ok(bytes)
 }
 
-/// write(fd, buffer, count): the bytes are written, all or none.
+/// write(fd, buffer, count): copies the bytes from memory to the file, all or none.
 pub fn write<R: Ram>(alloc: Global, ram: &R, files: &mut Files, fd: u32, buffer: Buffer) -> CallEnd
     ensures { (heap : the_heap)
         → IsAnswer sys_write (state (R.bytes ram.now) files.old heap) (state (R.bytes ram.now) files.new heap)

@@ -5,7 +5,7 @@ use Rattle.rv64_table.specs.Table.{row_for}
 use Rattle.rv64_decode.specs.declared.Inst.{Inst}
 use Rattle.rv64_decode.specs.Fields.{bits, immediate, has_rd, has_rs1, has_rs2}
 
--- the fields of a word by a row: registers and immediate at their bits, 0 where the row's form has none
+-- the fields of a word by a row: registers and immediate from their bits, 0 if the row's form has none
 abbrev pub instruction : Row → ℕ → Inst
 instruction row word = record {
   op = row.op;
@@ -15,6 +15,6 @@ instruction row word = record {
   imm = immediate row.form word;
 }
 
--- the instruction of a word: its row's operation and fields, none where it has no row
+-- the instruction of a word: its row's operation and fields; none if the word has no row
 unfoldable pub decoded : ℕ → Option Inst
 decoded word = option_map (λ row. instruction row word) (row_for word)

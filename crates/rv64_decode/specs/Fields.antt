@@ -1,6 +1,6 @@
 -- The fields of an instruction word and the immediate of each form.
 -- The source: RISC-V Unprivileged ISA, "Base Instruction Formats" and "Immediate Encoding Variants".
--- docs/reference/instructions.md says the same for readers.
+-- docs/reference/instructions.md is the page for readers.
 use Rattle.std.specs.Prelude.{ℕ, ◌+◌, ◌-◌, ◌*◌, ◌/◌, ◌%◌, ◌^◌, Bool, true, false, ℤ, pos, ◌-ℤ◌, nat_lt, if◌then◌else◌}
 use Rattle.rv64_table.specs.declared.Form.{Form}
 use Rattle.rv64_table.specs.declared.Form.TheVariants.{R, I, H, K, S, B, U, J, E, L, A}
@@ -9,7 +9,7 @@ use Rattle.rv64_table.specs.declared.Form.TheVariants.{R, I, H, K, S, B, U, J, E
 abbrev pub bits : ℕ → ℕ → ℕ → ℕ
 bits word high low = word / 2 ^ low % 2 ^ (high - low + 1)
 
--- the number that so many bits are in two's complement
+-- the signed value of `width` bits in two's complement
 abbrev pub signed : ℕ → ℕ → ℤ
 signed width n = if nat_lt n (2 ^ (width - 1)) then pos n else pos n -ℤ pos (2 ^ width)
 
@@ -21,7 +21,7 @@ branch_offset word = bits word 31 31 * 2 ^ 12 + bits word 7 7 * 2 ^ 11 + bits wo
 abbrev pub jump_offset : ℕ → ℕ
 jump_offset word = bits word 31 31 * 2 ^ 20 + bits word 19 12 * 2 ^ 12 + bits word 20 20 * 2 ^ 11 + bits word 30 21 * 2 ^ 1
 
--- the immediate of a word of a form, 0 where the form has none
+-- the immediate of a word of a form; 0 if the form has none
 abbrev pub immediate : Form → ℕ → ℤ
 immediate R word = pos 0
 immediate I word = signed 12 (bits word 31 20)
@@ -42,14 +42,14 @@ has_rd B = false
 has_rd E = false
 has_rd _ = true
 
--- whether they name a first source register
+-- whether words of a form name a first source register
 abbrev pub has_rs1 : Form → Bool
 has_rs1 U = false
 has_rs1 J = false
 has_rs1 E = false
 has_rs1 _ = true
 
--- whether they name a second source register
+-- whether words of a form name a second source register
 abbrev pub has_rs2 : Form → Bool
 has_rs2 R = true
 has_rs2 S = true

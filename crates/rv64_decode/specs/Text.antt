@@ -1,5 +1,5 @@
 -- The printed text of an instruction, as a list of bytes.
--- docs/reference/instructions.md has the table that this is.
+-- docs/reference/instructions.md has this table for readers.
 use Rattle.std.specs.Prelude.{ℕ, zero, suc, ◌+◌, ◌/◌, ◌%◌, ◌^◌, nat_lt, ℤ, List, [], ◌∷◌, ◌++◌, if◌then◌else◌, ◌==◌, codes, decimal}
 use Rattle.std.specs.Fmt.{signed_decimal}
 use Rattle.std.specs.Int.{w64, cast_unsigned}
@@ -12,7 +12,7 @@ use Rattle.rv64_table.specs.Table.{row_with}
 use Rattle.rv64_decode.specs.declared.Inst.{Inst}
 use Rattle.rv64_decode.specs.Fields.{bits}
 
--- the operation in lower case
+-- the name of the operation in lower case
 abbrev pub name : Op → List ℕ
 name Lui = codes "lui"
 name Auipc = codes "auipc"
@@ -110,12 +110,12 @@ register number = codes "x" ++ decimal number
 abbrev pub hex_digit : ℕ → ℕ
 hex_digit n = if nat_lt n 10 then 48 + n else 87 + n
 
--- the lowest so many hexadecimal digits of a number, the highest of them first
+-- the lowest `count` hexadecimal digits of a number, highest digit first
 unfoldable pub hex_digits : ℕ → ℕ → List ℕ
 hex_digits zero n = []
 hex_digits (suc count) n = hex_digits count (n / 16) ++ hex_digit (n % 16) ∷ []
 
--- where a jump or a branch at pc leads
+-- the target of a jump or a branch at pc
 abbrev pub target : ℕ → ℤ → ℕ
 target pc imm = (pc + cast_unsigned w64 imm) % 2 ^ 64
 
@@ -128,7 +128,7 @@ abbrev pub immediate_text : Inst → List ℕ
 immediate_text inst =
     name inst.op ++ codes " " ++ register inst.rd ++ codes ", " ++ register inst.rs1 ++ codes ", " ++ signed_decimal inst.imm
 
--- a register and the address that a register and an immediate make
+-- a register, and the address that another register and an immediate give
 abbrev pub memory_text : Inst → ℕ → List ℕ
 memory_text inst value =
     name inst.op ++ codes " " ++ register value ++ codes ", " ++ signed_decimal inst.imm ++ codes "(" ++ register inst.rs1 ++ codes ")"
@@ -146,7 +146,7 @@ upper_text inst = name inst.op ++ codes " " ++ register inst.rd ++ codes ", " ++
 abbrev pub jump_text : Inst → ℕ → List ℕ
 jump_text inst pc = name inst.op ++ codes " " ++ register inst.rd ++ codes ", " ++ hex_digits 16 (target pc inst.imm)
 
--- of form I: loads and JALR name an address, FENCE nothing
+-- in form I, loads and JALR print an address, and FENCE prints nothing more
 abbrev pub form_i_text : Op → Inst → List ℕ
 form_i_text Jalr inst = memory_text inst inst.rd
 form_i_text Lb inst = memory_text inst inst.rd
@@ -159,23 +159,23 @@ form_i_text Lwu inst = memory_text inst inst.rd
 form_i_text Fence inst = name inst.op
 form_i_text _ inst = immediate_text inst
 
--- the order of accesses that aq (2) and rl (1) ask for, as a suffix of the name
+-- the order of accesses that aq (2) and rl (1) request, as a suffix of the name
 abbrev pub order_suffix : ℕ → List ℕ
 order_suffix bits = if bits == 1 then codes ".rl" else (if bits == 2 then codes ".aq" else (if bits == 3 then codes ".aqrl" else []))
 
--- the name with the order of accesses, and the register that is set
+-- the name with the order of accesses, and the destination register
 abbrev pub ordered_text : Inst → List ℕ
 ordered_text inst = name inst.op ++ order_suffix (cast_unsigned w64 inst.imm) ++ codes " " ++ register inst.rd
 
--- of a load-reserved: a register and the address that a register holds
+-- for a load-reserved: the destination register, and the register that holds the address
 abbrev pub load_reserved_text : Inst → List ℕ
 load_reserved_text inst = ordered_text inst ++ codes ", (" ++ register inst.rs1 ++ codes ")"
 
--- of the other atomic rows: the same with rs2 before the address
+-- for the other atomic rows: the destination register, rs2, and the register that holds the address
 abbrev pub atomic_text : Inst → List ℕ
 atomic_text inst = ordered_text inst ++ codes ", " ++ register inst.rs2 ++ codes ", (" ++ register inst.rs1 ++ codes ")"
 
--- by the form of the operation; stores print rs2 first
+-- the text by the form of the operation; stores print rs2 first
 abbrev pub form_text : Form → Inst → ℕ → List ℕ
 form_text R inst pc = registers_text inst
 form_text I inst pc = form_i_text inst.op inst

@@ -1,4 +1,4 @@
-//! Bit ranges of a word, and the registers and the immediate that a form holds in them.
+//! Bit ranges of a word, and the registers and the immediate that a form stores in them.
 
 ghost use Rattle.std.specs.Prelude.{if◌then◌else◌, ◌≡◌, ◌+◌, ◌-◌, ◌*◌, ◌^◌, ◌<◌, ◌≤◌};
 ghost use Rattle.rv64_decode.specs.Fields as fields;
@@ -17,7 +17,7 @@ pub fn bits(word: u32, high: u32, low: u32) -> u32
     (word >> low) & ((1 << width) - 1)
 }
 
-/// The register that bits high..low of a word name, 0 where the word names none there.
+/// The register that bits high..low of a word name; 0 if the word names no register there.
 pub fn register(named: bool, word: u32, high: u32, low: u32) -> u8
     requires five { high ≡ low + 4 }
     requires within { high < 32 }
@@ -31,7 +31,7 @@ pub fn register(named: bool, word: u32, high: u32, low: u32) -> u8
     }
 }
 
-/// The number that so many bits are in two's complement.
+/// The signed value of `width` bits in two's complement.
 pub fn signed(width: u32, number: u32) -> i64
     requires some { 0 < width }
     requires within { width ≤ 32 }
@@ -52,21 +52,21 @@ pub fn has_rd(form: Form) -> bool
     !matches!(form, Form::S | Form::B | Form::E)
 }
 
-/// Whether they name a first source register.
+/// Whether words of a form name a first source register.
 pub fn has_rs1(form: Form) -> bool
     ensures { result ≡ fields.has_rs1 form }
 {
     !matches!(form, Form::U | Form::J | Form::E)
 }
 
-/// Whether they name a second source register.
+/// Whether words of a form name a second source register.
 pub fn has_rs2(form: Form) -> bool
     ensures { result ≡ fields.has_rs2 form }
 {
     matches!(form, Form::R | Form::S | Form::B | Form::A)
 }
 
-/// The immediate of a word of a form, 0 where the form has none.
+/// The immediate of a word of a form; 0 if the form has none.
 #[inline(always)]
 pub fn immediate(form: Form, word: u32) -> i64
     ensures { result ≡ fields.immediate form word }
@@ -84,7 +84,7 @@ pub fn immediate(form: Form, word: u32) -> i64
     }
 }
 
-/// Bits 31..20 as the signed number that they are.
+/// The signed value of bits 31..20.
 #[inline(always)]
 fn upper_twelve(word: u32) -> i64
     ensures { result ≡ fields.signed 12 (fields.bits word 31 20) }
@@ -92,7 +92,7 @@ fn upper_twelve(word: u32) -> i64
     i64::from(word.cast_signed() >> 20)
 }
 
-/// The offset of a store: bits 31..25 signed, and below them bits 11..7.
+/// The offset of a store: bits 31..25 signed, followed by bits 11..7.
 #[inline(always)]
 fn store_offset(word: u32) -> i64
     ensures { result ≡ fields.signed 12 (fields.bits word 31 25 * 2 ^ 5 + fields.bits word 11 7) }

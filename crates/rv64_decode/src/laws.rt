@@ -1,4 +1,4 @@
-//! What holds of words and instructions alone. Each law is the contract of a function that does nothing.
+//! Laws of words and instructions alone. Each law is the contract of a function that does nothing.
 
 ghost use Rattle.rv64_decode.specs.Laws.{HasOneWord, HasWordInForm};
 
@@ -7,7 +7,7 @@ pub fn no_instruction_has_two_words()
     ensures { HasOneWord }
 {}
 
-/// An instruction has a word exactly where its fields lie in its operation's form.
+/// An instruction has a word exactly if its fields are valid in its operation's form.
 pub fn the_instructions_in_form_have_words()
     ensures { HasWordInForm }
 {}

@@ -1,7 +1,7 @@
-//! Instruction words of RV64I, M and A to instructions and back, and their printed text.
+//! Converts instruction words of RV64I, M and A to instructions and back, and prints instructions.
 //!
-//! The public source is The RISC-V Instruction Set Manual, Volume I (Unprivileged ISA): "RV32I Base Integer
-//! Instruction Set", the sections "Base Instruction Formats" and "Immediate Encoding Variants", and the chapter "A".
+//! The public source is The RISC-V Instruction Set Manual, Volume I (Unprivileged ISA): "RV32I Base Integer Instruction
+//! Set", the sections "Base Instruction Formats" and "Immediate Encoding Variants", and the chapter "A".
 #![tactic(auto)]
 
 mod field;
@@ -28,7 +28,7 @@ pub struct Inst {
     pub rs1: u8,
     /// The second source register, below 32.
     pub rs2: u8,
-    /// The immediate, sign-extended where its form is signed; the two bits for the order of accesses in the atomic rows, aq above rl.
+    /// The immediate, sign-extended if its form is signed. In the atomic rows it is the two bits for the order of accesses, aq above rl.
     pub imm: i64,
 }
 
@@ -36,8 +36,9 @@ impl Inst {
     ghost use Rattle.std.specs.Prelude.{◌≡◌};
     ghost use Rattle.rv64_decode.specs.Encode as encoding;
 
-    /// Whether the fields lie in the operation's form: registers below 32 where the form has them and 0 where not, and
-    /// an immediate of the form. `encode` takes exactly these instructions, and `decode` gives no others.
+    /// Whether the fields are valid in the operation's form. Registers are below 32 if the form has them and 0
+    /// otherwise; the immediate is one of the form.
+    /// `encode` accepts exactly these instructions, and `decode` returns no others.
     pub fn is_encodable(&self) -> bool
         ensures { result ≡ encoding.is_encodable self.now }
     {

@@ -9,7 +9,7 @@ use crate::Inst;
 use crate::field::{has_rd, has_rs1, has_rs2, immediate, register};
 use rv64_table::{Op, row_of};
 
-/// The instruction of a word: its operation and its fields, 0 where its form has none. None where the word has no row.
+/// The instruction of a word; `None` if the word has no row. A field that the form lacks is 0.
 #[inline(always)]
 pub fn decode(word: u32) -> Option<Inst>
     ensures value { result ≡ decoded word }
@@ -22,7 +22,7 @@ pub fn decode(word: u32) -> Option<Inst>
     Some(decode_as(op, word))
 }
 
-/// The instruction of a word whose row is that of this operation. Where the operation is known the form is, and only its fields are read.
+/// The instruction of a word whose row is that of `op`. The known operation gives the form, and only its fields are read.
 #[inline(always)]
 pub fn decode_as(op: Op, word: u32) -> Inst
     requires { option_map (λ row. row.op) (row_for word) ≡ Some op }

@@ -10,7 +10,7 @@ use itoa::Buffer;
 use rv64_table::{Form, Op};
 use std::marker::Model;
 
-/// The text of one instruction: at most 48 bytes of ASCII, without an end of line.
+/// The text of one instruction: at most 48 bytes of ASCII, without a line end.
 #[derive(Drop)]
 pub struct InstText {
     bytes: ArrayVec<u8, 48>,
@@ -156,7 +156,7 @@ impl InstText {
         }
     }
 
-    /// The order of accesses, and the register that is set.
+    /// Appends the order of accesses and the destination register.
     fn push_ordered(&mut self, inst: &Inst)
         requires named { self.old ≡ spec.name inst.now.op }
         requires short { length self.old ≤ 9 }
@@ -227,7 +227,7 @@ pub fn print(inst: &Inst, pc: u64) -> InstText
     text
 }
 
-/// Where a jump or a branch at `pc` leads.
+/// The target of a jump or a branch at `pc`.
 fn target(pc: u64, imm: i64) -> u64
     ensures { result ≡ spec.target pc imm }
 {

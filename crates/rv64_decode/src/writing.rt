@@ -9,8 +9,8 @@ use crate::Inst;
 use crate::field::bits;
 use rv64_table::Form;
 
-/// The word of an instruction whose fields lie in its operation's form (`Inst::is_encodable`): the only word that
-/// `decode` gives the instruction for.
+/// The word of an instruction whose fields are valid in its operation's form (`Inst::is_encodable`). It is the only
+/// word that `decode` maps to the instruction.
 pub fn encode(inst: &Inst) -> u32
     requires { IsTrue (encoding.is_encodable inst.now) }
     ensures decodes { decoded result ≡ Some inst.now }
@@ -20,7 +20,7 @@ pub fn encode(inst: &Inst) -> u32
     joined(row.want, inst, immediate_bits(row.form, inst))
 }
 
-/// A row's wanted bits, an instruction's registers at their places and the placed immediate.
+/// A row's required bits, an instruction's registers in their bit positions, and the placed immediate.
 fn joined(want: u32, inst: &Inst, immediate: u32) -> u32
     requires { encoding.joined_fields want inst.now immediate < 2 ^ 32 }
     ensures { result ≡ encoding.joined_fields want inst.now immediate }
@@ -31,7 +31,7 @@ fn joined(want: u32, inst: &Inst, immediate: u32) -> u32
         + immediate
 }
 
-/// The bits of an instruction's immediate at the places that a form gives them.
+/// The bits of an instruction's immediate in the positions that a form gives them.
 fn immediate_bits(form: Form, inst: &Inst) -> u32
     ensures { result ≡ encoding.immediate_bits form (cast_unsigned w64 inst.now.imm % 2 ^ 32) }
 {
@@ -39,7 +39,7 @@ fn immediate_bits(form: Form, inst: &Inst) -> u32
     placed_bits(form, number)
 }
 
-/// The bits of a number at the places that a form gives its immediate.
+/// The bits of a number in the positions that a form gives its immediate.
 fn placed_bits(form: Form, number: u32) -> u32
     ensures { result ≡ encoding.immediate_bits form number }
 {
@@ -74,7 +74,7 @@ fn placed_jump(number: u32) -> u32
         + (bits(number, 19, 12) << 12)
 }
 
-/// Whether a register is one of the 32, or 0 where the form names none.
+/// Whether a register is below 32, or is 0 if the form names none.
 pub fn fits_register(register: u8, named: bool) -> bool
     ensures { result ≡ nat_lt register (if named then 32 else 1) }
 {

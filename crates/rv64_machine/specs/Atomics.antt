@@ -1,11 +1,11 @@
--- What an atomic memory operation writes, by the number that it read and b (RISC-V Unprivileged ISA, "A", "Atomic Memory Operations").
+-- What an atomic memory operation writes, from the number that it read and b (RISC-V Unprivileged ISA, "A", "Atomic Memory Operations").
 use Rattle.std.specs.Prelude.{ℕ, ◌%◌, ◌^◌, if◌then◌else◌, nat_lt, bit_and, bit_or, bit_xor}
 use Rattle.rv64_machine.specs.declared.effect.AmoOperation.{AmoOperation}
 use Rattle.rv64_machine.specs.declared.effect.AmoOperation.TheVariants.{Swap, Add, Xor, And, Or, Min, Max, MinUnsigned, MaxUnsigned}
 use Rattle.rv64_machine.specs.Arithmetic.{sign_extended, sum}
 use Rattle.rv64_machine.specs.Meaning.{less}
 
--- the number of which the low bits are written; the least and the greatest of two are taken at the width in bits, signed or not
+-- the number whose low bits are written; minimum and maximum are taken at the width in bits, signed or not
 abbrev pub amo_result : AmoOperation → ℕ → ℕ → ℕ → ℕ
 amo_result Swap width old b = b
 amo_result Add width old b = sum 64 old b

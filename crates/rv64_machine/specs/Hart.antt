@@ -17,13 +17,13 @@ use Rattle.rv64_machine.specs.Atomics.{amo_result}
 use Rattle.rv64_machine.specs.Arithmetic.{sign_extended, sum, wrapped}
 use Rattle.rv64_machine.specs.Meaning.{meaning}
 
--- a reservation, which a load-reserved registers: how many bytes it holds, 4 or 8, and their address, a multiple of that and below 2^38.
--- The standard leaves the set of reserved bytes to the machine; that it is these bytes alone is this project's profile
+-- the reserved bytes: their number, 4 or 8, and their address, a multiple of that number and below 2^38.
+-- The standard leaves the set of reserved bytes to the machine. This project's profile reserves exactly these bytes
 abbrev pub IsReservation : Option (ℕ × ℕ) → Type 0
 IsReservation None = Unit {0}
 IsReservation (Some (count, at)) = ((count ≡ 4) ⊎ (count ≡ 8)) × (at % count ≡ 0) × (at < 2 ^ 38)
 
--- a reservation of the code's
+-- a reservation of the code as the definitions have it
 abbrev pub reserved_bytes : Reservation → ℕ × ℕ
 reserved_bytes held = (count_of held.wide, held.at)
 
@@ -34,8 +34,7 @@ pub record HartState : Type 0 where
   pub memory : Memory
   pub reservation : Option (ℕ × ℕ)
 
--- the states that a hart can be in: 32 registers of which x0 is 0, a pc at a multiple of 4, whole pages of bytes, and a reservation that
--- can be
+-- a well-formed hart: 32 registers with x0 = 0, a pc that is a multiple of 4, whole pages of bytes, and a valid reservation
 pub record IsHart (hart : HartState) : Type 0 where
   pub count : length hart.registers ≡ 32
   pub zero : slice_index hart.registers 0 ≡ 0
@@ -43,18 +42,18 @@ pub record IsHart (hart : HartState) : Type 0 where
   pub whole : IsWhole hart.memory
   pub reserved : IsReservation hart.reservation
 
--- registers and pc are numbers of 64 bits
+-- the registers and the pc are below 2^64
 pub record HasNumbers (hart : HartState) : Type 0 where
   pub registers : All (λ value. value < 2 ^ 64) hart.registers
   pub pc : hart.pc < 2 ^ 64
 
--- one act: the hart goes on in a state, calls the system, or traps; both of the latter leave the state
+-- one act: the hart continues in a state, calls the system, or traps; a call and a trap leave the state unchanged
 pub data Act : Type 0 where
   GoesOn : HartState → Act
   Calls : Act
   Traps : Cause → Act
 
--- the state with a value in a register; x0 keeps its 0
+-- the state with a value in a register; x0 stays 0
 abbrev pub with_register : HartState → ℕ → ℕ → HartState
 with_register hart number value =
     record hart { registers = (if number == 0 then hart.registers else slice_set hart.registers number value) }
@@ -63,26 +62,26 @@ with_register hart number value =
 abbrev pub following : HartState → ℕ
 following hart = sum 64 hart.pc 4
 
--- the act that goes on at the next instruction
+-- the act that continues at the next instruction
 abbrev pub passes : HartState → Act
 passes hart = GoesOn (record hart { pc = following hart })
 
--- the act that goes on at a target, which must be a multiple of 4
+-- the act that continues at a target, which must be a multiple of 4
 abbrev pub arrives : HartState → ℕ → Act
 arrives hart target =
     if target % 4 == 0 then GoesOn (record hart { pc = target }) else Traps (cause.FetchMisaligned target)
 
--- the act of a load from an address, which read this
+-- the act of a load from an address, by the value that was read
 abbrev pub loads : HartState → ℕ → ℕ → Option ℕ → Act
 loads hart rd at None = Traps (cause.LoadUnmapped at)
 loads hart rd at (Some value) = passes (with_register hart rd value)
 
--- the number at an address, where that is a multiple of the width and mapped. Of a misaligned address the standard has an exception, which
--- may be an access fault: here it is always that
+-- the number at an address, if the address is a multiple of the width and the bytes are mapped.
+-- For a misaligned address the standard raises an exception, which may be an access fault; here it always is one
 abbrev pub reads_aligned : Memory → ℕ → ℕ → Option ℕ
 reads_aligned memory at count = if at % count == 0 then reads memory at count else None
 
--- whether the reservation is of these bytes: of this width and at this address
+-- whether exactly these bytes are reserved: this width at this address
 abbrev pub is_reserved : Option (ℕ × ℕ) → ℕ → ℕ → Bool
 is_reserved None count at = false
 is_reserved (Some held) count at = held.0 == count && held.1 == at
@@ -91,29 +90,29 @@ is_reserved (Some held) count at = held.0 == count && held.1 == at
 abbrev pub IsReservable : Width → Type 0
 IsReservable width = (count_of width ≡ 4) ⊎ (count_of width ≡ 8)
 
--- a load-reserved is of such a width
+-- the effect is no load-reserved, or one of such a width
 abbrev pub ReservesReservable : Effect → Type 0
 ReservesReservable (LoadReserved width at) = IsReservable width
 ReservesReservable _ = Unit {0}
 
--- the act of a load-reserved which found this ("A", "Load-Reserved/Store-Conditional Instructions")
+-- the act of a load-reserved by the value that was read ("A", "Load-Reserved/Store-Conditional Instructions")
 abbrev pub loads_reserved : HartState → ℕ → ℕ → ℕ → Option ℕ → Act
 loads_reserved hart rd count at None = Traps (cause.LoadUnmapped at)
 loads_reserved hart rd count at (Some value) =
     passes (record (with_register hart rd (sign_extended (8 * count) value)) { reservation = Some (count, at) })
 
--- the state after a store-conditional whose bytes are reserved or not: it stores and puts 0 into rd, or puts 1; the reservation ends either
--- way
+-- the state after a store-conditional: if its bytes are reserved it stores and sets rd to 0, otherwise it sets rd to 1;
+-- the reservation ends either way
 abbrev pub after_conditional : HartState → ℕ → ℕ → ℕ → ℕ → Bool → HartState
 after_conditional hart rd count at value true = record (with_register hart rd 0) { memory = writes hart.memory at count value; reservation = None }
 after_conditional hart rd count at value false = record (with_register hart rd 1) { reservation = None }
 
--- the act of a store-conditional which found this: its address is tried first, as a store's
+-- the act of a store-conditional by the old number at its address; an unmapped address traps first, as in a store
 abbrev pub stores_conditional : HartState → ℕ → ℕ → ℕ → ℕ → Option ℕ → Act
 stores_conditional hart rd count at value None = Traps (cause.StoreUnmapped at)
 stores_conditional hart rd count at value (Some old) = passes (after_conditional hart rd count at value (is_reserved hart.reservation count at))
 
--- the act of an atomic memory operation which found this: the old number goes to rd ("A", "Atomic Memory Operations")
+-- the act of an atomic memory operation by the old number at its address, which rd is set to ("A", "Atomic Memory Operations")
 abbrev pub performs_amo : HartState → ℕ → AmoOperation → ℕ → ℕ → ℕ → Option ℕ → Act
 performs_amo hart rd operation count at value None = Traps (cause.StoreUnmapped at)
 performs_amo hart rd operation count at value (Some old) =
@@ -138,7 +137,7 @@ carried hart rd (LoadReserved width at) = loads_reserved hart rd (count_of width
 carried hart rd (StoreConditional width at value) = stores_conditional hart rd (count_of width) at value (reads_aligned hart.memory at (count_of width))
 carried hart rd (Amo operation width at value) = performs_amo hart rd operation (count_of width) at value (reads_aligned hart.memory at (count_of width))
 
--- the effect of an instruction: its row's, on the values of its registers
+-- the effect of an instruction: its row's meaning, on the values of its registers
 abbrev pub effect_of : HartState → Inst → Effect
 effect_of hart inst =
     meaning inst.op (slice_index hart.registers inst.rs1) (slice_index hart.registers inst.rs2) (wrapped 64 inst.imm) hart.pc
@@ -153,49 +152,50 @@ abbrev pub fetched : HartState → Option ℕ → Act
 fetched hart None = Traps (cause.FetchUnmapped hart.pc)
 fetched hart (Some word) = runs hart word (decoded word)
 
--- the act of a hart: the four bytes at the pc are fetched, and their instruction is carried out
+-- the act of a hart: fetch the four bytes at the pc, and execute their instruction
 unfoldable pub act : HartState → Act
 act hart = fetched hart (reads hart.memory hart.pc 4)
 
--- the effect of the instruction at the pc, or none where none is there
+-- the effect of the instruction at the pc; none if the bytes there are no instruction
 unfoldable pub effect_at : HartState → Option Effect
 effect_at hart = option_map (effect_of hart) (option_and_then decoded (reads hart.memory hart.pc 4))
 
--- whether an act goes on
+-- whether an act continues
 abbrev pub goes_on : Act → Bool
 goes_on (GoesOn next) = true
 goes_on _ = false
 
--- whether an effect stores, where this is reserved: a store does, an atomic memory operation, and a store-conditional of the reserved bytes
+-- whether an effect stores while `held` is reserved: a store and an atomic memory operation do, and a store-conditional
+-- of the reserved bytes does
 abbrev pub is_store : Option (ℕ × ℕ) → Option Effect → Bool
 is_store held (Some (Store width at value)) = true
 is_store held (Some (StoreConditional width at value)) = is_reserved held (count_of width) at
 is_store held (Some (Amo operation width at value)) = true
 is_store held _ = false
 
--- how a step ended, and the state that it left, of a hart with this act and this effect
+-- how a step ended and the state that it left, for a hart with this act and this effect
 abbrev pub EndsStep : Act → Option Effect → HartState → StepEnd → HartState → Type 0
 EndsStep an_act effect old end.Done new = an_act ≡ GoesOn new
 EndsStep an_act effect old end.Call new = (an_act ≡ Calls) × (new ≡ old)
 EndsStep an_act effect old (end.Trap cause) new = (an_act ≡ Traps cause) × (new ≡ old)
 EndsStep an_act effect old end.OutOfMemory new = IsTrue (goes_on an_act) × IsTrue (is_store old.reservation effect) × (new ≡ old)
 
--- what a step answers, and the state that it leaves: its act's, or want of memory in a store that would go on
+-- the result of a step and the state that it leaves: those of its act, or out of memory in a store that would continue
 abbrev pub Acts : HartState → StepEnd → HartState → Type 0
 Acts old end new = EndsStep (act old) (effect_at old) old end new
 
--- the state in which an act went on
+-- the state in which an act continued
 abbrev pub went_on : Act → Option HartState
 went_on (GoesOn next) = Some next
 went_on _ = None
 
--- the state after so many acts that went on; none where one of them did not
+-- the state after `count` acts that continued; none if one of them did not
 unfoldable pub acted : HartState → ℕ → Option HartState
 acted hart zero = Some hart
 acted hart (suc count) = option_and_then (λ last. went_on (act last)) (acted hart count)
 
--- how at most so many steps ended, after so many that went on, and the state that they left: all of them went on, or the next one
--- did not, and left the state
+-- at most `most` steps ended like this after `done` acts that continued: either all of them continued, or the next one
+-- did not and left the state unchanged
 abbrev pub ActsInARow : HartState → ℕ → ℕ → StepEnd → HartState → Type 0
 ActsInARow old most done end.Done new = (done ≡ most) × (acted old done ≡ Some new)
 ActsInARow old most done end.Call new = (done < most) × (acted old done ≡ Some new) × Acts new end.Call new
@@ -204,22 +204,22 @@ ActsInARow old most done end.OutOfMemory new = (done < most) × (acted old done 
 
 -- ---- up to an address
 
--- whether a pc is the address to stop at, where there is one
+-- whether a pc is the address to stop at, if there is one
 abbrev pub is_stop : Option ℕ → ℕ → Bool
 is_stop None pc = false
 is_stop (Some address) pc = pc == address
 
--- the state in which an act went on, if it is not at the stop
+-- the state in which an act continued, if its pc is not the stop
 abbrev pub went_past : Option ℕ → Act → Option HartState
 went_past stop (GoesOn next) = if is_stop stop next.pc then None else Some next
 went_past stop _ = None
 
--- the state after so many acts that went on, none of which came to the stop. Where the first one began is not asked
+-- the state after `count` acts that continued, none of which reached the stop. The pc at the start is not compared
 unfoldable pub passed : Option ℕ → HartState → ℕ → Option HartState
 passed stop hart zero = Some hart
 passed stop hart (suc count) = option_and_then (λ last. went_past stop (act last)) (passed stop hart count)
 
--- so many steps, at most `most`, of which the last one and no earlier one came to the stop
+-- `done` steps, at most `most`, of which only the last one reached the stop
 pub record ComesTo (stop : Option ℕ) (old : HartState) (most done : ℕ) (new : HartState) : Type 0 where
   pub before : ℕ
   pub last : HartState
@@ -229,8 +229,8 @@ pub record ComesTo (stop : Option ℕ) (old : HartState) (most done : ℕ) (new 
   pub arrives : act last ≡ GoesOn new
   pub stands : IsTrue (is_stop stop new.pc)
 
--- how at most so many steps up to a stop ended, after so many that went on, and the state that they left: all of them went on and none
--- came to the stop, or the last one did, or none did and the next one did not go on, and left the state
+-- how at most `most` steps up to a stop ended, after `done` acts that continued. Either all continued and none reached the stop;
+-- or the last one reached it; or none reached it, and the next one did not continue and left the state unchanged
 abbrev pub ActsTo : Option ℕ → HartState → ℕ → ℕ → StepEnd → HartState → Type 0
 ActsTo stop old most done end.Done new = ((done ≡ most) × (passed stop old done ≡ Some new)) ⊎ ComesTo stop old most done new
 ActsTo stop old most done end.Call new = (done < most) × (passed stop old done ≡ Some new) × Acts new end.Call new

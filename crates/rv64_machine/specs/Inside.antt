@@ -1,4 +1,4 @@
--- What serves the code alone: no promise rests on these files being read.
+-- What only the code uses. To read the promises, these files are not needed.
 pub mod Codes
 pub mod Computed
 pub mod Down

@@ -1,6 +1,7 @@
--- What each row of the instruction table does, one line a row (RISC-V Unprivileged ISA, "RV32I", "RV64I", "M", "A"; of the last,
--- "Load-Reserved/Store-Conditional Instructions", the extension Zalrsc, and "Atomic Memory Operations", the extension Zaamo).
--- docs/reference/machine.md says the same for readers.
+-- The meaning of each row of the instruction table, one line for each row (RISC-V Unprivileged ISA, "RV32I", "RV64I", "M", "A").
+-- Of "A", these are "Load-Reserved/Store-Conditional Instructions", the extension Zalrsc, and "Atomic Memory Operations", the
+-- extension Zaamo.
+-- docs/reference/machine.md is the page for readers.
 use Rattle.std.specs.Prelude.{ℕ, ◌*◌, ◌/◌, ◌%◌, ◌==◌, Bool, not, nat_le, nat_lt, int_lt, pos, bit_and, bit_or, bit_xor}
 use Rattle.rv64_table.specs.declared.Op.{Op}
 use Rattle.rv64_table.specs.declared.Op.TheVariants.{Lui, Auipc, Jal, Jalr, Beq, Bne, Blt, Bge, Bltu, Bgeu, Lb, Lh, Lw, Ld, Lbu, Lhu, Lwu, Sb, Sh, Sw, Sd, Addi, Slti, Sltiu, Xori, Ori, Andi, Slli, Srli, Srai, Add, Sub, Sll, Slt, Sltu, Xor, Srl, Sra, Or, And, Fence, Ecall, Ebreak, Addiw, Slliw, Srliw, Sraiw, Addw, Subw, Sllw, Srlw, Sraw, Mul, Mulh, Mulhsu, Mulhu, Div, Divu, Rem, Remu, Mulw, Divw, Divuw, Remw, Remuw, Lrw, Scw, Amoswapw, Amoaddw, Amoxorw, Amoandw, Amoorw, Amominw, Amomaxw, Amominuw, Amomaxuw, Lrd, Scd, Amoswapd, Amoaddd, Amoxord, Amoandd, Amoord, Amomind, Amomaxd, Amominud, Amomaxud}
@@ -11,7 +12,7 @@ use Rattle.rv64_machine.specs.declared.effect.AmoOperation.TheVariants as operat
 use Rattle.rv64_machine.specs.declared.effect.Effect.TheVariants.{Put, Jump, Branch, Load, LoadSigned, Store, Next, Call, Break, LoadReserved, StoreConditional, Amo}
 use Rattle.rv64_machine.specs.Arithmetic.{difference, flag, high_product, low_word, product, quotient, quotient_unsigned, remainder, remainder_unsigned, shifted_left, shifted_right, shifted_right_signed, sign_extended, sum}
 
--- a is less than b as a signed number
+-- whether a is less than b, both signed
 abbrev pub less : ℕ → ℕ → Bool
 less a b = int_lt (signed 64 a) (signed 64 b)
 
@@ -23,8 +24,8 @@ even address = address / 2 * 2
 abbrev pub word : ℕ → ℕ
 word n = sign_extended 32 n
 
--- what a row does: a and b are the values of rs1 and rs2, i is the immediate sign-extended to 64 bits. The atomic rows' address is a;
--- their i is the order of accesses, which does nothing on one hart
+-- the meaning of a row: a and b are the values of rs1 and rs2, and i is the immediate sign-extended to 64 bits.
+-- In the atomic rows, a is the address, and i is the order of accesses, which has no effect on one hart
 abbrev pub meaning : Op → ℕ → ℕ → ℕ → ℕ → Effect
 meaning Lui a b i pc = Put i
 meaning Auipc a b i pc = Put (sum 64 pc i)

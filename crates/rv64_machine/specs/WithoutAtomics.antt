@@ -1,4 +1,4 @@
--- A hart by any decoder, and the one that knows RV64I and M alone: what it does, the hart of all rows does too.
+-- A hart with any decoder, and one that knows only RV64I and M. The hart of all rows does everything that the latter does.
 use Rattle.std.specs.Prelude.{◌≡◌, ℕ, if◌then◌else◌, Option, None, Some, option_and_then}
 use Rattle.paged_mem.specs.Memory.{reads}
 use Rattle.rv64_table.specs.Table.{is_atomic}
@@ -7,12 +7,12 @@ use Rattle.rv64_decode.specs.Decode.{decoded}
 use Rattle.rv64_machine.specs.declared.answer.Cause.TheVariants as cause
 use Rattle.rv64_machine.specs.Hart.{Act, GoesOn, Calls, Traps, HartState, act, runs}
 
--- the act of the word that was fetched, by a decoder
+-- the act of the word that was fetched, with a decoder
 abbrev pub fetched_by : (ℕ → Option Inst) → HartState → Option ℕ → Act
 fetched_by decode hart None = Traps (cause.FetchUnmapped hart.pc)
 fetched_by decode hart (Some word) = runs hart word (decode word)
 
--- the act of a hart by a decoder
+-- the act of a hart with a decoder
 unfoldable pub act_by : (ℕ → Option Inst) → HartState → Act
 act_by decode hart = fetched_by decode hart (reads hart.memory hart.pc 4)
 
@@ -23,11 +23,11 @@ inst_unless_atomic inst = if is_atomic inst.op then None else Some inst
 unfoldable pub decoded_without_atomics : ℕ → Option Inst
 decoded_without_atomics word = option_and_then inst_unless_atomic (decoded word)
 
--- the act of a hart that knows the rows of RV64I and M alone
+-- the act of a hart that knows only the rows of RV64I and M
 abbrev pub act_without_atomics : HartState → Act
 act_without_atomics hart = act_by decoded_without_atomics hart
 
--- what a hart without the atomic rows does, the hart of all rows does too, and the reservation stays
+-- the hart of all rows does everything that a hart without the atomic rows does, and keeps the reservation
 pub record ActsWithoutAtomicsStand (hart : HartState) : Type 0 where
   pub all : act_by decoded hart ≡ act hart
   pub goes : (next : HartState) → act_without_atomics hart ≡ GoesOn next → (act hart ≡ GoesOn next) × (next.reservation ≡ hart.reservation)

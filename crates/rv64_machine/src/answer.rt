@@ -3,45 +3,45 @@ ghost use Rattle.std.specs.Prelude.{◌≡◌};
 
 use paged_mem::Width;
 
-/// Why a hart stopped. A trap leaves its state as it was.
+/// Why a hart stopped. A trap leaves the hart's state unchanged.
 #[derive(Clone, Copy, PartialEq, Eq)]
 pub enum Cause {
-    /// The word at the pc is that of no row.
+    /// The word at the pc is in no row of the table.
     Illegal(u32),
-    /// One of the four bytes at the pc, which it holds, is unmapped.
+    /// A byte of the four at the pc is unmapped. The field is the pc.
     FetchUnmapped(u64),
-    /// A jump or a taken branch to this target, which is no multiple of 4.
+    /// A jump or a taken branch whose target is not a multiple of 4. The field is the target.
     FetchMisaligned(u64),
-    /// A load or a load-reserved from this address, of which a byte is unmapped, or which is misaligned in a load-reserved.
+    /// A load or a load-reserved of which a byte is unmapped, or a misaligned load-reserved. The field is the address.
     LoadUnmapped(u64),
-    /// A store to this address, of which a byte is unmapped; or a store-conditional or an atomic memory operation at it, which may be
-    /// misaligned.
+    /// A store, a store-conditional or an atomic memory operation of which a byte is unmapped, or one of the last two
+    /// that is misaligned. The field is the address.
     StoreUnmapped(u64),
     /// EBREAK.
     Break,
 }
 
-/// How a step ended. Every answer but `Done` leaves the hart as it was.
+/// How a step ended. Every result but `Done` leaves the hart unchanged.
 #[derive(Clone, Copy, PartialEq, Eq)]
 pub enum StepEnd {
     /// The instruction was carried out.
     Done,
-    /// ECALL: the system is to do its part, and then to answer.
+    /// ECALL. The system performs the call and then answers it.
     Call,
-    /// The hart can't go on.
+    /// The hart cannot continue.
     Trap(Cause),
-    /// A store, a store-conditional or an atomic memory operation found no memory for its bytes.
+    /// Out of memory in a store, a store-conditional or an atomic memory operation.
     OutOfMemory,
 }
 
-/// What a load-reserved registers: the bytes of a width, 4 or 8 of them, at an address that is a multiple of it and below 2^38.
+/// The bytes that a load-reserved reserves: 4 or 8 of them, at an address that is a multiple of their number and below 2^38.
 #[derive(Clone, Copy, PartialEq, Eq)]
 pub struct Reservation {
     pub wide: Width,
     pub at: u64,
 }
 
-/// A `StepEnd` whose variants all stand beside one another, so that it fits two registers.
+/// A `StepEnd` with all variants in one enum, so that it fits two registers.
 #[derive(Clone, Copy)]
 pub(crate) enum FlatEnd {
     Done,

@@ -1,4 +1,4 @@
-//! What the rows of the table compute, at 64 and at 32 bits.
+//! The computations of the table's rows, at 64 and at 32 bits.
 
 ghost use Rattle.std.specs.Prelude.{◌≡◌, ◌%◌, ◌*◌, ◌^◌, ◌<◌, pos};
 ghost use Rattle.paged_mem.specs.Ram.{count_of};
@@ -29,7 +29,7 @@ pub fn pattern(imm: i64) -> u64
     imm.cast_unsigned()
 }
 
-/// 1 where the test holds, else 0.
+/// 1 if the test holds, otherwise 0.
 pub fn flag(test: bool) -> u64
     ensures { result ≡ flag test }
 {
@@ -92,28 +92,28 @@ pub fn shifted_left_word(a: u32, b: u64) -> u32
     a.wrapping_shl((b % 32) as u32)
 }
 
-/// a shifted right by the low six bits of b, with zeros from the left.
+/// a shifted right by the low six bits of b, filled with zeros.
 pub fn shifted_right(a: u64, b: u64) -> u64
     ensures { result ≡ shifted_right a (b % 64) }
 {
     a >> (b % 64)
 }
 
-/// a shifted right by the low five bits of b, with zeros from the left.
+/// a shifted right by the low five bits of b, filled with zeros.
 pub fn shifted_right_word(a: u32, b: u64) -> u32
     ensures { result ≡ shifted_right a (b % 32) }
 {
     a >> (b % 32)
 }
 
-/// a shifted right by the low six bits of b, with its sign from the left.
+/// a shifted right by the low six bits of b, filled with its sign.
 pub fn shifted_right_signed(a: u64, b: u64) -> u64
     ensures { result ≡ shifted_right_signed 64 a (b % 64) }
 {
     (a.cast_signed() >> (b % 64)).cast_unsigned()
 }
 
-/// a shifted right by the low five bits of b, with its sign from the left.
+/// a shifted right by the low five bits of b, filled with its sign.
 pub fn shifted_right_signed_word(a: u32, b: u64) -> u32
     ensures { result ≡ shifted_right_signed 32 a (b % 32) }
 {
@@ -162,7 +162,7 @@ pub fn high_unsigned(a: u64, b: u64) -> u64
     ((u128::from(a) * u128::from(b)) >> 64) as u64
 }
 
-/// The signed quotient, rounded toward zero; all ones by zero.
+/// The signed quotient, rounded toward zero; all ones if b is 0.
 pub fn quotient(a: u64, b: u64) -> u64
     ensures { result ≡ quotient 64 a b }
 {
@@ -174,7 +174,7 @@ pub fn quotient(a: u64, b: u64) -> u64
         .cast_unsigned()
 }
 
-/// The signed remainder, with the sign of a; a itself by zero.
+/// The signed remainder, with the sign of a; a itself if b is 0.
 pub fn remainder(a: u64, b: u64) -> u64
     ensures { result ≡ remainder 64 a b }
 {
@@ -186,21 +186,21 @@ pub fn remainder(a: u64, b: u64) -> u64
         .cast_unsigned()
 }
 
-/// The unsigned quotient; all ones by zero.
+/// The unsigned quotient; all ones if b is 0.
 pub fn quotient_unsigned(a: u64, b: u64) -> u64
     ensures { result ≡ quotient_unsigned 64 a b }
 {
     if b == 0 { u64::MAX } else { a / b }
 }
 
-/// The unsigned remainder; a itself by zero.
+/// The unsigned remainder; a itself if b is 0.
 pub fn remainder_unsigned(a: u64, b: u64) -> u64
     ensures { result ≡ remainder_unsigned a b }
 {
     if b == 0 { a } else { a % b }
 }
 
-/// The same as `quotient` on words.
+/// The signed quotient of two words, as `quotient`.
 pub fn quotient_word(a: u32, b: u32) -> u32
     ensures { result ≡ quotient 32 a b }
 {
@@ -212,7 +212,7 @@ pub fn quotient_word(a: u32, b: u32) -> u32
         .cast_unsigned()
 }
 
-/// The same as `remainder` on words.
+/// The signed remainder of two words, as `remainder`.
 pub fn remainder_word(a: u32, b: u32) -> u32
     ensures { result ≡ remainder 32 a b }
 {
@@ -224,14 +224,14 @@ pub fn remainder_word(a: u32, b: u32) -> u32
         .cast_unsigned()
 }
 
-/// The same as `quotient_unsigned` on words.
+/// The unsigned quotient of two words, as `quotient_unsigned`.
 pub fn quotient_unsigned_word(a: u32, b: u32) -> u32
     ensures { result ≡ quotient_unsigned 32 a b }
 {
     if b == 0 { u32::MAX } else { a / b }
 }
 
-/// The same as `remainder_unsigned` on words.
+/// The unsigned remainder of two words, as `remainder_unsigned`.
 pub fn remainder_unsigned_word(a: u32, b: u32) -> u32
     ensures { result ≡ remainder_unsigned a b }
 {

@@ -7,7 +7,7 @@ use crate::arithmetic::{is_less, sum, widened};
 use crate::effect::AmoOperation;
 use paged_mem::Width;
 
-/// The number of which an atomic memory operation writes the low bytes, by the number that it read.
+/// The number whose low bytes an atomic memory operation writes, from the number that it read and the value of rs2.
 pub fn amo_result(operation: AmoOperation, width: Width, old: u64, value: u64) -> u64
     requires { old < 2 ^ (8 * count_of width) }
     ensures { result ≡ amo_result operation (8 * count_of width) old value }
@@ -40,7 +40,7 @@ fn chosen(test: bool, yes: u64, no: u64) -> u64
     if test { yes } else { no }
 }
 
-/// The low bits of a number, so many as the width has.
+/// The low bits of a number, as many as the width has.
 fn low_part(width: Width, value: u64) -> u64
     ensures value { result ≡ value % 2 ^ (8 * count_of width) }
     ensures fits { result < 2 ^ (8 * count_of width) }

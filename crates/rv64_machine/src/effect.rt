@@ -13,40 +13,41 @@ use crate::arithmetic::{
 use paged_mem::Width;
 use rv64_table::Op;
 
-/// What an instruction does to its hart.
+/// The effect of an instruction on its hart.
 #[derive(Clone, Copy)]
 pub enum Effect {
-    /// rd takes the value.
+    /// rd is set to the value.
     Put(u64),
-    /// rd takes the address of the next instruction, and the hart goes on at the target.
+    /// rd is set to the address of the next instruction, and the hart continues at the target.
     Jump(u64),
-    /// Where the test holds, the hart goes on at the target.
+    /// If the test holds, the hart continues at the target.
     Branch(bool, u64),
-    /// rd takes the number at the address, zero-extended.
+    /// rd is set to the number at the address, zero-extended.
     Load(Width, u64),
-    /// rd takes the number at the address, sign-extended.
+    /// rd is set to the number at the address, sign-extended.
     LoadSigned(Width, u64),
-    /// The low bytes of the value go to the address.
+    /// The low bytes of the value are written at the address.
     Store {
         width: Width,
         at: u64,
         value: u64,
     },
-    /// Nothing.
+    /// No effect but the next instruction.
     Next,
-    /// The system is called.
+    /// Calls the system.
     Call,
-    /// The hart stops.
+    /// Stops the hart.
     Break,
-    /// rd takes the number at the address, sign-extended, and its bytes are reserved.
+    /// rd is set to the number at the address, sign-extended, and its bytes are reserved.
     LoadReserved(Width, u64),
-    /// Where these bytes are reserved, they take the low bytes of the value and rd 0; elsewhere rd takes 1. The reservation ends.
+    /// If these bytes are reserved, the low bytes of the value are written there and rd is set to 0; otherwise rd is
+    /// set to 1. The reservation ends.
     StoreConditional {
         width: Width,
         at: u64,
         value: u64,
     },
-    /// rd takes the number at the address, sign-extended, and what the operation makes of it and the value goes there.
+    /// rd is set to the number at the address, sign-extended. The operation's result on that number and the value is written there.
     Amo {
         operation: AmoOperation,
         width: Width,
@@ -55,7 +56,7 @@ pub enum Effect {
     },
 }
 
-/// What an atomic memory operation makes of the number in memory and the value of rs2.
+/// How an atomic memory operation combines the number in memory with the value of rs2.
 #[derive(Clone, Copy)]
 pub enum AmoOperation {
     Swap,
@@ -69,7 +70,7 @@ pub enum AmoOperation {
     MaxUnsigned,
 }
 
-/// The effect of a row on the values of rs1 and rs2, the immediate and the pc: a line for each row, as in
+/// The effect of a row, from the values of rs1 and rs2, the immediate and the pc. There is one line for each row, as in
 /// `specs/Meaning.antt`.
 #[inline(always)]
 pub fn effect_of(op: Op, a: u64, b: u64, imm: i64, pc: u64) -> Effect
@@ -105,7 +106,7 @@ pub fn effect_of(op: Op, a: u64, b: u64, imm: i64, pc: u64) -> Effect
     }
 }
 
-/// The effect of the rows that need neither the immediate as an offset nor the pc: the atomic rows, and those that compute a value.
+/// The effect of a row that uses neither the pc nor an immediate offset: the atomic rows, and the rows that compute a value.
 #[inline(always)]
 fn other_effect_of(op: Op, a: u64, b: u64, i: u64) -> Effect
     ensures { result ≡ other_effect op a b i }
@@ -166,7 +167,8 @@ fn amo(operation: AmoOperation, width: Width, at: u64, value: u64) -> Effect
     }
 }
 
-/// What a row that computes from rs1 and rs2 or the immediate puts into rd, a line for each such row; 0 for the others.
+/// The value that a row computes from rs1 and rs2 or the immediate; 0 for a row that computes none from these. There is
+/// one line for each such row.
 #[inline(always)]
 fn value_of(op: Op, a: u64, b: u64, i: u64) -> u64
     ensures { result ≡ computed op a b i }

@@ -28,12 +28,12 @@ macro_rules! by_operation {
     };
 }
 
-/// An address that no pc is, since it is odd.
+/// An address that is never a pc, because it is odd.
 const NO_PC: u64 = 1;
 
 /// A hart of RV64IMA with its memory.
 ///
-/// Contracts see it as its state: the registers, the pc, the memory as one map of bytes, and the reservation.
+/// Contracts see its state: the registers, the pc, the memory as one map of bytes, and the reservation.
 #[derive(Drop)]
 pub struct Hart<R: Ram> {
     registers: [u64; 32],
@@ -80,7 +80,7 @@ impl<R: Ram> Hart<R> {
         self.registers[usize::from(number)]
     }
 
-    /// Sets a register; x0 keeps its 0.
+    /// Sets a register; x0 stays 0.
     #[inline(always)]
     pub fn set_reg(&mut self, number: u8, value: u64)
         requires { number < 32 }
@@ -101,14 +101,14 @@ impl<R: Ram> Hart<R> {
     /// The registers x0 to x31.
     pub fn registers(&self) -> [u64; 32]
         ensures value { result ≡ self.now.registers }
-        // Registers and pc are numbers of 64 bits.
+        // The registers and the pc are below 2^64.
         ensures numbers { HasNumbers self.now }
     {
         show_numbers(&self.registers, self.pc);
         self.registers
     }
 
-    /// Shows that the hart keeps its rules, and that registers and pc are numbers of 64 bits.
+    /// Proves that the hart is well-formed, and that its registers and pc are below 2^64.
     pub fn show_rules(&self)
         ensures hart { IsHart self.now }
         ensures numbers { HasNumbers self.now }
@@ -123,7 +123,7 @@ impl<R: Ram> Hart<R> {
         &self.ram
     }
 
-    /// The memory, to be changed.
+    /// The memory, borrowed mutably.
     pub fn ram_mut(&mut self) -> &mut R
         ensures value { R.bytes result.now ≡ self.old.memory }
         ensures* writes_back { sem 𝓛 (Lends (the_row R.row R.Ram) R.row self.entry result
@@ -132,14 +132,14 @@ impl<R: Ram> Hart<R> {
         &mut self.ram
     }
 
-    /// What is reserved, if anything is.
+    /// The reserved bytes, if any.
     pub fn reservation(&self) -> Option<Reservation>
         ensures { option_map reserved_bytes result ≡ self.now.reservation }
     {
         self.reservation
     }
 
-    /// Sets what is reserved.
+    /// Sets the reserved bytes.
     pub fn set_reservation(&mut self, held: Option<Reservation>)
         requires { IsReservation (option_map reserved_bytes held) }
         ensures { self.new ≡ record self.old { reservation = option_map reserved_bytes held } }
@@ -147,7 +147,7 @@ impl<R: Ram> Hart<R> {
         self.reservation = held;
     }
 
-    /// Answers a call: x10 takes the value, the reservation ends, and the hart goes on at the next instruction.
+    /// Answers a call: x10 is set to the value, the reservation ends, and the hart continues at the next instruction.
     pub fn answer(&mut self, value: u64)
         ensures { self.new ≡ record (with_register self.old 10 value) { pc = following self.old; reservation = None } }
     {
@@ -156,10 +156,9 @@ impl<R: Ram> Hart<R> {
         self.pass();
     }
 
-    /// One step: fetches the four bytes at the pc and carries out their instruction.
+    /// One step: fetches the four bytes at the pc and executes their instruction.
     ///
-    /// Want of memory can come only in a store that would go on, and like every answer but `Done` it
-    /// leaves the hart as it was.
+    /// Only a store that could otherwise complete can run out of memory. Like every result but `Done`, this leaves the hart unchanged.
     #[inline(always)]
     pub fn step(&mut self) -> StepEnd
         ensures act { Acts self.old result self.new }
@@ -170,7 +169,7 @@ impl<R: Ram> Hart<R> {
         self.advance()
     }
 
-    /// Acts until one does not go on, at most `most` of them: how the last one ended, and how many went on before it.
+    /// Runs at most `most` instructions. Returns why it stopped and how many completed; `Done` means that all did.
     pub fn run(&mut self, most: u64) -> (StepEnd, u64)
         ensures acts { ActsInARow self.old most result.1 result.0 self.new }
         ensures mapping { (address : ℕ)
@@ -179,8 +178,9 @@ impl<R: Ram> Hart<R> {
         self.run_to(most, None)
     }
 
-    /// The same up to an address, where one is given: the step that comes to it is the last one. Where the hart stands at the start is not
-    /// asked, so at least one step is taken, unless `most` is 0.
+    /// Runs at most `most` instructions, and stops after a step that reaches the address `stop`, if one is given.
+    /// Returns why it stopped and how many completed. The address at the start is not compared, so at least one step is
+    /// taken unless `most` is 0.
     pub fn run_to(&mut self, most: u64, stop: Option<u64>) -> (StepEnd, u64)
         ensures acts { ActsTo stop self.old most result.1 result.0 self.new }
         ensures mapping { (address : ℕ)
@@ -190,9 +190,10 @@ impl<R: Ram> Hart<R> {
         (end, most - remaining)
     }
 
-    /// Acts until one does not go on or comes to the address, at most `most` of them: how the last one ended, and how many were left then.
+    /// Runs at most `most` instructions, and stops after a step that reaches the address `stop`. Returns why it stopped
+    /// and how many were left.
     ///
-    /// A function of its own that counts down, so that its loop needs one register for the count.
+    /// A separate function that counts down, so that its loop needs one register for the count.
     #[inline(never)]
     fn run_down(&mut self, most: u64, stop: u64) -> (StepEnd, u64)
         ensures acts { ActsDown stop self.old most result.1 result.0 self.new }
@@ -215,7 +216,7 @@ impl<R: Ram> Hart<R> {
         (StepEnd::Done, remaining)
     }
 
-    /// A step as its act says it.
+    /// One step, by the definition of an act.
     #[inline(always)]
     #[tactic(auto, unfolding(crate::specs::Hart::act, crate::specs::Hart::effect_at))]
     fn advance(&mut self) -> StepEnd
@@ -231,7 +232,7 @@ impl<R: Ram> Hart<R> {
         self.obey(word as u32)
     }
 
-    /// The word at the pc, where it is found without a search.
+    /// The word at the pc, if it is found without a search.
     #[inline(always)]
     fn fetch_near(&mut self) -> Option<u64>
         ensures same { self.new ≡ self.old }
@@ -241,7 +242,7 @@ impl<R: Ram> Hart<R> {
         self.ram.fetch_near(self.pc)
     }
 
-    /// What the memory answers to a load, kept out of the loop for addresses that are not found at once.
+    /// The result of a load by a search. Kept out of the loop, for addresses that are not found at once.
     #[cold]
     #[inline(never)]
     fn load_anywhere(&self, at: u64, width: Width) -> Option<u64>
@@ -251,7 +252,7 @@ impl<R: Ram> Hart<R> {
         self.ram.load(at, width)
     }
 
-    /// The same to a store.
+    /// The result of a store by a search, kept out of the loop as `load_anywhere` is.
     #[cold]
     #[inline(never)]
     fn store_anywhere(&mut self, at: u64, width: Width, value: u64) -> Result<(), StoreRefusal>
@@ -261,7 +262,7 @@ impl<R: Ram> Hart<R> {
         self.ram.store(at, width, value)
     }
 
-    /// Carries out a word.
+    /// Executes a word.
     #[inline(always)]
     fn obey(&mut self, word: u32) -> StepEnd
         ensures { EndsStep (runs self.old word (decoded word)) (option_map (effect_of self.old) (decoded word)) self.old result self.new }
@@ -272,8 +273,8 @@ impl<R: Ram> Hart<R> {
         }
     }
 
-    /// Carries out a word by its operation. Each arm is compiled for the operation that it names, and so reads the fields of that
-    /// operation's form alone.
+    /// Executes a word by its operation. Each arm is compiled for the operation that it names, and so reads only the
+    /// fields of that operation's form.
     #[inline(always)]
     fn dispatch(&mut self, op: Op, word: u32) -> StepEnd
         requires { option_map (λ row. row.op) (row_for word) ≡ Some op }
@@ -287,7 +288,7 @@ impl<R: Ram> Hart<R> {
         }
     }
 
-    /// Carries out a word of an atomic row or of none.
+    /// Executes a word of an atomic row, or of none.
     #[inline(always)]
     fn obey_seldom(&mut self, word: u32) -> StepEnd
         ensures { EndsStep (runs self.old word (decoded word)) (option_map (effect_of self.old) (decoded word)) self.old result self.new }
@@ -295,8 +296,9 @@ impl<R: Ram> Hart<R> {
         self.obey_rare(word).step_end()
     }
 
-    /// The same, out of the loop: the arms of the atomic rows would make it too large to be compiled as one, and an answer that does not
-    /// fit two registers would be cleared in memory at each of its steps.
+    /// Executes a word of an atomic row or of none, outside the loop.
+    /// With the arms of the atomic rows, the loop would be too large to be compiled as one. A result that does not fit
+    /// two registers would be cleared in memory at each step.
     #[cold]
     #[inline(never)]
     fn obey_rare(&mut self, word: u32) -> FlatEnd
@@ -305,7 +307,7 @@ impl<R: Ram> Hart<R> {
         FlatEnd::of(self.obey_by_row(word))
     }
 
-    /// Carries out a word of any row or of none.
+    /// Executes a word of any row, or of none.
     fn obey_by_row(&mut self, word: u32) -> StepEnd
         ensures { EndsStep (runs self.old word (decoded word)) (option_map (effect_of self.old) (decoded word)) self.old result self.new }
     {
@@ -315,7 +317,7 @@ impl<R: Ram> Hart<R> {
         }
     }
 
-    /// Carries out a word whose row is that of this operation.
+    /// Executes a word whose row is that of this operation.
     #[inline(always)]
     fn perform(&mut self, op: Op, word: u32) -> StepEnd
         requires { option_map (λ row. row.op) (row_for word) ≡ Some op }
@@ -332,7 +334,7 @@ impl<R: Ram> Hart<R> {
         self.carry_out(inst.rd, effect)
     }
 
-    /// Carries out the effect of an instruction with this rd.
+    /// Applies the effect of an instruction with this rd.
     #[inline(always)]
     fn carry_out(&mut self, rd: u8, effect: Effect) -> StepEnd
         requires rd { rd < 32 }
@@ -365,7 +367,7 @@ impl<R: Ram> Hart<R> {
         }
     }
 
-    /// Carries out a load-reserved.
+    /// Executes a load-reserved.
     #[cold]
     #[inline(never)]
     fn load_reserved(&mut self, rd: u8, width: Width, at: u64) -> StepEnd
@@ -384,7 +386,7 @@ impl<R: Ram> Hart<R> {
         }
     }
 
-    /// Carries out a store-conditional.
+    /// Executes a store-conditional.
     #[cold]
     #[inline(never)]
     fn store_conditional(&mut self, rd: u8, width: Width, at: u64, value: u64) -> StepEnd
@@ -413,7 +415,7 @@ impl<R: Ram> Hart<R> {
         }
     }
 
-    /// Carries out an atomic memory operation.
+    /// Executes an atomic memory operation.
     #[cold]
     #[inline(never)]
     fn amo(&mut self, rd: u8, operation: AmoOperation, width: Width, at: u64, value: u64) -> StepEnd
@@ -438,7 +440,7 @@ impl<R: Ram> Hart<R> {
         }
     }
 
-    /// The number at an address, where that is a multiple of the width and mapped.
+    /// The number at an address, if the address is a multiple of the width and the bytes are mapped.
     fn reads_aligned(&self, at: u64, width: Width) -> Option<u64>
         ensures value { result ≡ reads_aligned self.now.memory at (count_of width) }
         ensures fits { IfSome result (λ value. value < 2 ^ (8 * count_of width)) }
@@ -460,7 +462,7 @@ impl<R: Ram> Hart<R> {
         }
     }
 
-    /// Carries out a jump.
+    /// Executes a jump.
     #[inline(always)]
     fn jump(&mut self, rd: u8, target: u64) -> StepEnd
         requires { rd < 32 }
@@ -475,7 +477,7 @@ impl<R: Ram> Hart<R> {
         StepEnd::Done
     }
 
-    /// Carries out a branch.
+    /// Executes a branch.
     #[inline(always)]
     fn branch(&mut self, taken: bool, target: u64) -> StepEnd
         ensures { EndsStep (carried self.old 0 (Effect.Branch taken target)) None
@@ -491,7 +493,7 @@ impl<R: Ram> Hart<R> {
         StepEnd::Done
     }
 
-    /// Carries out a load, which sign-extends where `is_signed` holds and zero-extends elsewhere.
+    /// Executes a load; sign-extends if `is_signed` holds, and zero-extends otherwise.
     #[inline(always)]
     fn load(&mut self, rd: u8, width: Width, at: u64, is_signed: bool) -> StepEnd
         requires { rd < 32 }
@@ -514,7 +516,7 @@ impl<R: Ram> Hart<R> {
         self.pass()
     }
 
-    /// Carries out a store.
+    /// Executes a store.
     #[inline(always)]
     #[tactic(auto, using(crate::proofs::StoredBytes::stored))]
     fn store(&mut self, width: Width, at: u64, value: u64) -> StepEnd
@@ -531,7 +533,7 @@ impl<R: Ram> Hart<R> {
         }
     }
 
-    /// Goes on at the next instruction.
+    /// Continues at the next instruction.
     #[inline(always)]
     fn pass(&mut self) -> StepEnd
         ensures end { result ≡ StepEnd.Done }
@@ -554,7 +556,7 @@ fn is_multiple(at: u64, width: Width) -> bool
     }
 }
 
-/// Shows that registers and pc are numbers of 64 bits.
+/// Proves that the registers and the pc are below 2^64.
 fn show_numbers(registers: &[u64], pc: u64)
     ensures registers { All (λ value. value < 2 ^ 64) registers.now }
     ensures pc { pc < 2 ^ 64 }

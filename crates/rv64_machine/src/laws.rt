@@ -1,4 +1,4 @@
-//! What holds of every act. Each law is the contract of a function, which does nothing but the steps that it speaks of.
+//! Laws of every act. Each law is the contract of a function that does nothing, or nothing but the steps that it mentions.
 
 ghost use Rattle.paged_mem.specs.Memory.{reads};
 ghost use Rattle.paged_mem.specs.Ram.{count_of};
@@ -16,8 +16,9 @@ use crate::answer::StepEnd;
 use crate::hart::Hart;
 use paged_mem::Ram;
 
-/// A step reads nothing but the registers, the pc and the mapped bytes: two harts that are equal in these
-/// answer alike and are equal afterwards, over whatever memories they stand, unless one wants memory.
+/// A step reads nothing but the registers, the pc, the mapped bytes and the reservation.
+/// Two harts that are equal in these return the same and are equal afterwards, whatever their memories are, unless one
+/// runs out of memory.
 pub fn equal_harts_step_alike<R: Ram, S: Ram>(
     one: &mut Hart<R>,
     other: &mut Hart<S>,
@@ -31,20 +32,20 @@ pub fn equal_harts_step_alike<R: Ram, S: Ram>(
     (one.step(), other.step())
 }
 
-/// A row other than a store, and other than an atomic row that stores, leaves memory as it was: a store-conditional of other bytes than
-/// the reserved ones does too.
+/// A row that is not a store leaves the memory unchanged. The atomic memory operations count as stores; a
+/// store-conditional does only if its bytes are reserved.
 pub fn only_stores_write()
     ensures { (hart next : HartState) → act hart ≡ GoesOn next → is_store hart.reservation (effect_at hart) ≡ false
         → next.memory ≡ hart.memory }
 {}
 
-/// An act maps and unmaps nothing.
+/// An act neither maps nor unmaps an address.
 pub fn nothing_is_mapped()
     ensures { (hart next : HartState) → act hart ≡ GoesOn next
         → (address : ℕ) → contains_key next.memory address ≡ contains_key hart.memory address }
 {}
 
-/// A store changes the bytes of its access alone, to the low bytes of its value.
+/// A store changes only the bytes of its access, to the low bytes of its value.
 pub fn a_store_writes_its_access()
     ensures access { (hart next : HartState) (width : Width) (at value : ℕ)
         → act hart ≡ GoesOn next → effect_at hart ≡ Some (Store width at value)
@@ -55,7 +56,7 @@ pub fn a_store_writes_its_access()
         → get next.memory address ≡ get hart.memory address }
 {}
 
-/// A store-conditional of the reserved bytes changes these alone, to the low bytes of its value.
+/// A store-conditional of the reserved bytes changes only these, to the low bytes of its value.
 pub fn a_store_conditional_writes_its_access()
     ensures access { (hart next : HartState) (width : Width) (at value : ℕ)
         → act hart ≡ GoesOn next → effect_at hart ≡ Some (StoreConditional width at value)
@@ -67,7 +68,7 @@ pub fn a_store_conditional_writes_its_access()
         → get next.memory address ≡ get hart.memory address }
 {}
 
-/// An atomic memory operation changes the bytes of its access alone, to the low bytes of what it makes of the number that they held.
+/// An atomic memory operation changes only the bytes of its access, to the low bytes of its result on the old number.
 pub fn an_amo_writes_its_access()
     ensures access { (hart next : HartState) (operation : AmoOperation) (width : Width) (at value : ℕ)
         → act hart ≡ GoesOn next → effect_at hart ≡ Some (Amo operation width at value)
@@ -79,22 +80,22 @@ pub fn an_amo_writes_its_access()
         → get next.memory address ≡ get hart.memory address }
 {}
 
-/// A store into code is what the next fetch sees: after a word is stored over the next instruction, the
-/// next act is that word's.
+/// The next fetch sees a store into code: after a word is stored over the next instruction, the next act executes that word.
 pub fn a_stored_word_is_fetched()
     ensures { (hart next : HartState) (value : ℕ)
         → act hart ≡ GoesOn next → effect_at hart ≡ Some (Store Width.W4 next.pc value)
         → act next ≡ runs next (value % 2 ^ 32) (decoded (value % 2 ^ 32)) }
 {}
 
-/// An act of a hart that goes on leaves a hart: 32 registers of which x0 is 0, a pc at a multiple of 4, and memory of whole
-/// pages of bytes; and where registers and pc were numbers of 64 bits, they are.
+/// An act of a well-formed hart that continues leaves a well-formed hart: 32 registers with x0 = 0, a pc that is a
+/// multiple of 4, and memory in whole pages of bytes.
+/// If the registers and the pc were below 2^64, they still are.
 pub fn acts_keep_the_rules()
     ensures rules { (hart next : HartState) → IsHart hart → act hart ≡ GoesOn next → IsHart next }
     ensures numbers { (hart next : HartState) → IsHart hart → HasNumbers hart → act hart ≡ GoesOn next → HasNumbers next }
 {}
 
-/// The answer to a call does too.
+/// The answer to a call leaves a well-formed hart, and registers and a pc below 2^64.
 pub fn answers_keep_the_rules()
     ensures rules { (hart : HartState) (value : ℕ) → IsHart hart
         → IsHart (record (with_register hart 10 value) { pc = following hart; reservation = None }) }
@@ -102,7 +103,7 @@ pub fn answers_keep_the_rules()
         → HasNumbers (record (with_register hart 10 value) { pc = following hart; reservation = None }) }
 {}
 
-/// What a hart without the atomic rows does, a hart with them does too, and the reservation stays.
+/// A hart with the atomic rows does everything that a hart without them does, and keeps the reservation.
 pub fn acts_without_atomics_stand()
     ensures { (hart : HartState) → ActsWithoutAtomicsStand hart }
 {}

@@ -1,8 +1,8 @@
 //! One RV64IMA hart: its registers, its pc, its memory and its reservation, and one step of it.
 //!
-//! The source of what each instruction does is The RISC-V Instruction Set Manual, Volume I (Unprivileged
-//! ISA): "RV32I", "RV64I", "M" and "A". That a hart stops at a trap, and what the causes hold, is this
-//! project's own. The rules are in docs/reference/machine.md.
+//! The source of what each instruction does is The RISC-V Instruction Set Manual, Volume I (Unprivileged ISA): "RV32I",
+//! "RV64I", "M" and "A".
+//! This project chose that a hart stops at a trap, and what the causes hold. The rules are in docs/reference/machine.md.
 #![tactic(auto)]
 
 mod answer;

@@ -1,2 +1,2 @@
--- How the code finds a row: no promise rests on these files being read.
+-- How the code finds a row. To read the promises, these files are not needed.
 pub mod Lookup

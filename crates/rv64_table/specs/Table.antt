@@ -8,8 +8,8 @@ use Rattle.rv64_table.specs.declared.Form.TheVariants.{R, I, H, K, S, B, U, J, E
 use Rattle.rv64_table.specs.declared.Op.{Op}
 use Rattle.rv64_table.specs.declared.Op.TheVariants.{Lui, Auipc, Jal, Jalr, Beq, Bne, Blt, Bge, Bltu, Bgeu, Lb, Lh, Lw, Ld, Lbu, Lhu, Lwu, Sb, Sh, Sw, Sd, Addi, Slti, Sltiu, Xori, Ori, Andi, Slli, Srli, Srai, Add, Sub, Sll, Slt, Sltu, Xor, Srl, Sra, Or, And, Fence, Ecall, Ebreak, Addiw, Slliw, Srliw, Sraiw, Addw, Subw, Sllw, Srlw, Sraw, Mul, Mulh, Mulhsu, Mulhu, Div, Divu, Rem, Remu, Mulw, Divw, Divuw, Remw, Remuw, Lrw, Scw, Amoswapw, Amoaddw, Amoxorw, Amoandw, Amoorw, Amominw, Amomaxw, Amominuw, Amomaxuw, Lrd, Scd, Amoswapd, Amoaddd, Amoxord, Amoandd, Amoord, Amomind, Amomaxd, Amominud, Amomaxud}
 
--- the bits that a form fixes: the opcode in bits 6..0, funct3 in 14..12, funct7 (H: funct6, L and A: funct5) from 31 on, L's
--- rs2 too, or all
+-- the bits that a form fixes: the opcode in bits 6..0, funct3 in 14..12, funct7 (H: funct6, L and A: funct5) from 31
+-- down; L also fixes rs2, and E fixes all
 abbrev pub mask_of : Form → ℕ
 mask_of R = 0xFE00707F
 mask_of I = 0x0000707F
@@ -23,7 +23,7 @@ mask_of E = 0xFFFFFFFF
 mask_of L = 0xF9F0707F
 mask_of A = 0xF800707F
 
--- the row of an operation by its form, opcode, funct3 and funct7, the last two 0 where the form does not fix them
+-- the row of an operation by its form, opcode, funct3 and funct7; the last two are 0 if the form does not fix them
 abbrev pub row : Form → ℕ → ℕ → ℕ → Op → Row
 row form opcode funct3 funct7 op =
     record { mask = mask_of form; want = opcode + funct3 * 2 ^ 12 + funct7 * 2 ^ 25; form = form; op = op }
@@ -36,7 +36,7 @@ whole_word word op = record { mask = mask_of E; want = word; form = E; op = op }
 abbrev pub atomic : Form → ℕ → ℕ → Op → Row
 atomic form funct3 funct5 op = row form 0x2F funct3 (funct5 * 2 ^ 2) op
 
--- the table
+-- the table, in the standard's order
 unfoldable pub table : List Row
 table =
     row U 0x37 0 0x00 Lui
@@ -136,7 +136,7 @@ matches r word = bit_and word r.mask == r.want
 abbrev pub row_for : ℕ → Option Row
 row_for word = find (λ r. matches r word) table
 
--- the number of an operation: where its row stands in the table, and what the cast `op as usize` gives
+-- the number of an operation: the index of its row in the table, and the value of the cast `op as usize`
 abbrev pub op_number : Op → ℕ
 op_number Lui = 0
 op_number Auipc = 1
@@ -226,7 +226,7 @@ op_number Amomaxd = 84
 op_number Amominud = 85
 op_number Amomaxud = 86
 
--- whether an operation is one of the extension A: their rows stand after the 65 of RV64I and M
+-- whether an operation belongs to the extension A: these rows follow the 65 rows of RV64I and M
 abbrev pub is_atomic : Op → Bool
 is_atomic op = nat_le 65 (op_number op)
 
@@ -234,11 +234,11 @@ is_atomic op = nat_le 65 (op_number op)
 abbrev pub row_with : Op → Option Row
 row_with op = find (λ r. op_number r.op == op_number op) table
 
--- a row that a word matches is the row of the word
+-- any row that a word matches is the row of the word
 abbrev pub FitsItsRow : Type 0
 FitsItsRow = (word i : ℕ) (r : Row) → slice_get table i ≡ Some r → IsTrue (matches r word) → row_for word ≡ Some r
 
--- no word matches two rows: where a word matches the rows at two places, the places are one
+-- no word matches two rows: if a word matches the rows at two indices, the indices are equal
 abbrev pub Apart : Type 0
 Apart =
     (word i j : ℕ) (r s : Row)

@@ -1,4 +1,4 @@
-//! What holds of the table alone. Each law is the contract of a function that does nothing.
+//! Laws of the table alone. Each law is the contract of a function that does nothing.
 
 ghost use Rattle.rv64_table.specs.Table.{Apart, FitsItsRow};
 
@@ -7,7 +7,7 @@ pub fn no_word_matches_two_rows()
     ensures { Apart }
 {}
 
-/// The row that a word matches is the word's row, wherever it stands in the table.
+/// Any row that a word matches is the word's row, whatever the index of the row in the table.
 pub fn a_fitting_row_is_the_row()
     ensures { FitsItsRow }
 {}

@@ -25,17 +25,17 @@ pub enum Form {
     K,
     /// Two source registers and a signed immediate of 12 bits.
     S,
-    /// As S, but the immediate is a branch offset of 13 bits, a multiple of 2.
+    /// As S, but the immediate is a branch offset of 13 bits, which is even.
     B,
     /// A destination and the upper 20 bits of an immediate of 32 bits.
     U,
-    /// A destination and a jump offset of 21 bits, a multiple of 2.
+    /// A destination and a jump offset of 21 bits, which is even.
     J,
     /// No fields: every bit is fixed.
     E,
-    /// As A, but without a second source register: load-reserved.
+    /// As A, but without a second source register. This is the form of load-reserved.
     L,
-    /// As R, but funct7 is funct5 and two bits for the order of accesses, which stand as the immediate.
+    /// As R, but funct7 consists of funct5 and the two bits for the order of accesses, which are the immediate.
     A,
 }
 
@@ -141,7 +141,7 @@ impl Op {
     ghost use Rattle.std.specs.Prelude.{Some, option_map};
     ghost use Rattle.rv64_table.specs.Table.{op_number, row_with};
 
-    /// The form of this operation's row. A match, so that a decoder that has just found the operation need not look.
+    /// The form of this operation's row. It is a match on the operation, so a decoder that has found the operation reads no table.
     #[tactic(auto, unfolding(crate::specs::Table::table))]
     pub fn form(self) -> Form
         ensures { option_map (λ r. r.form) (row_with self) ≡ Some result }
@@ -163,7 +163,7 @@ impl Op {
         }
     }
 
-    /// The number of this operation: where its row stands in the table, from 0 on.
+    /// The number of this operation: the index of its row in the table, from 0.
     pub fn number(self) -> usize
         ensures { result ≡ op_number self }
     {
@@ -180,14 +180,14 @@ impl Op {
     }
 }
 
-/// A row of the table: the words with `word & mask == want` are those of the operation `op`.
+/// A row of the table. The words with `word & mask == want` are those of the operation `op`.
 #[derive(Clone, Copy, PartialEq, Eq)]
 pub struct Row {
     /// The bits that the operation fixes.
     pub mask: u32,
-    /// What those bits are.
+    /// The values of those bits.
     pub want: u32,
-    /// Which fields the other bits hold.
+    /// The fields that the other bits hold.
     pub form: Form,
     /// The operation.
     pub op: Op,
@@ -199,7 +199,7 @@ macro_rules! table {
     };
 }
 
-/// The table, by the masks and values of the words themselves.
+/// The table, with each row's mask and value as bits of the word.
 static ROWS: [Row; 87] = table! {
     U 0x0000_007F 0x0000_0037 Lui
     U 0x0000_007F 0x0000_0017 Auipc

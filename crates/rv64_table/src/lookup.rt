@@ -1,4 +1,4 @@
-//! The row of a word, by its opcode and its fields funct3, funct7 and, of a load-reserved, rs2.
+//! Finds the row of a word from its opcode and its fields funct3, funct7 and, for a load-reserved, rs2.
 
 ghost use Rattle.std.specs.Prelude.{◌≡◌, ◌==◌, ℕ, ◌+◌, ◌*◌, ◌/◌, ◌%◌, IfSome, Some, option_map, find};
 ghost use Rattle.rv64_table.specs.Table.{matches, row_for, table};
@@ -34,7 +34,7 @@ const OPCODE_OP_32: u32 = 0x3B;
 
 const OPCODE_AMO: u32 = 0x2F;
 
-/// The operation whose row has these bits: `word & mask == want`. None where the word has no row.
+/// The operation whose row has these bits (`word & mask == want`); `None` if the word has no row.
 #[inline(always)]
 pub fn row_of(word: u32) -> Option<Op>
     ensures { result ≡ option_map (λ r. r.op) (row_for word) }
@@ -69,8 +69,9 @@ macro_rules! by_key {
     };
 }
 
-/// The operation of a word's row by its opcode and funct3, which are one number: in octal, two digits for bits 6 to 2 of the word, and one
-/// for funct3. Only the arms that need funct7 take it. `None` says nothing: atomic rows are not looked for.
+/// The operation of a word's row, from a number made of its opcode and funct3. In octal, the number has two digits for
+/// bits 6 to 2 of the word and one for funct3.
+/// Only the arms that need funct7 read it. `None` does not say that the word has no row: atomic rows are not searched.
 #[inline(always)]
 #[tactic(auto, unfolding(crate::specs::Table::table))]
 fn at_key(key: u32, word: u32) -> Option<Op>
@@ -102,7 +103,8 @@ fn at_key(key: u32, word: u32) -> Option<Op>
     }
 }
 
-/// The operation of a word's row, found by one jump; `None` says nothing: `row_of` answers then. A loop over many words asks this first.
+/// The operation of a word's row, found by one jump. `None` does not say that the word has no row: ask `row_of` then. A
+/// loop over many words asks this function first.
 #[inline(always)]
 pub fn row_at_once(word: u32) -> Option<Op>
     ensures { IfSome result (λ op. option_map (λ r. r.op) (row_for word) ≡ Some op) }
@@ -258,7 +260,8 @@ fn op_32(funct3: u32, funct7: u32) -> Option<Op>
     }
 }
 
-/// By funct5, which stands above the two bits for the order of accesses; rs2, above rs1 in `registers`, is 0 in a load-reserved.
+/// The operation of an atomic row from funct5, the upper five bits of funct7. `registers` holds rs2 above rs1; rs2 is 0
+/// in a load-reserved.
 #[tactic(auto, unfolding(crate::specs::Table::table))]
 fn atomic(funct3: u32, funct7: u32, registers: u32) -> Option<Op>
     ensures { result ≡ pick (rows_of OPCODE_AMO table) funct3 funct7 registers }

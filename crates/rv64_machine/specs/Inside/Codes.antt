@@ -1,4 +1,4 @@
--- A hart as the data that a ghost field keeps.
+-- A hart as the data that a ghost field holds.
 use Rattle.std.specs.Prelude.{ℕ, List, Option, refl}
 use Rattle.std.specs.Coded.{Coded, code_by, coded×, coded_ℕ, coded_list, coded_option}
 use Rattle.std.specs.FinMap as map

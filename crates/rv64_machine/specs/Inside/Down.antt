@@ -1,10 +1,10 @@
--- Steps up to an address as the code's loop takes them, which counts down. No promise rests on its being read.
+-- Steps up to an address in the code's loop, which counts down. To read the promises, this file is not needed.
 use Rattle.std.specs.Prelude.{◌≡◌, ℕ, ◌-◌, ◌%◌, ◌<◌, ◌≤◌, ◌⊎◌, Some}
 use Rattle.rv64_machine.specs.declared.answer.StepEnd.{StepEnd}
 use Rattle.rv64_machine.specs.declared.answer.StepEnd.TheVariants as end
 use Rattle.rv64_machine.specs.Hart.{HartState, Acts, ComesTo, passed}
 
--- how they ended, and how many were left; a stop that was reached is a multiple of 4, as each pc is
+-- how the steps ended, and how many were left; a stop that was reached is a multiple of 4, as each pc is
 abbrev pub ActsDown : ℕ → HartState → ℕ → ℕ → StepEnd → HartState → Type 0
 ActsDown stop old most remaining end.Done new =
     ((remaining ≡ 0) × (passed (Some stop) old most ≡ Some new)) ⊎ (ComesTo (Some stop) old most (most - remaining) new × (remaining < most) × (stop % 4 ≡ 0))

@@ -1,4 +1,4 @@
--- The answer of a step that the code has as one flat enum. No promise rests on its being read.
+-- The result of a step as one flat enum, which the code uses. To read the promises, this file is not needed.
 use Rattle.rv64_machine.specs.declared.answer.FlatEnd.{FlatEnd}
 use Rattle.rv64_machine.specs.declared.answer.FlatEnd.TheVariants as flat
 use Rattle.rv64_machine.specs.declared.answer.Cause.TheVariants as cause
