@@ -1,4 +1,4 @@
--- How the fields of the objects are seen, and tests that compute. It serves the proofs: no promise rests on its being read.
+-- How contracts see the fields of objects, and tests that compute. To read the promises, these files are not needed.
 pub mod FailedCall
 pub mod HexTests
 pub mod Host

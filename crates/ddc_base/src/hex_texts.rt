@@ -15,7 +15,7 @@ pub enum HexFail {
     OutOfMemory,
 }
 
-/// The bytes whose hexadecimal text this is, two lower-case digits for each.
+/// The bytes of a hexadecimal text with two lower-case digits for each.
 #[tactic(auto, using(crate::proofs::HexTexts::hex_texts))]
 pub fn read_hex(alloc: Global, text: &[u8]) -> Result<Bytes, HexFail>
     ensures value { IfOk result (IsHexOf text.now) }
@@ -32,14 +32,14 @@ pub fn read_hex(alloc: Global, text: &[u8]) -> Result<Bytes, HexFail>
     }
 }
 
-/// Whether a text is an even number of lower-case digits.
+/// Whether a text is an even number of lower-case hexadecimal digits.
 fn is_lower_hex(text: &[u8]) -> bool
     ensures { result ≡ test.is_lower_hex text.now }
 {
     text.len() % 2 == 0 && are_lower_digits(text)
 }
 
-/// Whether every byte is a digit of lower case, `0` to `9` or `a` to `f`.
+/// Whether every byte is a lower-case digit, `0` to `9` or `a` to `f`.
 pub fn are_lower_digits(text: &[u8]) -> bool
     ensures { result ≡ list_all is_lower_digit text.now }
 {

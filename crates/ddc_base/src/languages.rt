@@ -1,4 +1,4 @@
-//! The languages that ddc defines, by the words that name them in recipes, reports and command lines.
+//! The languages that ddc defines, by their names in recipes, reports and command lines.
 
 ghost use Rattle.std.specs.Prelude.{◌≡◌, Some};
 ghost use Rattle.ddc_base.specs.Languages.Words.{language_named, language_word};
@@ -6,23 +6,23 @@ ghost use Rattle.ddc_base.specs.declared.languages.Language.{Language};
 
 pub mod laws;
 
-/// A language of a bootstrap chain's first stages that ddc defines, so that a source in it needs no trust in a program.
+/// A language of a bootstrap chain's first stages that ddc defines, so a source in it needs no trust in a program.
 ///
 /// Public source: the languages of these names of stage0-posix and mescc-tools. docs/reference/ has the rules of each.
 #[derive(Clone, Copy, PartialEq, Eq)]
 pub enum Language {
     /// Hexadecimal digits with comments.
     Hex0,
-    /// With labels of one byte.
+    /// Hex0 with labels of one byte.
     Hex1,
-    /// With labels of any length.
+    /// Hex1 with labels of any length.
     Hex2,
-    /// With definitions, numbers and texts: a macro assembler that gives hex2.
+    /// A macro assembler whose output is hex2: definitions, numbers and texts.
     M1,
 }
 
 impl Language {
-    /// The language that a word names: `hex0`, `hex1`, `hex2` or `m1`; `None` for every other word.
+    /// The language that a word names (`hex0`, `hex1`, `hex2` or `m1`); `None` for every other word.
     #[tactic(auto, unfolding(crate::specs::Languages::Words::language_named))]
     pub fn named(word: &[u8]) -> Option<Language>
         ensures { result ≡ language_named word.now }
@@ -36,7 +36,7 @@ impl Language {
         }
     }
 
-    /// The word that names it.
+    /// The name of the language.
     #[tactic(auto, unfolding(crate::specs::Languages::Words::language_word))]
     pub fn word(self) -> &'static str
         ensures { result.now ≡ language_word self }

@@ -5,7 +5,7 @@ use crate::byte_list::OutOfMemory;
 use std::alloc::Global;
 use std::marker::Model;
 
-/// Values in a row, which contracts see as the list of the values.
+/// A list of values. Contracts see it as a list.
 ///
 /// It keeps the allocator that its constructor took.
 #[derive(Drop)]
@@ -20,7 +20,7 @@ impl<T> Model for ListOf<T> {
 }
 
 impl<T> ListOf<T> {
-    /// No values. It takes no memory.
+    /// No values. Allocates nothing.
     pub fn new(alloc: Global) -> ListOf<T>
         ensures { result ≡ [] }
     {
@@ -36,7 +36,7 @@ impl<T> ListOf<T> {
         self.items.len()
     }
 
-    /// Whether there is no value.
+    /// Whether there are no values.
     pub fn is_empty(&self) -> bool
         ensures { IsTrue result ↔ (self.now ≡ []) }
     {
@@ -59,7 +59,7 @@ impl<T> ListOf<T> {
 }
 
 impl<T: Drop> ListOf<T> {
-    /// Adds one value at the end; want of memory leaves the list as it was.
+    /// Appends one value. Out of memory: the list is unchanged.
     pub fn push(&mut self, item: T) -> Result<(), OutOfMemory>
         ensures ok { OnOk result (self.new ≡ self.old ++ item ∷ []) }
         ensures err { OnErr result (self.new ≡ self.old) }

@@ -1,4 +1,4 @@
-//! How tables over names from outside are hashed.
+//! How tables over names from outside the program are hashed.
 
 ghost use Rattle.std.specs.Hash.DefaultHasher as sip;
 ghost use Rattle.std.specs.Prelude.{◌≡◌, [], ◌++◌, ℕ, List};
@@ -9,14 +9,14 @@ ghost use Rattle.ddc_base.specs.NameTables.{begun_with, framed};
 use sha2::{Digest as _, Sha256};
 use std::hash::{BuildHasher, DefaultHasher, Hasher};
 
-/// Takes the names that will go into a table, one after the other. It takes no memory.
+/// Digests the names that will be the keys of a table, one after the other. Allocates nothing.
 #[derive(Drop)]
 pub struct NamesDigest {
     taken: Sha256,
 }
 
 impl NamesDigest {
-    /// Of no names.
+    /// A digest of no names.
     pub fn new() -> NamesDigest
         ensures { Holds256 result.taken [] }
     {
@@ -25,7 +25,7 @@ impl NamesDigest {
         }
     }
 
-    /// Takes one more name.
+    /// Adds one more name.
     pub fn add(&mut self, name: &[u8])
         ensures { (message : List ℕ) → Holds256 self.old.taken message → Holds256 self.new.taken (message ++ framed name.now) }
     {
@@ -39,7 +39,7 @@ impl NamesDigest {
         self.taken.update(name);
     }
 
-    /// What hashes the names in their table.
+    /// The hasher of the table of these names.
     pub fn key(self) -> NamesKey
         ensures { (message : List ℕ) → Holds256 self.taken message → result.begun ≡ begun_with (sha256 message) }
     {
@@ -49,15 +49,15 @@ impl NamesDigest {
     }
 }
 
-/// The `BuildHasher` of a table over names: SipHash that begins with the SHA-256 digest of all the names. Who changes a name changes
-/// the key, so that nobody can prepare names that collide.
+/// The `BuildHasher` of a table over names: SipHash whose first input is the SHA-256 digest of all the names.
+/// Any change of a name changes this key, so nobody can prepare names that collide.
 #[derive(Clone, Copy)]
 pub struct NamesKey {
     begun: DefaultHasher,
 }
 
 impl NamesKey {
-    /// The key of a table that nothing goes into.
+    /// The key of a table without entries.
     pub fn of_none() -> NamesKey
         ensures { result.begun ≡ sip.initial }
     {

@@ -5,7 +5,7 @@ ghost use Rattle.ddc_base.specs.Names.{is_name, is_name_byte, IsName};
 use arrayvec::ArrayVec;
 use std::marker::Model;
 
-/// A name: 1 to 32 bytes of `a` to `z`, `0` to `9` and `_`, which contracts see as these bytes. It takes no memory.
+/// A name: 1 to 32 bytes of `a` to `z`, `0` to `9` and `_`, which contracts see as these bytes. Allocates nothing.
 #[derive(Drop)]
 pub struct Name {
     text: ArrayVec<u8, 32>,
@@ -45,7 +45,7 @@ impl Eq for Name {
 impl Name {
     ghost use Rattle.ddc_base.specs.Names.{IsName, name_of};
 
-    /// The name that a text is, and `None` for every other text.
+    /// The name that a text spells; `None` for every other text.
     pub fn read(text: &[u8]) -> Option<Name>
         ensures { result ≡ name_of text.now }
     {
@@ -64,7 +64,7 @@ impl Name {
         self.text.as_slice()
     }
 
-    /// The same name again.
+    /// A copy of the name.
     pub fn copy(&self) -> Name
         ensures { result ≡ self.now }
     {
@@ -80,14 +80,14 @@ fn is_name_text(text: &[u8]) -> bool
     !text.is_empty() && text.len() <= 32 && are_name_bytes(text)
 }
 
-/// Whether every byte may stand in a name.
+/// Whether every byte is allowed in a name.
 fn are_name_bytes(text: &[u8]) -> bool
     ensures { result ≡ list_all is_name_byte text.now }
 {
     text.iter().all(|byte| is_name_letter(*byte))
 }
 
-/// Whether a byte may stand in a name.
+/// Whether a byte is allowed in a name.
 fn is_name_letter(byte: u8) -> bool
     ensures { result ≡ is_name_byte byte }
 {

@@ -1,7 +1,6 @@
-//! How a file of the host is set, so that what it held is lost only once all of the new content is written, and so that nobody gains a right.
-//!
-//! What a look at a path told may be otherwise at the next call, since strangers may change a shared folder. So each file that is written is one
-//! that this process made, or one that is looked at once more when it is open.
+//! Writing a file of the host. Its old content is lost only after all of the new content is written, and nobody gains a permission.
+//! In a shared directory, others may change a path between two calls. So each file that is written was made by this
+//! process, or is checked once more when it is open.
 
 ghost use Rattle.std.specs.Prelude.{◌≡◌, OnOk};
 ghost use Rattle.std.specs.Fs.{permissions_mode};
@@ -21,28 +20,28 @@ use std::os::unix::fs::{MetadataExt, OpenOptionsExt, PermissionsExt};
 use std::rt::Files;
 use std::{fs, io};
 
-/// The user's number of root.
+/// The user id of root.
 const ROOT: u32 = 0;
 
-/// What was seen under a path.
+/// What was found at a path.
 #[derive(Clone, Copy)]
 struct Found {
     standing: Standing,
     node: Node,
-    /// When the file's entry was changed last, in seconds and nanoseconds.
+    /// When the file's inode was last changed, in seconds and nanoseconds.
     changed: (i64, i64),
 }
 
-/// An old file that a new one is to take the path of.
+/// An old file whose path a new file is to get.
 #[derive(Clone, Copy)]
 struct Exchange {
-    /// What was seen under the path.
+    /// What was found at the path.
     old: Found,
-    /// Whom the new file belongs to.
+    /// The user and group of the new file.
     maker: Maker,
 }
 
-/// What the host says of a plain file.
+/// The properties of a regular file, from the host's metadata.
 fn plain_file(metadata: &Metadata) -> PlainFile {
     PlainFile {
         mode: metadata.mode(),
@@ -52,7 +51,7 @@ fn plain_file(metadata: &Metadata) -> PlainFile {
     }
 }
 
-/// By which two looks are known to have met one file.
+/// The identity of a file: two lookups with the same one found the same file.
 fn node_of(metadata: &Metadata) -> Node {
     Node {
         device: metadata.dev(),
@@ -60,7 +59,7 @@ fn node_of(metadata: &Metadata) -> Node {
     }
 }
 
-/// What the host says of what stands under a path.
+/// What is at a path, from the host's metadata.
 fn look_of(metadata: &Metadata) -> Found {
     let standing = if metadata.is_file() {
         Standing::Plain(plain_file(metadata))
@@ -76,7 +75,7 @@ fn look_of(metadata: &Metadata) -> Found {
     }
 }
 
-/// What is seen where nothing stands.
+/// The result of a lookup that finds no file.
 fn nothing_found() -> Found {
     Found {
         standing: Standing::Nothing,
@@ -88,12 +87,12 @@ fn nothing_found() -> Found {
     }
 }
 
-/// What stands under a path; that a plain file may not be written is an error.
+/// What is at a path. If it is a regular file that may not be written, that is an error.
 fn look_at<R: Files>(rt: &R, path: &str) -> io::Result<Found> {
     match fs::symlink_metadata(rt, path) {
         Ok(metadata) if metadata.is_file() => {
             OpenOptions::new().write(true).open(rt, path)?;
-            // Some hosts give a file another number when it is opened to be written.
+            // On some hosts, opening a file for writing changes its inode number.
             Ok(look_of(&fs::symlink_metadata(rt, path)?))
         }
         Ok(metadata) => Ok(look_of(&metadata)),
@@ -102,7 +101,7 @@ fn look_at<R: Files>(rt: &R, path: &str) -> io::Result<Found> {
     }
 }
 
-/// Whom a new file belongs to that has this metadata.
+/// The user and group of a new file, from its metadata.
 fn maker_of(metadata: &Metadata) -> Maker {
     Maker {
         owner: metadata.uid(),
@@ -110,7 +109,7 @@ fn maker_of(metadata: &Metadata) -> Maker {
     }
 }
 
-/// Whom this process runs for. A host that does not say it is taken to say root, so that only root's links are followed.
+/// The user and group of this process. If the host does not report them, root is assumed, so that only root's links are followed.
 fn maker_here<R: Files>(rt: &R) -> Maker {
     match fs::metadata(rt, "/proc/self") {
         Ok(metadata) => maker_of(&metadata),
@@ -121,12 +120,12 @@ fn maker_here<R: Files>(rt: &R) -> Maker {
     }
 }
 
-/// The error of a file that is not to be written, or no longer is what was looked at.
+/// The error of a file that must not be written, or that is no longer the one that was found.
 fn not_to_be_written() -> io::Error {
     io::Error::from(ErrorKind::Other)
 }
 
-/// A path with `.ddc-` and a number after it, which is in most cases 0.
+/// A path followed by `.ddc-` and a number, which is usually 0.
 fn temporary_path(path: &str, number: u32) -> io::Result<ArrayString<270>> {
     let mut digits = Buffer::new();
     let mut temporary = ArrayString::new();
@@ -140,7 +139,7 @@ fn temporary_path(path: &str, number: u32) -> io::Result<ArrayString<270>> {
     }
 }
 
-/// Makes a file with this mode under a path where nothing stands, a link neither.
+/// Creates a file with this mode at a path where nothing is, not even a link.
 fn make_new<R: Files>(rt: &R, path: &str, mode: u32) -> io::Result<R::File> {
     OpenOptions::new()
         .write(true)
@@ -149,7 +148,7 @@ fn make_new<R: Files>(rt: &R, path: &str, mode: u32) -> io::Result<R::File> {
         .open(rt, path)
 }
 
-/// Makes a file beside the one of a path, under the first name that was not there, which is given back with it.
+/// Creates a file next to the one at a path. Returns it with its name, the first that was unused.
 fn make_temporary<R: Files>(
     rt: &R,
     path: &str,
@@ -166,7 +165,7 @@ fn make_temporary<R: Files>(
     Err(io::Error::from(ErrorKind::AlreadyExists))
 }
 
-/// Gives the file of a path a second name beside it, the first that was not there.
+/// Gives the file at a path a second name next to it, the first that was unused.
 fn name_twice<R: Files>(rt: &R, path: &str) -> io::Result<ArrayString<270>> {
     for number in 0..=u32::MAX {
         let second = temporary_path(path, number)?;
@@ -179,14 +178,14 @@ fn name_twice<R: Files>(rt: &R, path: &str) -> io::Result<ArrayString<270>> {
     Err(io::Error::from(ErrorKind::AlreadyExists))
 }
 
-/// The permissions that a new file keeps of an old one with this mode.
+/// The permissions that a new file takes from an old one with this mode.
 fn kept_permissions(mode: u32) -> Permissions
     ensures { permissions_mode result ≡ mode_kept mode }
 {
     Permissions::from_mode(kept_mode(mode))
 }
 
-/// Writes a file and has the host keep it.
+/// Writes a file and syncs it to storage.
 fn write_and_sync<F: OpenFile + Write + Drop>(file: F, content: &[u8]) -> io::Result<()>
     ensures { OnOk result (TakesAll F.contents content.now) }
 {
@@ -195,7 +194,7 @@ fn write_and_sync<F: OpenFile + Write + Drop>(file: F, content: &[u8]) -> io::Re
     file.writer.sync_all()
 }
 
-/// Gives a new file the owner's rights of the one that it is to replace, fills it, and has the host keep it. Returns whom it belongs to.
+/// Gives a new file the owner's permissions of the file that it replaces, writes it, and syncs it. Returns its owner and group.
 fn fill<F: OpenFile + Write + Drop>(
     file: F,
     standing: Standing,
@@ -205,16 +204,16 @@ fn fill<F: OpenFile + Write + Drop>(
 {
     let maker = maker_of(&file.metadata()?);
     if let Standing::Plain(old) = standing {
-        // Where the host does not set them, the file stays as narrow as it was made.
+        // If the host does not set them, the file keeps the narrow mode that it was created with.
         file.set_permissions(kept_permissions(old.mode)).ok();
     }
     write_and_sync(file, content)?;
     Ok(maker)
 }
 
-/// Writes the old file, which only the second name still names, and gives it its path back.
+/// Writes the old file, whose only name now is the second one, and moves it back to its path.
 ///
-/// It is an error if the file is not the one that was looked at, or others can reach it by a further name.
+/// It is an error if the file is not the one that was found, or if others can reach it by a further name.
 fn bring_back<R: Files>(
     rt: &R,
     path: &str,
@@ -235,9 +234,9 @@ fn bring_back<R: Files>(
     fs::rename(rt, second, path)
 }
 
-/// Gives the new file the path, and then the old one, so that the path has the whole old or the whole new content at each moment.
+/// Moves the new file to the path, and then the old one, so that the path has the whole old or the whole new content at each moment.
 ///
-/// Where the old file cannot come back, the new one stays, with the owner's rights alone.
+/// If the old file cannot be moved back, the new one stays, with the owner's permissions only.
 fn take_and_return<R: Files>(
     rt: &R,
     path: &str,
@@ -258,7 +257,7 @@ fn take_and_return<R: Files>(
     Ok(())
 }
 
-/// Gives a new file that is filled the path.
+/// Moves a complete new file to the path.
 fn take_path<R: Files>(
     rt: &R,
     path: &str,
@@ -274,8 +273,8 @@ fn take_path<R: Files>(
     }
 }
 
-/// Writes a file beside the one of a path and gives it that path. After an error the path has what it had, and nothing stands beside it
-/// but what the host does not let go.
+/// Writes a file next to the one at a path and moves it to that path. After an error the path is unchanged, and no
+/// other file is left, except one that the host fails to remove.
 fn replace_file<R: Files>(rt: &R, path: &str, old: Found, content: &[u8]) -> io::Result<()>
     ensures { OnOk result (TakesAll R.File.contents content.now) }
 {
@@ -290,19 +289,19 @@ fn replace_file<R: Files>(rt: &R, path: &str, old: Found, content: &[u8]) -> io:
     )) {
         Ok(()) => Ok(()),
         Err(error) => {
-            // The first error is told, whether the file beside can be removed or not.
+            // The first error is returned, whether or not the new file can be removed.
             fs::remove_file(rt, temporary.as_str()).ok();
             Err(error)
         }
     }
 }
 
-/// Opens what stands under a path to be written where it lies. It is emptied only later, when it is known to be what was looked at.
+/// Opens the file at a path for writing in place. It is emptied only later, after it is known to be the one that was found.
 fn open_in_place<R: Files>(rt: &R, path: &str, standing: Standing) -> io::Result<R::File> {
     match standing {
         Standing::Nothing => make_new(rt, path, creation_mode(standing)),
         Standing::Plain(_) => OpenOptions::new().write(true).open(rt, path),
-        // Linux refuses a stranger's pipe in a folder with the sticky bit only to a call that may make a file.
+        // Linux refuses another user's pipe in a directory with the sticky bit only for a call that may create a file.
         Standing::Link(_) | Standing::Other => OpenOptions::new()
             .write(true)
             .create(true)
@@ -310,7 +309,7 @@ fn open_in_place<R: Files>(rt: &R, path: &str, standing: Standing) -> io::Result
     }
 }
 
-/// Whether a link is as it was when it was looked at.
+/// Whether a link is unchanged since it was found.
 fn is_still_link<R: Files>(rt: &R, path: &str, link: Found) -> bool {
     match fs::symlink_metadata(rt, path) {
         Ok(metadata) => {
@@ -321,7 +320,7 @@ fn is_still_link<R: Files>(rt: &R, path: &str, link: Found) -> bool {
     }
 }
 
-/// Whether a file that was opened may be written in place of what was looked at.
+/// Whether the opened file may be written in place of what was found.
 fn is_expected<R: Files>(rt: &R, path: &str, old: Found, opened: &Metadata) -> bool {
     match old.standing {
         Standing::Nothing => true,
@@ -334,7 +333,7 @@ fn is_expected<R: Files>(rt: &R, path: &str, old: Found, opened: &Metadata) -> b
     }
 }
 
-/// Writes what stands under a path where it lies.
+/// Writes what is at a path in place.
 fn write_in_place<R: Files>(rt: &R, path: &str, old: Found, content: &[u8]) -> io::Result<()>
     ensures { OnOk result (TakesAll R.File.contents content.now) }
 {
@@ -350,7 +349,7 @@ fn write_in_place<R: Files>(rt: &R, path: &str, old: Found, content: &[u8]) -> i
     write_whole(&mut file, content)
 }
 
-/// Whether an error says that the host lets no file be made beside, or take the path, so that only the place itself is left.
+/// Whether an error says that no file can be created next to the path or moved to it, so that only writing in place is left.
 fn leaves_the_place(kind: ErrorKind) -> bool {
     matches!(
         kind,
@@ -364,7 +363,7 @@ fn leaves_the_place(kind: ErrorKind) -> bool {
     )
 }
 
-/// Sets a plain file, or one that is not there.
+/// Sets the content of a regular file, or of one that does not exist.
 fn set_plain_file<R: Files>(rt: &R, path: &str, old: Found, content: &[u8]) -> io::Result<()>
     ensures { OnOk result (TakesAll R.File.contents content.now) }
 {
@@ -375,7 +374,7 @@ fn set_plain_file<R: Files>(rt: &R, path: &str, old: Found, content: &[u8]) -> i
     }
 }
 
-/// Sets what a link stands for, a device or a pipe.
+/// Sets the content of a link's target, a device or a pipe.
 fn set_other<R: Files>(rt: &R, path: &str, old: Found, content: &[u8]) -> io::Result<()>
     ensures { OnOk result (TakesAll R.File.contents content.now) }
 {
@@ -385,7 +384,7 @@ fn set_other<R: Files>(rt: &R, path: &str, old: Found, content: &[u8]) -> io::Re
     }
 }
 
-/// Sets the content of a path. docs/reference/outside.md says where a file beside takes the path, and where it is written in place.
+/// Sets the content of a path. docs/reference/outside.md says when a new file replaces the old one, and when it is written in place.
 pub(crate) fn set_file<R: Files>(rt: &R, path: &str, content: &[u8]) -> io::Result<()>
     ensures { OnOk result (TakesAll R.File.contents content.now) }
 {

@@ -10,18 +10,18 @@ use std::alloc::Global;
 use std::io;
 use std::io::{ErrorKind, Read, Write};
 
-/// A writer that may tell which of its bytes have reached their destination.
+/// A writer for which contracts may know which bytes have reached their destination.
 pub trait Deliver: Write {
-    /// The bytes that have reached it, where they are known.
+    /// The bytes that have reached it, if they are known.
     ghost delivered: { Self → Option (List ℕ) } = { λ _. None };
 
-    /// Has all that the writer holds reach its destination, as `flush` does.
+    /// Sends all buffered bytes to the destination, as `flush` does.
     fn deliver(&mut self) -> io::Result<()>
         ensures keeps { Keeps (Self.contents self.old) (Self.contents self.new) }
         ensures delivers { OnOk result (HasDelivered (Self.contents self.new) (delivered self.new)) };
 }
 
-/// A writer that delivers by its `flush`. It tells nothing of what was delivered.
+/// A writer that delivers by its `flush`. Contracts know nothing of what was delivered.
 #[derive(Drop)]
 pub(crate) struct ByFlush<W> {
     pub(crate) writer: W,
@@ -49,7 +49,7 @@ impl<W: Write> Deliver for ByFlush<W> {
     }
 }
 
-/// The bytes that a reader gives, until it ends or one more than the limit is there.
+/// The bytes of a reader up to its end, but at most `limit` + 1 of them.
 fn read_past<R: Read>(alloc: Global, reader: &mut R, room: usize, limit: u64) -> io::Result<Vec<u8>>
     ensures given { IfOk result (λ content. Consumes (R.remaining reader.old) (R.remaining reader.new) content.items) }
     ensures few { IfOk result (λ content. length content.items ≤ limit + 1) }
@@ -76,7 +76,7 @@ fn read_past<R: Read>(alloc: Global, reader: &mut R, room: usize, limit: u64) ->
     Err(io::Error::from(ErrorKind::TimedOut))
 }
 
-/// Passes over so many bytes; where fewer are left, that is an error.
+/// Skips `count` bytes. It is an error if fewer are left.
 fn pass_over<R: Read>(reader: &mut R, count: u64) -> io::Result<()>
     ensures { OnOk result (PassesOver (R.remaining reader.old) (R.remaining reader.new) count) }
 {
@@ -88,7 +88,7 @@ fn pass_over<R: Read>(reader: &mut R, count: u64) -> io::Result<()>
     reader.read_exact(&mut buffer[..rest])
 }
 
-/// That a reader has more left than the limit, of which it passes over as many bytes and one, and keeps none.
+/// Returns `TooLong` if a reader has more than `limit` bytes left. Skips `limit` + 1 of them, and keeps none.
 fn too_long<R: Read>(reader: &mut R, limit: u64) -> io::Result<Loaded>
     requires { limit < 2 ^ 64 - 1 }
     ensures all { IfOk result (GivesAll R.remaining reader.old limit) }
@@ -99,10 +99,11 @@ fn too_long<R: Read>(reader: &mut R, limit: u64) -> io::Result<Loaded>
     Ok(Loaded::TooLong)
 }
 
-/// All that a reader has left, if that is at most `limit` bytes, and else `TooLong`.
+/// All that a reader has left, if that is at most `limit` bytes; otherwise `TooLong`.
 ///
-/// An error of the reader is this call's error. As many bytes are `expected`: where these are within the limit, there is room for one
-/// more at first, so that the end is met without growing; where they are more, none is kept, and it is an error if they are not there.
+/// An error of the reader is this call's error. `expected` is how many bytes are expected. Up to the limit, there is
+/// capacity for one more at first, so that the end is found without growing. Above the limit, none is kept, and it is
+/// an error if they are not there.
 pub fn read_within<R: Read>(
     alloc: Global,
     reader: &mut R,
@@ -110,7 +111,7 @@ pub fn read_within<R: Read>(
     limit: u64,
 ) -> io::Result<Loaded>
     ensures all { IfOk result (GivesAll R.remaining reader.old limit) }
-    // At most one byte past the limit is asked for.
+    // At most one byte past the limit is requested.
     ensures asked { OnOk result (TakesAtMost (R.remaining reader.old) (R.remaining reader.new) (limit + 1)) }
     ensures within { IfOk result (IsWithin limit) }
     ensures held { IfOk result (λ given. given ≢ Loaded.Absent) }
@@ -126,7 +127,7 @@ pub fn read_within<R: Read>(
     Ok(Loaded::Bytes(Bytes::from_vec(content)))
 }
 
-/// Writes a whole piece and has it delivered. An error of the writer is this call's error.
+/// Writes a whole segment and delivers it. An error of the writer is this call's error.
 pub fn write_whole<W: Deliver>(writer: &mut W, piece: &[u8]) -> io::Result<()>
     ensures whole { OnOk result (Appends (W.contents writer.old) (W.contents writer.new) piece.now) }
     ensures delivered { OnOk result (HasDelivered (W.contents writer.new) (W.delivered writer.new)) }

@@ -1,4 +1,4 @@
--- What the host's files and its standard output are seen as: they tell nothing but what has failed.
+-- The host's files and its standard output as contracts see them: nothing but what has failed.
 use Rattle.std.specs.Prelude.{ℕ, false, Option, []}
 use Rattle.std.specs.Option.{option_map}
 use Rattle.std.specs.FinMap as map

@@ -1,4 +1,4 @@
--- What the fields of the objects in memory are seen as.
+-- The objects in memory as contracts see them.
 use Rattle.std.specs.Prelude.{ℕ, Option, List, refl}
 use Rattle.std.specs.Option.{option_map}
 use Rattle.std.specs.Coded.{Coded, code_by, coded×, coded_ℕ, coded_list, coded_option}
@@ -26,7 +26,7 @@ shelf_view a = record {
   last_failed = option_map told_call a.last_failed;
 }
 
--- a shelf is stored as its fields
+-- a file store is stored as its fields
 abbrev pub shelf_code : Coded MemoryShelf
 shelf_code =
     let numbers = coded_list coded_ℕ in

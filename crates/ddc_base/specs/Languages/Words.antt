@@ -1,10 +1,11 @@
--- The languages by the words that name them in recipes, reports and command lines. Public source: the languages of these names of stage0-posix
--- and mescc-tools. docs/reference/command-line.md says the same for people.
+-- The languages by their names in recipes, reports and command lines. Public source: the languages of these names of
+-- stage0-posix and mescc-tools.
+-- docs/reference/command-line.md is the page for readers.
 use Rattle.std.specs.Prelude.{ℕ, List, Option, Some, None, bytes_eq, codes, if◌then◌else◌}
 use Rattle.ddc_base.specs.declared.languages.Language.{Language}
 use Rattle.ddc_base.specs.declared.languages.Language.TheVariants.{Hex0, Hex1, Hex2, M1}
 
--- a language's word
+-- a language's name
 unfoldable pub language_word : Language → List ℕ
 language_word Hex0 = codes "hex0"
 language_word Hex1 = codes "hex1"
