@@ -1,4 +1,4 @@
--- What a conversation leaves of a prompt and a sink, by how it ended. docs/reference/step.md says the same for people.
+-- The effect of a session on its input and output, by how it ended. docs/reference/step.md is the page for readers.
 use Rattle.std.specs.Prelude.{◌≡◌, ℕ, ◌⊎◌, Result, Ok, Err, List, [], ◌∷◌, ◌++◌, if◌then◌else◌}
 use Rattle.std.specs.Bool.{OnTrue}
 use Rattle.ddc_base.specs.declared.outside.PutFail.{PutFail}
@@ -7,33 +7,33 @@ use Rattle.ddc_base.specs.Outside.{SinkState, PutFails, after_piece}
 use Rattle.prompt.specs.Prompts.{PromptState, LineFails}
 use Rattle.prompt.specs.Talks.{Talk, hears, replies, pieces_of, left_following}
 
--- a sink that took these pieces whole, in order
+-- an output after these segments were written in full, in order
 abbrev pub after_pieces : List (List ℕ) → SinkState → SinkState
 after_pieces [] sink = sink
 after_pieces (piece ∷ pieces) sink = after_pieces pieces (after_piece piece sink)
 
--- a prompt after these exchanges; one that does not tell shows none
+-- an input after these exchanges; if its remaining bytes are not known, it shows none
 abbrev pub after_talk : Talk → PromptState → PromptState
 after_talk done prompt = record prompt { left = if prompt.tells then left_following done prompt.left else prompt.left }
 
--- these exchanges were held, no other, and none failed
+-- exactly these exchanges took place, and none failed
 pub record Exchanged (done : Talk) (before after : SinkState) (old new : PromptState) : Type 0 where
   pub put : after ≡ after_pieces (pieces_of done) before
   pub asked : new ≡ after_talk done old
 
--- the whole talk was held
+-- the whole session took place
 pub record SaysAll (talk : List ℕ → Talk) (before after : SinkState) (old new : PromptState) : Type 0 where
   pub done : Talk
   pub held : Exchanged done before after old new
   pub told : OnTrue old.tells (talk old.left ≡ done)
 
--- a front part of the talk was held, and nothing failed
+-- a prefix of the session took place, and nothing failed
 pub record BreaksOff (talk : List ℕ → Talk) (before after : SinkState) (old new : PromptState) : Type 0 where
   pub done : Talk
   pub held : Exchanged done before after old new
   pub told : OnTrue old.tells ((rest : Talk) × (talk old.left ≡ done ++ rest))
 
--- a front part of the talk was held, and the prompt failed at the line that is asked for next
+-- a prefix of the session took place, and the input failed at the next line
 pub record LosesLine (talk : List ℕ → Talk) (before after : SinkState) (old new : PromptState) : Type 0 where
   pub done : Talk
   pub between : PromptState
@@ -41,7 +41,7 @@ pub record LosesLine (talk : List ℕ → Talk) (before after : SinkState) (old 
   pub line : LineFails between new
   pub told : OnTrue old.tells ((left : List ℕ) × (rest : Talk) × (talk old.left ≡ done ++ hears left ∷ rest))
 
--- a front part of the talk was held, and the sink failed at the piece that is put next
+-- a prefix of the session took place, and the output failed at the next segment
 pub record LosesPiece (talk : List ℕ → Talk) (before after : SinkState) (old new : PromptState) : Type 0 where
   pub done : Talk
   pub between : SinkState
@@ -55,6 +55,6 @@ ConversesBy talk before after old new (Ok _) = SaysAll talk before after old new
 ConversesBy talk before after old new (Err Failed) = LosesLine talk before after old new ⊎ LosesPiece talk before after old new
 ConversesBy talk before after old new (Err OutOfMemory) = BreaksOff talk before after old new
 
--- a conversation went as the talk over what the prompt had left, or a front part of it was held
+-- the session over the remaining input took place, or a prefix of it
 pub record Converses (talk : List ℕ → Talk) (before after : SinkState) (old new : PromptState) (result : Result (Unit {0}) PutFail) : Type 0 where
   pub by_result : ConversesBy talk before after old new result

@@ -1,4 +1,4 @@
--- What the prompt in memory is: what it has left, and the calls that are to fail. docs/reference/outside.md says the same for people.
+-- The input in memory: the bytes left, and the calls that are set to fail. docs/reference/outside.md is the page for readers.
 use Rattle.std.specs.Prelude.{◌≡◌, ℕ, ◌/◌, true, IsTrue, IsFalse, Result, Ok, Err, List, [], drop}
 use Rattle.ddc_base.specs.Outside.{one_more}
 use Rattle.ddc_base.specs.Memory.{is_to_fail}
@@ -6,22 +6,22 @@ use Rattle.prompt.specs.declared.asking.Asked.{Asked}
 use Rattle.prompt.specs.declared.asking.Failed.{Failed}
 use Rattle.prompt.specs.Prompts.{PromptState, asked_of, bytes_taken, left_after}
 
--- a prompt in memory: what is left, how many lines were asked for, which of these calls fail by their number from 1, and its faults
+-- an input in memory: the bytes left, how many lines were requested, which of these calls fail (by number, from 1), and its failures
 pub record MemoryPrompt : Type 0 where
   pub left : List ℕ
   pub lines : ℕ
   pub failing_lines : List ℕ
   pub faults : ℕ
 
--- it tells everything
+-- its remaining bytes are known
 abbrev pub prompt_state : MemoryPrompt → PromptState
 prompt_state prompt = record { tells = true; left = prompt.left; faults = prompt.faults }
 
--- a new prompt over some bytes
+-- a new input with these bytes
 abbrev pub prompt_over : List ℕ → MemoryPrompt
 prompt_over bytes = record { left = bytes; lines = 0; failing_lines = []; faults = 0 }
 
--- a line in memory is the next one; a call that is to fail takes half of its bytes
+-- a request in memory returns the next line; a call that is set to fail consumes half of its bytes
 abbrev pub AsksHeld : MemoryPrompt → Result Asked Failed → MemoryPrompt → Type 0
 AsksHeld old (Ok asked) new =
     IsFalse (is_to_fail old.lines old.failing_lines)

@@ -5,11 +5,11 @@ ghost use Rattle.prompt.specs.Prompts.{PromptState, LineLeaves, asked_of};
 use arrayvec::ArrayVec;
 use std::marker::Model;
 
-/// The prompt failed, and counts it.
+/// The error of an input that failed. The failure is counted.
 #[derive(Clone, Copy)]
 pub struct Failed;
 
-/// A line of at most 256 bytes, without its LF, in a buffer that takes no memory.
+/// A line of at most 256 bytes, without its LF, in a buffer without allocation.
 #[derive(Drop)]
 pub struct Line {
     bytes: ArrayVec<u8, 256>,
@@ -47,7 +47,7 @@ impl Line {
         }
     }
 
-    /// Adds a byte at the end.
+    /// Appends a byte.
     pub(crate) fn push(&mut self, byte: u8)
         requires { length self.old < 256 }
         ensures { self.new ≡ self.old ++ byte ∷ [] }
@@ -64,24 +64,24 @@ impl Line {
     }
 }
 
-/// What a prompt gives.
+/// The result of asking for a line.
 #[derive(Drop)]
 pub enum Asked {
     /// A line of at most 256 bytes.
     Line(Line),
-    /// A longer line, of which at most 65,536 bytes were taken.
+    /// A line of more than 256 bytes, of which at most 65,536 bytes were consumed.
     TooLong,
-    /// Nothing is left.
+    /// No bytes are left.
     End,
 }
 
-/// Lines that are asked for one by one, as a terminal gives them. docs/reference/outside.md has the rules.
+/// Standard input: lines that are requested one by one, as from a terminal. docs/reference/outside.md has the rules.
 ///
-/// Clauses on content hold where the prompt tells what it has left. Every prompt counts its failed calls in 64 bits.
+/// Clauses on contents hold if the remaining bytes are known (`tells`). Every input counts its failed calls in 64 bits.
 pub trait Prompt {
     ghost state: { Self → PromptState };
 
-    /// The next line. It takes no memory.
+    /// Reads the next line. Allocates nothing.
     fn line(&mut self) -> Result<Asked, Failed>
         ensures told { OnTrue (state self.old).tells (IfOk result (λ asked. asked ≡ asked_of (state self.old).left)) }
         ensures leaves { LineLeaves (state self.old) result (state self.new) };

@@ -1,4 +1,4 @@
-//! A conversation: lines are asked for and answered, and each reply is put as a piece of its own.
+//! A session: lines are read one by one, and each reply is written as a segment of its own.
 
 ghost use Rattle.std.specs.Prelude.{◌≡◌, ℕ, List, IfOk};
 ghost use Rattle.prompt.specs.Converses.{Converses};
@@ -8,19 +8,19 @@ ghost use Rattle.prompt.specs.Inside.Turns.{Replies, Turns};
 use crate::asking::{Asked, Failed, Prompt};
 use ddc_base::{Bytes, OutOfMemory, PutFail, Sink};
 
-/// What answers lines, each by its state, and may change by it.
+/// A responder: answers lines from its state, which each line may change.
 pub trait Respond {
     /// The reply to a line, and the state after it.
     ghost answered: { Self → List ℕ → List ℕ × Self };
 
-    /// The reply to a line; one of no bytes says that no further line is to come.
+    /// The reply to a line. An empty reply says that no further line is to be read.
     fn answer(&mut self, line: &[u8]) -> Result<Bytes, OutOfMemory>
         ensures { IfOk result (λ reply. answered self.old line.now ≡ (reply, self.new)) };
 }
 
-/// Answers lines of a prompt, at most so many, and puts each reply as a piece of its own.
+/// Answers at most `lines` lines of standard input, and writes each reply as a segment of its own.
 ///
-/// It ends after the line whose reply has no bytes, which is not put, where the prompt has nothing left, and after so many lines.
+/// It ends after an empty reply, which is not written, when the input has ended, or after that many lines.
 pub fn converse<R: Respond, P: Prompt, K: Sink>(
     session: &mut R,
     lines: u32,
@@ -39,7 +39,7 @@ pub fn converse<R: Respond, P: Prompt, K: Sink>(
     Ok(())
 }
 
-/// Answers one line and puts the reply; whether the conversation goes on.
+/// Answers one line and writes the reply. Returns whether the session continues.
 #[tactic(auto, using(crate::proofs::Turning::turning))]
 fn turn<R: Respond, P: Prompt, K: Sink>(
     session: &mut R,
@@ -56,7 +56,7 @@ fn turn<R: Respond, P: Prompt, K: Sink>(
     }
 }
 
-/// Answers a line and puts the reply; whether the conversation goes on.
+/// Answers this line and writes the reply. Returns whether the session continues.
 fn reply<R: Respond, K: Sink>(session: &mut R, line: &[u8], out: &mut K) -> Result<bool, PutFail>
     ensures { Replies R.answered session.old line.now session.new (K.state out.old) (K.state out.new) result }
 {

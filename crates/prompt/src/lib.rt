@@ -1,7 +1,6 @@
-//! Lines that are asked for one by one: what a prompt is, one in memory, one over a reader, and the conversation that answers each
-//! line by a piece of its own.
+//! Standard input line by line (`Prompt`): one in memory, one from a reader, and the session that answers each line with one segment.
 //!
-//! Its rules for people: docs/reference/outside.md.
+//! The rules for readers: docs/reference/outside.md.
 #![tactic(auto)]
 
 mod asking;

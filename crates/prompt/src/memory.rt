@@ -9,7 +9,8 @@ use ddc_base::{Bytes, OutOfMemory};
 use std::alloc::Global;
 use std::marker::Model;
 
-/// A prompt in memory, which tells everything. Lines that are named by their number, from 1, fail after half of their bytes.
+/// An input in memory, whose state contracts know in full. A line whose number, from 1, was given to `fail_line` fails
+/// after half of its bytes.
 #[derive(Drop)]
 pub struct MemPrompt {
     bytes: Bytes,
@@ -30,7 +31,7 @@ impl Model for MemPrompt {
     ghost invariant = { λ p. p.at ≤ length p.bytes };
 }
 
-/// Where the first LF is.
+/// The offset of the first LF.
 fn place_of_lf(left: &[u8]) -> Option<usize>
     ensures value { result ≡ position (λ byte. byte == 10) left.now }
     ensures within { IfSome result (λ at. at < length left.now) }
@@ -38,7 +39,7 @@ fn place_of_lf(left: &[u8]) -> Option<usize>
     left.iter().position(|byte| *byte == b'\n')
 }
 
-/// The bytes before the first LF, or all where there is none.
+/// The number of bytes before the first LF, or of all bytes without an LF.
 fn line_size(left: &[u8]) -> usize
     ensures size { result ≡ line_size left.now }
     ensures within { result ≤ length left.now }
@@ -49,7 +50,7 @@ fn line_size(left: &[u8]) -> usize
     }
 }
 
-/// What a line call gives of these bytes.
+/// The result of asking for a line when these bytes are left.
 fn asked(left: &[u8]) -> Asked
     ensures { result ≡ asked_of left.now }
 {
@@ -64,14 +65,14 @@ fn asked(left: &[u8]) -> Asked
     }
 }
 
-/// How many bytes a line call takes of these.
+/// How many of these bytes a request for a line consumes.
 fn bytes_taken(left: &[u8]) -> usize
     ensures value { result ≡ bytes_taken left.now }
 {
     line_size(left).saturating_add(1).min(65_536)
 }
 
-/// Whether the call with this number is one of those that are to fail.
+/// Whether the call with this number was set to fail.
 fn is_failing(number: u64, failing: &[u64]) -> bool
     ensures { result ≡ list_any (λ k. k == number) failing.now }
 {
@@ -79,7 +80,7 @@ fn is_failing(number: u64, failing: &[u64]) -> bool
 }
 
 impl MemPrompt {
-    /// A prompt that has these bytes left, on which no call fails.
+    /// An input with these bytes left, on which no call fails.
     pub fn new(alloc: Global, bytes: &[u8]) -> Result<MemPrompt, OutOfMemory>
         ensures { IfOk result (λ prompt. prompt ≡ prompt_over bytes.now) }
     {
@@ -99,7 +100,7 @@ impl MemPrompt {
         &self.bytes.as_slice()[self.at..]
     }
 
-    /// Says that the `k`-th line, counted from 1, is to fail.
+    /// Makes the `k`-th line, counted from 1, fail.
     pub fn fail_line(&mut self, k: u64) -> Result<(), OutOfMemory>
         ensures ok { OnOk result (self.new ≡ record self.old { failing_lines = self.old.failing_lines ++ k ∷ [] }) }
         ensures err { OnErr result (self.new ≡ self.old) }
@@ -108,7 +109,7 @@ impl MemPrompt {
         Ok(())
     }
 
-    /// Takes so many bytes, or all where fewer are left.
+    /// Consumes `count` bytes, or all if fewer are left.
     fn take(&mut self, count: usize)
         ensures { self.new ≡ record self.old { left = drop count self.old.left } }
     {

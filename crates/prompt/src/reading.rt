@@ -8,7 +8,7 @@ use crate::asking::{Asked, Failed, Line, Prompt};
 use std::io;
 use std::io::Read;
 
-/// The next byte of a reader, if there is one.
+/// The next byte of a reader; `None` at its end.
 fn next_byte<R: Read>(reader: &mut R) -> io::Result<Option<u8>>
     ensures byte { IfOk result (TakesByte (R.remaining reader.old) (R.remaining reader.new)) }
     ensures failed { OnErr result (Keeps (R.remaining reader.old) (R.remaining reader.new)) }
@@ -21,8 +21,8 @@ fn next_byte<R: Read>(reader: &mut R) -> io::Result<Option<u8>>
     }
 }
 
-/// The next line of a reader, taken byte by byte, so that nothing after it is taken. An error of the reader is this call's error, and comes
-/// before a line was taken whole.
+/// The next line of a reader, consumed byte by byte, so that nothing after the line is consumed. An error of the reader
+/// is this call's error; no whole line was consumed then.
 pub fn read_line<R: Read>(reader: &mut R) -> io::Result<Asked>
     ensures line { IfOk result (GivesLine (R.remaining reader.old) (R.remaining reader.new)) }
     ensures failed { OnErr result (TakesNoLine (R.remaining reader.old) (R.remaining reader.new)) }
@@ -39,7 +39,7 @@ pub fn read_line<R: Read>(reader: &mut R) -> io::Result<Asked>
     Ok(Asked::TooLong)
 }
 
-/// Keeps a byte of a line, where it is one of the first 256.
+/// Stores a byte of a line if it is one of the first 256.
 fn keep(line: &mut Line, byte: u8, taken: u32)
     requires { taken < 256 → length line.old < 256 }
     ensures { line.new ≡ kept_with line.old byte taken }
@@ -49,7 +49,7 @@ fn keep(line: &mut Line, byte: u8, taken: u32)
     }
 }
 
-/// A line of so many bytes, of which the first 256 are kept.
+/// The result for a line of `size` bytes, of which the first 256 are stored.
 fn whole(line: Line, size: u32) -> Asked
     ensures { result ≡ whole_line line size }
 {
@@ -60,9 +60,9 @@ fn whole(line: Line, size: u32) -> Asked
     }
 }
 
-/// A prompt over a reader, as the process's standard input is (`io::Input::reader`).
+/// An input from a reader, such as the process's standard input (`io::Input::reader`).
 ///
-/// It tells nothing of what is left, and counts the reader's errors. With standard input it is the trusted edge.
+/// Contracts know nothing of what is left; they count the reader's errors. With standard input it is a trusted interface.
 #[derive(Drop)]
 pub struct ReaderPrompt<R> {
     reader: R,
@@ -72,7 +72,7 @@ pub struct ReaderPrompt<R> {
 impl<R: Read> ReaderPrompt<R> {
     ghost use Rattle.prompt.specs.Inside.Host.{untold_prompt};
 
-    /// A prompt over this reader, on which nothing has failed yet.
+    /// An input from this reader, with no failed call yet.
     pub fn new(reader: R) -> ReaderPrompt<R>
         ensures state { ⟦<ReaderPrompt<R> as Prompt>⟧.state result ≡ untold_prompt 0 }
         ensures as_given { result.reader ≡ reader }

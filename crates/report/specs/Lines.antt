@@ -1,4 +1,4 @@
--- The lines of a report, as words. docs/reference/report.md says the same for people.
+-- The lines of a report, as words. docs/reference/report.md is the page for readers.
 use Rattle.std.specs.Prelude.{ℕ, List, [], ◌∷◌, Option, Some, None, decimal, codes, ◌==◌, if◌then◌else◌}
 use Rattle.std.specs.List.{flat_map}
 use Rattle.hex.specs.Hex.{encode_lower}
@@ -23,7 +23,7 @@ abbrev pub compared_words : Compared → List (List ℕ)
 compared_words (Equal length) = codes "equal" ∷ decimal length ∷ []
 compared_words (Differs offset ours theirs) = codes "differs" ∷ decimal offset ∷ decimal ours ∷ decimal theirs ∷ []
 
--- a report's form
+-- the text of a report's format number
 abbrev pub form_word : ℕ → List ℕ
 form_word form = if form == 1 then codes "1" else codes "2"
 
@@ -41,6 +41,6 @@ line_words (Checked language) = checked_words language
 line_words (Compare compare) = codes "compare" ∷ compare.stage ∷ compare.binary ∷ compared_words compare.result
 line_words End = codes "end" ∷ []
 
--- the text of lines: in each a blank between neighbouring words, and an LF at its end
+-- the text of lines: in each, a space between neighbouring words, and an LF at the end
 abbrev pub lines_text : List ReportLine → List ℕ
 lines_text lines = flat_map (λ l. line (line_words l)) lines

@@ -1,5 +1,5 @@
--- A report: which are well formed, their one text, and where a text is none. Its digests are those of SHA-256 (FIPS 180-4).
--- docs/reference/report.md says the same for people.
+-- Reports: which are well-formed, their unique text, and the first fault of any other text. Digests are SHA-256 (FIPS 180-4).
+-- docs/reference/report.md is the page for readers.
 use Rattle.std.specs.Prelude.{◌≡◌, ℕ, ◌<◌, ◌≤◌, ◌^◌, Bool, true, ◌&&◌, All, List, [], ◌∷◌, ◌++◌, length, map, ◌⊎◌, ◌==◌, if◌then◌else◌, IsTrue}
 use Rattle.std.specs.List.{flat_map}
 use Rattle.std.specs.Ordering.{nat_cmp, is_lt}
@@ -35,7 +35,7 @@ front_lines form recipe inputs stages = (Header form ∷ Recipe recipe ∷ map I
 abbrev pub report_lines : Report → List ReportLine
 report_lines report = front_lines report.form report.recipe report.inputs report.stages ++ map Compare report.compare ++ End ∷ []
 
--- the one text of a report
+-- the unique text of a report
 abbrev pub report_text : Report → List ℕ
 report_text report = lines_text (report_lines report)
 
@@ -61,7 +61,7 @@ pub record IsLeft (file : LeftLine) : Type 0 where
   pub bytes : AreBytes file.name
   pub mark : IsMark file.mark
 
--- each file's name is before the next one's, by their bytes
+-- each file's name is less than the next one's, by their bytes
 abbrev pub ascend : List LeftLine → Bool
 ascend [] = true
 ascend (file ∷ []) = true
@@ -94,11 +94,11 @@ pub record IsCompare (compare : CompareLine) : Type 0 where
   pub binary : IsName compare.binary
   pub result : IsCompared compare.result
 
--- a report is of form 1 or 2
+-- a report's format number is 1 or 2
 abbrev pub IsForm : ℕ → Type 0
 IsForm form = (form ≡ 1) ⊎ (form ≡ 2)
 
--- the most comparisons of a report of a form
+-- the most comparisons of a report with this format number
 abbrev pub most_comparisons : ℕ → ℕ
 most_comparisons form = if form == 1 then 1 else 16
 

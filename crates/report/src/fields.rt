@@ -1,4 +1,4 @@
-//! The fields of a line, each by itself.
+//! The fields of a line, each read by itself.
 
 ghost use Rattle.std.specs.Prelude.{◌≡◌, ◌<◌, IsTrue, ◌+◌, ◌==◌, length, drop, IfOk, IfSome, option_map};
 ghost use Rattle.std.specs.List.{position, list_all};
@@ -11,7 +11,7 @@ use ddc_base::digests::Digest;
 use ddc_base::{Bytes, HexFail, OutOfMemory, are_lower_digits, read_decimal, read_hex};
 use std::alloc::Global;
 
-/// What stands before the first such byte of a text, and what after it.
+/// The text before and after the first such byte; `None` if the text lacks it.
 #[tactic(auto, unfolding(crate::specs::Inside::Cuts::cut_at))]
 pub(crate) fn cut_at(byte: u8, text: &[u8]) -> Option<(&[u8], &[u8])>
     ensures value { option_map (λ cut. (cut.0.now, cut.1.now)) result ≡ cut_at byte text.now }
@@ -38,7 +38,7 @@ fn after(text: &[u8], at: usize) -> &[u8]
     &text[at + 1..]
 }
 
-/// The 1 to 255 bytes whose hexadecimal text a word is.
+/// The 1 to 255 bytes of a word's hexadecimal text.
 #[tactic(auto, unfolding(crate::specs::Inside::Fields::file_name_of))]
 fn file_name_of(alloc: Global, word: &[u8]) -> Result<Option<Bytes>, OutOfMemory>
     ensures { IfOk result (λ name. name ≡ file_name_of word.now) }
@@ -60,7 +60,7 @@ fn hex_of(alloc: Global, word: &[u8]) -> Result<Option<Bytes>, OutOfMemory>
     }
 }
 
-/// The digest whose hexadecimal text a word is.
+/// The digest of a word's hexadecimal text.
 #[tactic(auto, unfolding(crate::specs::Inside::Fields::digest_of))]
 pub(crate) fn digest_of(word: &[u8]) -> Option<Digest>
     ensures { result ≡ digest_of word.now }
@@ -72,9 +72,9 @@ pub(crate) fn digest_of(word: &[u8]) -> Option<Digest>
     }
 }
 
-/// The bytes of 64 lower-case digits.
+/// The 32 bytes of 64 lower-case digits.
 ///
-/// The value of a digit is computed without a branch that depends on the digit, since the digits of a digest are as good as random.
+/// Computes the value of a digit without a branch on the digit, because the digits of a digest are as good as random.
 fn bytes_of(word: &[u8]) -> [u8; 32]
     requires count { length word.now ≡ 64 }
     requires digits { IsTrue (list_all is_lower_digit word.now) }
@@ -100,7 +100,7 @@ fn digit_value(digit: u8) -> u8
     }
 }
 
-/// The length and the digest that a text is.
+/// The length and the digest in a text.
 #[tactic(auto, unfolding(crate::specs::Inside::Fields::mark_of))]
 pub(crate) fn mark_of(text: &[u8]) -> Option<Mark>
     ensures { result ≡ mark_of text.now }
@@ -111,7 +111,7 @@ pub(crate) fn mark_of(text: &[u8]) -> Option<Mark>
     Some(Mark { length, digest })
 }
 
-/// The name of a file and its mark.
+/// The name of a file and its mark, from a text.
 #[tactic(auto, unfolding(crate::specs::Inside::Fields::file_line_of))]
 pub(crate) fn file_line_of(alloc: Global, text: &[u8]) -> Result<Option<LeftLine>, OutOfMemory>
     ensures { IfOk result (λ file. file ≡ file_line_of text.now) }
@@ -128,7 +128,7 @@ pub(crate) fn file_line_of(alloc: Global, text: &[u8]) -> Result<Option<LeftLine
     Ok(Some(LeftLine { name, mark }))
 }
 
-/// What a comparison found.
+/// The result of a comparison, from a text.
 #[tactic(auto, unfolding(crate::specs::Inside::Fields::compared_of))]
 pub(crate) fn compared_of(text: &[u8]) -> Option<Compared>
     ensures { result ≡ compared_of text.now }
@@ -144,7 +144,7 @@ pub(crate) fn compared_of(text: &[u8]) -> Option<Compared>
     }
 }
 
-/// The offset and the two lengths that a text is.
+/// The offset and the two lengths in a text.
 #[tactic(auto, unfolding(crate::specs::Inside::Fields::difference_of))]
 fn difference_of(text: &[u8]) -> Option<Compared>
     ensures { result ≡ difference_of text.now }
@@ -159,7 +159,7 @@ fn difference_of(text: &[u8]) -> Option<Compared>
     }
 }
 
-/// The two lengths that a text is.
+/// The two lengths in a text.
 #[tactic(auto, unfolding(crate::specs::Inside::Fields::lengths_of))]
 fn lengths_of(text: &[u8]) -> Option<(u64, u64)>
     ensures { result ≡ lengths_of text.now }

@@ -21,18 +21,18 @@ pub fn short_text()
     ensures { (report : ReportValue) → IsReport report → length (report_text report) < 1_073_741_824 }
 {}
 
-/// What a text reads as is its one reading: the report whose text it is, or else its first fault.
+/// A text has exactly one reading: the report with this text, or otherwise its first fault.
 pub fn one_reading()
     ensures { (bytes : List ℕ) (reading : Result ReportValue ℕ) → (report_of bytes ≡ reading) ↔ IsReading report_texts bytes reading }
 {}
 
-/// The length and the digest of fewer than 2^64 bytes are a mark.
+/// The length and the SHA-256 digest of fewer than 2^64 bytes are a valid mark.
 pub fn marks_are_marks()
     ensures { (bytes : List ℕ) → length bytes < 2 ^ 64
         → IsMark (record { length = length bytes; digest = record { 0 = sha256 bytes } }) }
 {}
 
-/// Files whose names are sorted, as those of a map are, ascend.
+/// Files with sorted names, as those of a map, ascend.
 pub fn sorted_names_ascend()
     ensures { (files : List LeftLine) → IsStrictlySortedBy (slice_cmp nat_cmp) (map (λ file. file.name) files) → IsTrue (ascend files) }
 {}

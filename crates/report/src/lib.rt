@@ -1,6 +1,6 @@
-//! The report of an audit, and in `script` that of a script of commands: the type of each, and its one text.
+//! The report of an audit, and (in `script`) of a script of commands: the type of each, and its unique text.
 //!
-//! The rules for people: docs/reference/report.md and docs/reference/kaem-report.md.
+//! The rules for readers: docs/reference/report.md and docs/reference/kaem-report.md.
 #![tactic(auto)]
 
 mod fields;

@@ -1,4 +1,4 @@
-//! A line of a report by itself.
+//! One line of a report.
 
 ghost use Rattle.std.specs.Prelude.{◌≡◌, IfOk};
 ghost use Rattle.report.specs.Inside.LinesRead.{line_of, longer_line_of, line_of_kind, header_of, recipe_of, input_of, stage_of, stream_of, left_of, made_of, checked_of, binary_of, compare_of};
@@ -13,7 +13,7 @@ use std::alloc::Global;
 /// A line of a report.
 #[derive(Drop)]
 pub enum ReportLine {
-    /// The report's form.
+    /// The report's format number.
     Header(u32),
     Recipe(Digest),
     Input(InputLine),
@@ -27,7 +27,7 @@ pub enum ReportLine {
     End,
 }
 
-/// The line that a text is, without its LF.
+/// The line with this text, given without its LF.
 #[tactic(auto, unfolding(crate::specs::Inside::LinesRead::line_of))]
 pub(crate) fn line_of(alloc: Global, text: &[u8]) -> Result<Option<ReportLine>, OutOfMemory>
     ensures { IfOk result (λ line. line ≡ line_of text.now) }
@@ -180,7 +180,7 @@ fn compare_of(fields: &[u8]) -> Option<ReportLine>
     }))
 }
 
-/// The binary that was compared, and what the comparison found.
+/// The compared binary and the result of the comparison, from a text.
 #[tactic(auto, unfolding(crate::specs::Inside::LinesRead::binary_of))]
 fn binary_of(text: &[u8]) -> Option<(Name, Compared)>
     ensures { result ≡ binary_of text.now }

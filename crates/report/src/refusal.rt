@@ -4,10 +4,10 @@ ghost use Rattle.report.specs.declared.refusal.ReportRefusal.TheVariants.{OutOfM
 use ddc_base;
 use thiserror::Error;
 
-/// Why bytes were not read as a report.
+/// Why bytes are not a report.
 #[derive(Clone, Copy, Debug, Error)]
 pub enum ReportRefusal {
-    /// They are no report's text: the number, from 1, of the first line that no report goes on with.
+    /// The bytes are not the text of a report. The field is the number, from 1, of the first invalid line.
     #[error("report line {0}")]
     Form(u64),
     #[error("out of memory")]

@@ -1,6 +1,6 @@
-//! The report of a script of commands: its type, and its one text.
+//! The report of a script of commands: its type, and its unique text.
 //!
-//! Its rules for people: docs/reference/kaem-report.md.
+//! The rules for readers: docs/reference/kaem-report.md.
 
 pub mod laws;
 mod line;

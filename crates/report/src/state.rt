@@ -1,4 +1,4 @@
-//! How far a report has been read, and which line may come next.
+//! The state of reading a report, and which line may come next.
 
 ghost use Rattle.std.specs.Prelude.{◌≡◌, IfOk};
 ghost use Rattle.std.specs.Ordering.{nat_cmp, is_lt};
@@ -26,7 +26,7 @@ const MANY_LEFT: usize = 4096;
 /// The most comparisons of a report of form 2.
 const MANY_COMPARED: usize = 16;
 
-/// What stands above the comparisons.
+/// The part of a report above the comparisons.
 #[derive(Drop)]
 pub struct Front {
     pub form: u32,
@@ -53,33 +53,33 @@ pub struct Opened {
     pub left: LeftLines,
 }
 
-/// How far a report has been read.
+/// The state of reading a report.
 #[derive(Drop)]
 pub enum State {
-    /// Nothing yet.
+    /// Nothing was read yet.
     Start,
-    /// The header, which tells the form.
+    /// The header, with the format number.
     Titled(u32),
-    /// The recipe's digest, and these inputs, under the header.
+    /// After the header: the recipe's digest, and these inputs.
     Inputs(u32, Digest, InputLines),
     /// In a block: the stage's name and steps.
     Named(Front, Name, u64),
-    /// In a block: its first stream too.
+    /// In a block: the first stream as well.
     Heard(Front, BlockFront),
     /// In a block: both streams, and these left files.
     Leaving(Front, Opened),
-    /// In a block: what it made too.
+    /// In a block: its artefact as well.
     Closing(Front, Opened, Mark),
     /// Whole blocks, at least one.
     Stages(Front),
     /// Comparisons, at least one.
     Compared(Report),
-    /// The end.
+    /// The end line.
     Ended(Report),
 }
 
 impl State {
-    /// The state after one more line, if a report goes on with it.
+    /// The state after one more line, if a report may continue with it.
     #[tactic(auto, unfolding(crate::specs::Inside::States::step))]
     pub(crate) fn after(self, alloc: Global, line: ReportLine) -> Result<Option<State>, OutOfMemory>
         ensures { IfOk result (λ next. next ≡ step self line) }
@@ -287,14 +287,14 @@ fn after_compared(mut report: Report, line: ReportLine) -> Result<Option<State>,
     }
 }
 
-/// The most comparisons of a report of a form.
+/// The most comparisons of a report with this format number.
 fn most_comparisons(form: u32) -> usize
     ensures { result ≡ most_comparisons form }
 {
     if form == 1 { 1 } else { MANY_COMPARED }
 }
 
-/// Whether a name comes after those of these files, which ascend.
+/// Whether a name is greater than those of these files, which ascend.
 pub(crate) fn follows(left: &[LeftLine], name: &[u8]) -> bool
     ensures { result ≡ follows left.now name.now }
 {

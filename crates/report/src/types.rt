@@ -9,12 +9,12 @@ use ddc_base::{Bytes, ListOf, Name, digest};
 pub type InputLines = ListOf<InputLine>;
 /// The lines of the comparisons, in the recipe's order.
 pub type CompareLines = ListOf<CompareLine>;
-/// The lines of files. Those of the files that a stage or a script left ascend strictly by the bytes of their names.
+/// The lines of files. The files that a stage or a script left ascend strictly by the bytes of their names.
 pub type LeftLines = ListOf<LeftLine>;
-/// The stages' blocks, in the recipe's order.
+/// The blocks of the stages, in the recipe's order.
 pub type StageLines = ListOf<StageLine>;
 
-/// What a report says of some content: how many bytes it has, and their SHA-256 digest (FIPS 180-4).
+/// The mark of some content: its number of bytes, and their SHA-256 digest (FIPS 180-4).
 #[derive(Clone, Copy, PartialEq, Eq)]
 pub struct Mark {
     pub length: u64,
@@ -22,7 +22,7 @@ pub struct Mark {
 }
 
 impl Mark {
-    /// The mark of bytes. It takes no memory.
+    /// The mark of bytes. Allocates nothing.
     pub fn of(bytes: &[u8]) -> Mark
         ensures { result ≡ mark_of bytes.now }
     {
@@ -32,7 +32,7 @@ impl Mark {
         }
     }
 
-    /// Whether it says how many bytes these are, and their digest. The digest is made only where the length is right.
+    /// Whether this is the mark of these bytes. The digest is computed only if the length is equal.
     #[tactic(auto, unfolding(crate::specs::Marks::is_mark_of))]
     pub fn is_of(&self, bytes: &[u8]) -> bool
         ensures { result ≡ is_mark_of self.now bytes.now }
@@ -41,45 +41,45 @@ impl Mark {
     }
 }
 
-/// An input of the recipe, and what its file held.
+/// An input of the recipe, and the mark of its file.
 #[derive(Drop)]
 pub struct InputLine {
     pub name: Name,
     pub mark: Mark,
 }
 
-/// A file that a program left, or was given: its name, of 1 to 255 bytes, and what it held.
+/// A file that a program left or was given: its name, of 1 to 255 bytes, and the mark of its content.
 #[derive(Drop)]
 pub struct LeftLine {
     pub name: Bytes,
     pub mark: Mark,
 }
 
-/// What a stage did.
+/// A stage of an audit, as the report has it.
 #[derive(Drop)]
 pub struct StageLine {
     pub name: Name,
     /// The step at which its program exited.
     pub steps: u64,
-    /// What it wrote to its standard output.
+    /// The mark of its standard output.
     pub stream1: Mark,
-    /// What it wrote to its standard error.
+    /// The mark of its standard error.
     pub stream2: Mark,
     /// At most 4,096 files.
     pub left: LeftLines,
-    /// Its artefact.
+    /// The mark of its artefact.
     pub made: Mark,
-    /// The language in which its artefact was checked, if it was.
+    /// The language in which its artefact was checked; `None` if it was not.
     pub checked: Option<Language>,
 }
 
-/// What the comparison found.
+/// The result of a comparison.
 #[derive(Clone, Copy, PartialEq, Eq)]
 pub enum Compared {
-    /// Both have these bytes, so many of them.
+    /// Both have the same bytes. The field is their number.
     Equal(u64),
-    /// The first offset at which they differ or one has ended, the artefact's length and the binary's. The offset is at most both lengths,
-    /// and below one of them.
+    /// The first offset at which they differ or one has ended, the artefact's length, and the binary's length. The
+    /// offset is at most both lengths, and below one of them.
     Differs(u64, u64, u64),
 }
 
@@ -91,10 +91,10 @@ pub struct CompareLine {
     pub result: Compared,
 }
 
-/// What an audit found: 1 to 256 inputs, 1 to 256 stages, and the comparisons.
+/// The report of an audit: 1 to 256 inputs, 1 to 256 stages, and the comparisons.
 #[derive(Drop)]
 pub struct Report {
-    /// 1 or 2: a report of form 1 has one comparison, one of form 2 has 1 to 16.
+    /// The format number, 1 or 2. A report of format 1 has one comparison, one of format 2 has 1 to 16.
     pub form: u32,
     /// The digest of the recipe's bytes.
     pub recipe: Digest,

@@ -13,8 +13,9 @@ use ddc_base::languages::Language;
 use ddc_base::{Bytes, Name, OutOfMemory, put_decimal, put_hex};
 use std::alloc::Global;
 
-/// Room for the lines around the inputs, stages and comparisons, for an input's line, for a stage's block without left files, for a left
-/// file's line without its name, and for a comparison's line. Lengths and steps have at most 20 digits.
+/// Capacity for the lines around the inputs, stages and comparisons; for an input's line; for a stage's block without
+/// left files; for a left file's line without its name; and for a comparison's line. Lengths and steps have at most 20
+/// digits.
 const FRONT_ROOM: usize = 128;
 
 const INPUT_ROOM: usize = 128;
@@ -25,7 +26,7 @@ const LEFT_ROOM: usize = 92;
 
 const COMPARE_ROOM: usize = 160;
 
-/// The one text of a well-formed report. It has fewer than 2^30 bytes.
+/// The unique text of a well-formed report. It has fewer than 2^30 bytes.
 pub fn write(alloc: Global, report: &Report) -> Result<Bytes, OutOfMemory>
     requires { IsReport report.now }
     ensures value { IfOk result (λ text. text ≡ report_text report.now) }
@@ -45,7 +46,7 @@ fn text_of(alloc: Global, report: &Report) -> Result<Bytes, OutOfMemory>
     Ok(out)
 }
 
-/// Enough for a report's text, so that it is not moved as it grows, and not much more.
+/// Capacity for a report's text, so that it is not moved as it grows. It is little more than needed.
 fn room(report: &Report) -> usize {
     let mut room = report
         .inputs
@@ -64,7 +65,7 @@ fn room(report: &Report) -> usize {
     room
 }
 
-/// What stands above the stages.
+/// Writes the lines above the stages.
 #[tactic(auto, using(crate::proofs::Written::written))]
 fn put_front(out: &mut Bytes, report: &Report) -> Result<(), OutOfMemory>
     ensures { OnOk result (out.new ≡ out.old ++ lines_text (line.Header report.now.form ∷ line.Recipe report.now.recipe ∷ map line.Input report.now.inputs)) }
@@ -77,7 +78,7 @@ fn put_front(out: &mut Bytes, report: &Report) -> Result<(), OutOfMemory>
     put_inputs(out, report.inputs.as_slice())
 }
 
-/// A report's form.
+/// The text of a report's format number.
 fn form_word(form: u32) -> &'static [u8]
     ensures { result.now ≡ form_word form }
 {
@@ -103,7 +104,7 @@ fn put_input(out: &mut Bytes, input: &InputLine) -> Result<(), OutOfMemory>
     put_mark(out, &input.mark)
 }
 
-/// A length and a digest, at the end of a line.
+/// Writes a length and a digest at the end of a line.
 #[tactic(auto, using(crate::proofs::Written::written))]
 pub(crate) fn put_mark(out: &mut Bytes, mark: &Mark) -> Result<(), OutOfMemory>
     ensures { OnOk result (out.new ≡ out.old ++ line_text (mark_words mark.now)) }
@@ -123,7 +124,7 @@ fn put_stages(out: &mut Bytes, stages: &[StageLine]) -> Result<(), OutOfMemory>
     Ok(())
 }
 
-/// A stage's block.
+/// Writes a stage's block.
 fn put_stage(out: &mut Bytes, stage: &StageLine) -> Result<(), OutOfMemory>
     ensures { OnOk result (out.new ≡ out.old ++ lines_text (stage_block stage.now)) }
 {

@@ -1,4 +1,4 @@
--- What the host's input is seen as: it tells nothing but what has failed.
+-- The host's standard input as contracts see it: nothing but what has failed.
 use Rattle.std.specs.Prelude.{ℕ, false, []}
 use Rattle.prompt.specs.Prompts.{PromptState}
 

@@ -1,4 +1,4 @@
--- One turn of a conversation. It serves the split of the code: no promise of a conversation rests on its being read.
+-- One turn of a session, which the code splits in this way. To read the promises, this file is not needed.
 use Rattle.std.specs.Prelude.{◌≡◌, ◌≢◌, ℕ, suc, ◌⊎◌, Bool, true, false, Result, Ok, Err, List, [], ◌∷◌, ◌++◌}
 use Rattle.std.specs.Bool.{OnTrue}
 use Rattle.ddc_base.specs.declared.outside.PutFail.{PutFail}
@@ -16,7 +16,7 @@ RepliesBy answered state line next before after (Err Failed) =
     (reply : List ℕ) × (reply ≢ []) × (answered state line ≡ (reply, next)) × PutFails reply before after
 RepliesBy answered state line next before after (Err OutOfMemory) = after ≡ before
 
--- a line was answered and the reply put, or it ended the conversation, or memory or the sink failed
+-- a line was answered and the reply written, or it ended the session, or memory ran out, or the output failed
 pub record Replies {S : Type 0} (answered : S → List ℕ → List ℕ × S) (state : S) (line : List ℕ) (next : S) (before after : SinkState) (result : Result Bool PutFail) : Type 0 where
   pub by_result : RepliesBy answered state line next before after result
 
@@ -32,11 +32,11 @@ TurnsBy answered state next before after old new (Err Failed) =
     × OnTrue old.tells ((lines : ℕ) → (rest : Talk) × (talk answered state (suc lines) old.left ≡ hears (left_after old.left) ∷ replies piece ∷ rest)))
 TurnsBy answered state next before after old new (Err OutOfMemory) = (new ≡ after_line old) × (after ≡ before)
 
--- a line was answered, and the reply put; or it ended the conversation; or the turn was cut
+-- a line was answered and the reply written; or it ended the session; or the turn was cut short
 pub record Turns {S : Type 0} (answered : S → List ℕ → List ℕ × S) (state next : S) (before after : SinkState) (old new : PromptState) (result : Result Bool PutFail) : Type 0 where
   pub by_result : TurnsBy answered state next before after old new result
 
--- a front part of a conversation was held, and so many lines may follow
+-- a prefix of a session took place, and `left` more lines may follow
 pub record GoesOn {S : Type 0} (answered : S → List ℕ → List ℕ × S) (state now : S) (lines left : ℕ) (before after : SinkState) (old new : PromptState) : Type 0 where
   pub done : Talk
   pub held : Exchanged done before after old new

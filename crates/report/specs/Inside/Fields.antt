@@ -1,4 +1,4 @@
--- No promise rests on this file being read: the fields of a line, each by itself.
+-- The fields of a line, each read by itself. To read the promises, this file is not needed.
 use Rattle.std.specs.Prelude.{ℕ, ◌+◌, ◌-◌, ◌*◌, ◌==◌, Bool, ◌&&◌, ◌||◌, nat_le, nat_lt, List, [], ◌∷◌, length, Option, Some, None, codes, bytes_eq, if◌then◌else◌}
 use Rattle.std.specs.List.{list_all}
 use Rattle.std.specs.Result.{result_ok}
@@ -13,11 +13,11 @@ use Rattle.report.specs.declared.types.Compared.{Compared}
 use Rattle.report.specs.declared.types.Compared.TheVariants.{Equal, Differs}
 use Rattle.report.specs.Inside.Cuts.{◌>>=◌, cut_at}
 
--- the bytes whose hexadecimal text a word is
+-- the bytes of a word's hexadecimal text
 abbrev pub hex_of : List ℕ → Option (List ℕ)
 hex_of word = if is_lower_hex word then result_ok (decode_of word) else None
 
--- the 1 to 255 bytes whose hexadecimal text a word is
+-- the 1 to 255 bytes of a word's hexadecimal text
 unfoldable pub file_name_of : List ℕ → Option (List ℕ)
 file_name_of word = if nat_le 1 (length word) && nat_le (length word) 510 then hex_of word else None
 
@@ -30,7 +30,7 @@ abbrev pub pairs_of : List ℕ → List ℕ
 pairs_of (high ∷ low ∷ rest) = (16 * digit_value high + digit_value low) ∷ pairs_of rest
 pairs_of _ = []
 
--- the 32 bytes whose hexadecimal text a word is
+-- the digest of a word's hexadecimal text, 32 bytes
 unfoldable pub digest_of : List ℕ → Option Digest
 digest_of word =
     if length word == 64 && list_all is_lower_digit word then Some (record { 0 = pairs_of word }) else None
@@ -51,7 +51,7 @@ file_line_of text = do
   mark ← mark_of cut.1
   Some (record { name = name; mark = mark })
 
--- the line that a stream's number and mark are
+-- the line with a stream's number and mark
 abbrev pub stream_line_of : {Line : Type 0} → (Mark → Line) → (Mark → Line) → List ℕ → Option Line
 stream_line_of first second text = do
   cut ← cut_at 32 text
@@ -77,7 +77,7 @@ difference_of text = do
   lengths ← lengths_of cut.1
   if is_difference offset lengths.0 lengths.1 then Some (Differs offset lengths.0 lengths.1) else None
 
--- what a comparison found
+-- the result of a comparison
 unfoldable pub compared_of : List ℕ → Option Compared
 compared_of text = do
   cut ← cut_at 32 text

@@ -1,40 +1,41 @@
--- No promise rests on this file being read: a text read line by line, whatever its lines are.
+-- Reading a text line by line, for any kind of lines. To read the promises, this file is not needed.
 use Rattle.std.specs.Prelude.{◌≡◌, ℕ, zero, suc, ◌+◌, List, [], length, Option, Some, None, Result, Ok, Err}
 use Rattle.std.specs.Option.{option_map_or}
 use Rattle.report.specs.Inside.Cuts.{◌>>=◌, cut_at}
 
--- how texts of a kind are read: the line that a text is, the state before all lines and after one more, and the report of the state after the last line
+-- how texts of a kind are read: the line with a text, the state before all lines and after one more, and the report of
+-- the state after the last line
 pub record Reader (Line State Report : Type 0) : Type 0 where
   pub line_of : List ℕ → Option Line
   pub start : State
   pub step : State → Line → Option State
   pub ended : State → Option Report
 
--- the line at the front, and what follows its LF
+-- the first line, and the bytes after its LF
 unfoldable pub next_line : {Line : Type 0} → (List ℕ → Option Line) → List ℕ → Option (Line × List ℕ)
 next_line line_of bytes = do
   cut ← cut_at 10 bytes
   line ← line_of cut.0
   Some (line, cut.1)
 
--- the state after the line at the front
+-- the state after the first line
 unfoldable pub one_more : {Line State Report : Type 0} → Reader Line State Report → State × List ℕ → Option (State × List ℕ)
 one_more reader at = do
   next ← next_line reader.line_of at.1
   state ← reader.step at.0 next.0
   Some (state, next.1)
 
--- the state after the first n lines, and what follows them; none where they begin no report
+-- the state after the first n lines, and the bytes after them; none if no report begins with these lines
 unfoldable pub after : {Line State Report : Type 0} → Reader Line State Report → ℕ → List ℕ → Option (State × List ℕ)
 after reader zero bytes = Some (reader.start, bytes)
 after reader (suc n) bytes = after reader n bytes >>= one_more reader
 
--- what lines lead to where none goes on with them, and the number of the line that does not
+-- the result when no report continues: the report if it has ended and no bytes are left, otherwise the number of the next line
 abbrev pub ended_at : {Report : Type 0} → ℕ → Option Report → List ℕ → Result Report ℕ
 ended_at number (Some report) [] = Ok report
 ended_at number _ _ = Err number
 
--- the lines from a number on, as long as they go on
+-- reads the lines from a number on, while a report continues with them
 unfoldable pub read_on : {Line State Report : Type 0} → Reader Line State Report → ℕ → ℕ → State × List ℕ → Result Report ℕ
 read_on reader zero number at = ended_at number (reader.ended at.0) at.1
 read_on reader (suc more) number at =
@@ -44,11 +45,11 @@ read_on reader (suc more) number at =
 abbrev pub read_all : {Line State Report : Type 0} → Reader Line State Report → List ℕ → Result Report ℕ
 read_all reader bytes = read_on reader (length bytes) 1 (reader.start, bytes)
 
--- the bytes are left after whole lines
+-- these bytes are left after n whole lines
 pub record Stands {Line State Report : Type 0} (reader : Reader Line State Report) (bytes : List ℕ) (n : ℕ) (state : State) (rest : List ℕ) : Type 0 where
   pub there : after reader n bytes ≡ Some (state, rest)
 
--- the first lines go on, and with one more they don't
+-- a report continues with the first lines, and with no further one
 pub record Stops {Line State Report : Type 0} (reader : Reader Line State Report) (bytes : List ℕ) (number : ℕ) : Type 0 where
   pub before : ℕ
   pub is : number ≡ before + 1

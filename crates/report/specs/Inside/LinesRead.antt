@@ -1,4 +1,4 @@
--- No promise rests on this file being read: a line by itself, read.
+-- One line of a report, read by itself. To read the promises, this file is not needed.
 use Rattle.std.specs.Prelude.{ℕ, List, Option, Some, None, codes, bytes_eq, if◌then◌else◌}
 use Rattle.ddc_base.specs.Decimals.{as_decimal}
 use Rattle.ddc_base.specs.Names.{name_of}
@@ -49,7 +49,7 @@ checked_of fields = do
   language ← language_named fields
   Some (Checked (Some language))
 
--- the binary that was compared, and what the comparison found
+-- the compared binary and the result of the comparison
 unfoldable pub binary_of : List ℕ → Option (List ℕ × Compared)
 binary_of text = do
   cut ← cut_at 32 text
@@ -83,7 +83,7 @@ longer_line_of text = do
   cut ← cut_at 32 text
   line_of_kind cut.0 cut.1
 
--- the line that a text is, without its LF
+-- the line with this text, given without its LF
 unfoldable pub line_of : List ℕ → Option ReportLine
 line_of text =
     if bytes_eq text (codes "end") then Some End

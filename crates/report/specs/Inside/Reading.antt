@@ -1,4 +1,4 @@
--- No promise rests on this file being read: how a report is read line by line.
+-- How a report is read line by line. To read the promises, this file is not needed.
 use Rattle.std.specs.Prelude.{Option, Some, None}
 use Rattle.report.specs.declared.line.ReportLine.{ReportLine}
 use Rattle.report.specs.declared.state.State.{State}
@@ -8,7 +8,7 @@ use Rattle.report.specs.Inside.LineByLine.{Reader}
 use Rattle.report.specs.Inside.LinesRead.{line_of}
 use Rattle.report.specs.Inside.States.{step}
 
--- the report that a state has ended
+-- the report of a state after the end line
 abbrev pub ended_report : State → Option Report
 ended_report (Ended report) = Some report
 ended_report _ = None

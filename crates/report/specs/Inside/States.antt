@@ -1,4 +1,4 @@
--- No promise rests on this file being read: which line may follow which.
+-- Which line may follow which. To read the promises, this file is not needed.
 use Rattle.std.specs.Prelude.{ℕ, Bool, true, ◌-◌, nat_lt, List, [], ◌∷◌, ◌++◌, length, slice_get, Option, Some, None, if◌then◌else◌}
 use Rattle.std.specs.Ordering.{nat_cmp, is_lt}
 use Rattle.std.specs.Cmp.Lexicographic.{slice_cmp}
@@ -18,7 +18,7 @@ abbrev pub is_after : Option LeftLine → List ℕ → Bool
 is_after None name = true
 is_after (Some file) name = is_lt (slice_cmp nat_cmp file.name name)
 
--- the name comes after the last of these
+-- the name is greater than the last of these
 abbrev pub follows : List LeftLine → List ℕ → Bool
 follows left name = is_after (slice_get left (length left - 1)) name
 

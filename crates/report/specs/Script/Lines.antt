@@ -1,4 +1,4 @@
--- The lines of a script's report, as words. docs/reference/kaem-report.md says the same for people.
+-- The lines of a script's report, as words. docs/reference/kaem-report.md is the page for readers.
 use Rattle.std.specs.Prelude.{ℕ, List, [], ◌∷◌, decimal, codes}
 use Rattle.std.specs.List.{flat_map}
 use Rattle.hex.specs.Hex.{encode_lower}
@@ -18,6 +18,6 @@ script_line_words (Stream2 mark) = codes "stream" ∷ codes "2" ∷ mark_words m
 script_line_words (Left file) = codes "left" ∷ encode_lower file.name ∷ mark_words file.mark
 script_line_words End = codes "end" ∷ []
 
--- the text of lines: in each a blank between neighbouring words, and an LF at its end
+-- the text of lines: in each, a space between neighbouring words, and an LF at the end
 abbrev pub script_lines_text : List ScriptLine → List ℕ
 script_lines_text lines = flat_map (λ l. line (script_line_words l)) lines

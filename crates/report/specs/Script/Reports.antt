@@ -1,5 +1,5 @@
--- A script's report: which are well formed, their one text, and where a text is none. Its digests are those of SHA-256 (FIPS 180-4).
--- docs/reference/kaem-report.md says the same for people.
+-- Reports of scripts: which are well-formed, their unique text, and the first fault of any other text. Digests are SHA-256 (FIPS 180-4).
+-- docs/reference/kaem-report.md is the page for readers.
 use Rattle.std.specs.Prelude.{◌≤◌, ◌^◌, ℕ, All, List, [], ◌∷◌, ◌++◌, length, map, IsTrue}
 use Rattle.std.specs.List.{flat_map}
 use Rattle.report.specs.Reports.{IsCount, IsDigest, IsLeft, IsMark, ascend}
@@ -20,7 +20,7 @@ abbrev pub script_report_lines : ScriptReport → List ScriptLine
 script_report_lines report =
     (Header ∷ Script report.script ∷ map File report.files) ++ flat_map command_block report.commands ++ map Left report.left ++ End ∷ []
 
--- the one text of a script's report
+-- the unique text of a script's report
 abbrev pub script_report_text : ScriptReport → List ℕ
 script_report_text report = script_lines_text (script_report_lines report)
 

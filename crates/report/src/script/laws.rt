@@ -16,12 +16,12 @@ pub fn short_text()
     ensures { (report : ReportValue) → IsScriptReport report → length (script_report_text report) < 1_073_741_824 }
 {}
 
-/// What a text reads as is its one reading: the report whose text it is, or else its first fault.
+/// A text has exactly one reading: the report with this text, or otherwise its first fault.
 pub fn one_reading()
     ensures { (bytes : List ℕ) (reading : Result ReportValue ℕ) → (script_report_of bytes ≡ reading) ↔ IsReading script_report_texts bytes reading }
 {}
 
-/// The text of a well-formed report reads as that report.
+/// Reading the text of a well-formed report returns that report.
 pub fn what_is_written_is_read()
     ensures { (report : ReportValue) → IsScriptReport report → script_report_of (script_report_text report) ≡ Ok report }
 {}

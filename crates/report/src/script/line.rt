@@ -1,4 +1,4 @@
-//! A line of a script's report by itself.
+//! One line of a script's report.
 
 ghost use Rattle.std.specs.Prelude.{◌≡◌, IfOk};
 ghost use Rattle.report.specs.Inside.Script.Lines.{line_of, longer_line_of, line_of_kind, header_of, script_of, file_of, steps_of, command_of, stream_of, left_of};
@@ -25,7 +25,7 @@ pub enum ScriptLine {
     End,
 }
 
-/// The line that a text is, without its LF.
+/// The line with this text, given without its LF.
 #[tactic(auto, unfolding(crate::specs::Inside::Script::Lines::line_of))]
 pub(crate) fn line_of(alloc: Global, text: &[u8]) -> Result<Option<ScriptLine>, OutOfMemory>
     ensures { IfOk result (λ line. line ≡ line_of text.now) }

@@ -17,10 +17,11 @@ use crate::script::state::ScriptState;
 use crate::script::types::ScriptReport;
 use std::alloc::Global;
 
-/// The report whose text the bytes are.
+/// The report with this text.
 ///
-/// Every other text is refused with the least number of lines that begin no report: a line that is not there, or that lacks its LF, begins
-/// none, and so does what follows the last line. The time is that of the bytes' number, and what is copied is what the report keeps.
+/// Every other text is refused with the number of its first invalid line: the least number of lines that no report
+/// begins with. A missing line, a line without its LF, and anything after the last line are invalid.
+/// Takes time linear in the number of bytes. Copies only what the report keeps.
 pub fn read(alloc: Global, bytes: &[u8]) -> Result<ScriptReport, ReportRefusal>
     ensures found { IfOk result (λ report. IsScriptReport report × (bytes.now ≡ script_report_text report)) }
     ensures only { (report : ReportValue) → IsScriptReport report → bytes.now ≡ script_report_text report → IsRead report result }
@@ -40,7 +41,7 @@ fn read_report(alloc: Global, bytes: &[u8]) -> Result<ScriptReport, ReportRefusa
     }
 }
 
-/// How far the bytes' lines lead, and the number of the line after them.
+/// The state after the bytes' lines, and the number of the next line.
 fn read_lines(alloc: Global, bytes: &[u8]) -> Result<(ScriptState, u64), ReportRefusal>
     ensures { ReadsLines script_reader (script_report_of bytes.now) bytes.now result }
 {
@@ -59,7 +60,7 @@ fn read_lines(alloc: Global, bytes: &[u8]) -> Result<(ScriptState, u64), ReportR
     Ok((state, number + 1))
 }
 
-/// The line at the front of some bytes, which is that of a number, and what follows its LF.
+/// The first line of some bytes, and the bytes after its LF. `number` is that line's number.
 #[tactic(auto, unfolding(crate::specs::Inside::LineByLine::next_line))]
 fn next_line(alloc: Global, bytes: &[u8], number: u64) -> Result<(ScriptLine, &[u8]), ReportRefusal>
     ensures value { IfOk result (λ next. Some (next.0, next.1.now) ≡ next_line line_of bytes.now) }

@@ -1,4 +1,4 @@
-//! How far a script's report has been read, and which line may come next.
+//! The state of reading a script's report, and which line may come next.
 
 ghost use Rattle.std.specs.Prelude.{◌≡◌, IfOk};
 ghost use Rattle.report.specs.Inside.Script.States.{step};
@@ -13,13 +13,13 @@ use ddc_base::digests::Digest;
 use ddc_base::{ListOf, OutOfMemory};
 use std::alloc::Global;
 
-/// The most files, the most commands, and the most files that are left.
+/// The most files, the most commands, and the most left files.
 const MANY: usize = 4096;
 
-/// How far a report has been read.
+/// The state of reading a script's report.
 #[derive(Drop)]
 pub enum ScriptState {
-    /// Nothing yet.
+    /// Nothing was read yet.
     Start,
     /// The header.
     Titled,
@@ -27,14 +27,14 @@ pub enum ScriptState {
     Body(ScriptReport),
     /// In a block: the command's steps.
     Named(ScriptReport, u64),
-    /// In a block: its first stream too.
+    /// In a block: the first stream as well.
     Heard(ScriptReport, u64, Mark),
-    /// The end.
+    /// The end line.
     Ended(ScriptReport),
 }
 
 impl ScriptState {
-    /// The state after one more line, if a report goes on with it.
+    /// The state after one more line, if a report may continue with it.
     #[tactic(auto, unfolding(crate::specs::Inside::Script::States::step))]
     pub(crate) fn after(
         self,
@@ -81,7 +81,7 @@ fn after_header(alloc: Global, line: ScriptLine) -> Option<ScriptState>
     }
 }
 
-/// Between blocks.
+/// The state after one more line between blocks.
 #[tactic(auto, unfolding(crate::specs::Inside::Script::States::step))]
 fn after_block(report: ScriptReport, line: ScriptLine) -> Result<Option<ScriptState>, OutOfMemory>
     ensures { IfOk result (λ next. next ≡ step (state.Body report) line) }

@@ -14,15 +14,15 @@ use ddc_base::digests::Digest;
 use ddc_base::{Bytes, OutOfMemory, put_decimal, put_hex};
 use std::alloc::Global;
 
-/// Room for the lines around the files and commands, for a file's line without its name, and for a command's block. Lengths and steps
-/// have at most 20 digits.
+/// Capacity for the lines around the files and commands, for a file's line without its name, and for a command's block.
+/// Lengths and steps have at most 20 digits.
 const FRONT_ROOM: usize = 96;
 
 const FILE_ROOM: usize = 92;
 
 const COMMAND_ROOM: usize = 224;
 
-/// The one text of a well-formed report of a script. It has fewer than 2^30 bytes.
+/// The unique text of a well-formed report of a script. It has fewer than 2^30 bytes.
 pub fn write(alloc: Global, report: &ScriptReport) -> Result<Bytes, OutOfMemory>
     requires { IsScriptReport report.now }
     ensures value { IfOk result (λ text. text ≡ script_report_text report.now) }
@@ -42,7 +42,7 @@ fn text_of(alloc: Global, report: &ScriptReport) -> Result<Bytes, OutOfMemory>
     Ok(out)
 }
 
-/// Enough for a report's text, so that it is not moved as it grows, and not much more.
+/// Capacity for a report's text, so that it is not moved as it grows. It is little more than needed.
 fn room(report: &ScriptReport) -> usize {
     let commands = report.commands.len().saturating_mul(COMMAND_ROOM);
     FRONT_ROOM
@@ -60,7 +60,7 @@ fn files_room(files: &[LeftLine]) -> usize {
     room
 }
 
-/// What stands above the commands.
+/// Writes the lines above the commands.
 fn put_front(out: &mut Bytes, script: &Digest, files: &[LeftLine]) -> Result<(), OutOfMemory>
     ensures { OnOk result (out.new ≡ out.old ++ script_lines_text (line.Header ∷ line.Script script.now ∷ map line.File files.now)) }
 {
@@ -106,7 +106,7 @@ fn put_commands(out: &mut Bytes, commands: &[CommandLine]) -> Result<(), OutOfMe
     Ok(())
 }
 
-/// A command's block.
+/// Writes a command's block.
 fn put_command(out: &mut Bytes, command: &CommandLine) -> Result<(), OutOfMemory>
     ensures { OnOk result (out.new ≡ out.old ++ script_lines_text (command_block command.now)) }
 {

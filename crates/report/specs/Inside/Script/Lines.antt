@@ -1,4 +1,4 @@
--- No promise rests on this file being read: a line of a script's report by itself, read.
+-- One line of a script's report, read by itself. To read the promises, this file is not needed.
 use Rattle.std.specs.Prelude.{ℕ, ◌^◌, ◌&&◌, nat_le, List, Option, Some, None, codes, bytes_eq, if◌then◌else◌}
 use Rattle.ddc_base.specs.Decimals.{as_decimal}
 use Rattle.report.specs.Inside.Cuts.{◌>>=◌, cut_at}
@@ -54,6 +54,6 @@ longer_line_of text = do
   cut ← cut_at 32 text
   line_of_kind cut.0 cut.1
 
--- the line that a text is, without its LF
+-- the line with this text, given without its LF
 unfoldable pub line_of : List ℕ → Option ScriptLine
 line_of text = if bytes_eq text (codes "end") then Some End else longer_line_of text

@@ -1,4 +1,4 @@
--- No promise rests on this file being read: how a script's report is read line by line.
+-- How a script's report is read line by line. To read the promises, this file is not needed.
 use Rattle.std.specs.Prelude.{Option, Some, None}
 use Rattle.report.specs.Inside.LineByLine.{Reader}
 use Rattle.report.specs.Inside.Script.Lines.{line_of}
@@ -8,7 +8,7 @@ use Rattle.report.specs.declared.script.state.ScriptState.{ScriptState}
 use Rattle.report.specs.declared.script.state.ScriptState.TheVariants.{Start, Ended}
 use Rattle.report.specs.declared.script.types.ScriptReport.{ScriptReport}
 
--- the report that a state has ended
+-- the report of a state after the end line
 abbrev pub ended_script : ScriptState → Option ScriptReport
 ended_script (Ended report) = Some report
 ended_script _ = None

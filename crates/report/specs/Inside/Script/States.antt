@@ -1,4 +1,4 @@
--- No promise rests on this file being read: which line of a script's report may follow which.
+-- Which line of a script's report may follow which. To read the promises, this file is not needed.
 use Rattle.std.specs.Prelude.{◌+◌, ◌==◌, nat_lt, [], ◌∷◌, ◌++◌, length, Option, Some, None, if◌then◌else◌}
 use Rattle.report.specs.Inside.States.{follows}
 use Rattle.report.specs.declared.types.LeftLine.{LeftLine}
@@ -9,7 +9,7 @@ use Rattle.report.specs.declared.script.state.ScriptState.TheVariants.{Start, Ti
 use Rattle.report.specs.declared.script.types.CommandLine.{CommandLine}
 use Rattle.report.specs.declared.script.types.ScriptReport.{ScriptReport}
 
--- one more file, command, or file that is left
+-- one more file, command, or left file
 abbrev pub with_file : ScriptReport → LeftLine → ScriptReport
 with_file report file = record report { files = report.files ++ file ∷ [] }
 
@@ -19,7 +19,7 @@ with_command report command = record report { commands = report.commands ++ comm
 abbrev pub with_left : ScriptReport → LeftLine → ScriptReport
 with_left report file = record report { left = report.left ++ file ∷ [] }
 
--- the state after one more line: files come before commands, and commands before what is left
+-- the state after one more line: files precede commands, and commands precede left files
 unfoldable pub step : ScriptState → ScriptLine → Option ScriptState
 step Start Header = Some Titled
 step Titled (Script digest) = Some (Body (record { script = digest; files = []; commands = []; left = [] }))
