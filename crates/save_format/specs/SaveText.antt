@@ -1,4 +1,4 @@
--- What the text of a save says, and how it is read, field by field. docs/reference/save.md says the same for people.
+-- The fields of a save, and how they are read. docs/reference/save.md is the page for readers.
 use Rattle.std.specs.Prelude.{ℕ, Bool, true, Option, None, Some, List, [], ◌∷◌, Result}
 use Rattle.std.specs.Int.{w32}
 use Rattle.std.specs.Ordering.{nat_cmp, is_lt}
@@ -13,7 +13,7 @@ use Rattle.save_format.specs.StateText.StateText.{StateText, state_in}
 
 -- ---- what a text says
 
--- a stage that is done
+-- a finished stage
 pub record StageText : Type 0 where
   pub steps : ℕ
   pub stream1 : Mark
@@ -29,7 +29,7 @@ pub record SaveText : Type 0 where
 
 -- ---- how it is read
 
--- the eight bytes that begin each text of a form: `ddcsave1` and `ddcsave2`
+-- the eight bytes that begin each text of a format: `ddcsave1` and `ddcsave2`
 abbrev pub save_magic : TextForm → List ℕ
 save_magic First = 100 ∷ 100 ∷ 99 ∷ 115 ∷ 97 ∷ 118 ∷ 101 ∷ 49 ∷ []
 save_magic Second = 100 ∷ 100 ∷ 99 ∷ 115 ∷ 97 ∷ 118 ∷ 101 ∷ 50 ∷ []
@@ -45,12 +45,12 @@ mark_at = do
   digest ← digest_at
   done (record { length = length; digest = digest })
 
--- is a name after the one before it, by their bytes?
+-- is a name greater than the preceding one, by their bytes?
 abbrev pub comes_after : Option (List ℕ) → List ℕ → Bool
 comes_after None name = true
 comes_after (Some last) name = is_lt (slice_cmp nat_cmp last name)
 
--- a length, and a name of that many bytes, which is wrong where it does not follow the one before it
+-- a length, and a name of that many bytes; it is wrong if it is not greater than the preceding one
 unfoldable pub saved_name_at : Option (List ℕ) → Reader (List ℕ)
 saved_name_at last = do
   count ← u16
@@ -74,7 +74,7 @@ saved_stage_at any = do
   made ← blob w32
   done (record { steps = steps; stream1 = stream1; stream2 = stream2; left = left; made = made })
 
--- what stands after the magic of a form: its state has the same form
+-- the fields after the magic of a format; the state has the same format
 unfoldable pub fields_at : TextForm → Reader SaveText
 fields_at form = do
   recipe ← digest_at
@@ -83,7 +83,7 @@ fields_at form = do
   state ← state_in form
   done (record { recipe = recipe; inputs = inputs; stages = stages; state = state })
 
--- of which recipe a text of either form is, and of how many inputs, whose digests follow
+-- the recipe of a save in either format, and the number of inputs, whose digests follow
 unfoldable pub origin_at : Reader (Digest × ℕ)
 origin_at = do
   form ← begun_in (save_magic First) (save_magic Second)
@@ -91,12 +91,12 @@ origin_at = do
   count ← u32
   done (recipe, count)
 
--- a text of either form
+-- a save in either format
 unfoldable pub save_at : Reader SaveText
 save_at = do
   form ← begun_in (save_magic First) (save_magic Second)
   fields_at form
 
--- what a text says, or the offset of its first wrong field: nothing follows the state
+-- the save in a text, or the offset of its first wrong field: nothing follows the state
 unfoldable pub parsed_save : List ℕ → Result SaveText ℕ
 parsed_save text = whole save_at text

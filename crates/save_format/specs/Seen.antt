@@ -1,4 +1,4 @@
--- What the code has, as the definitions see it.
+-- The code's values as the definitions see them.
 use Rattle.std.specs.Prelude.{◌≡◌, ℕ, length, map, IsOk, Result, Ok, Err}
 use Rattle.ddc_base.specs.declared.digests.Digest.{Digest}
 use Rattle.save_format.specs.StateText.Mappable.{IsFrontOf}
@@ -20,13 +20,13 @@ stage_view s = record { steps = s.steps; stream1 = s.stream1; stream2 = s.stream
 abbrev pub save_view : Parts → SaveText
 save_view p = record { recipe = p.recipe; inputs = map input_view p.inputs.items; stages = map stage_view p.done.items; state = state.state_view p.state }
 
--- what was read is what the text says; want of memory comes only where the text's form holds
+-- the result agrees with reading the text; memory runs out only if the text is well-formed
 abbrev pub ReadsSaveText : Result Parts TextRefusal → Result SaveText ℕ → Type 0
 ReadsSaveText (Ok p) read = read ≡ Ok (save_view p)
 ReadsSaveText (Err (Form offset)) read = read ≡ Err offset
 ReadsSaveText (Err OutOfMemory) read = IsOk read
 
--- what a save says in front of the pages of its state: how many stages are done, and the front of the state
+-- the fields of a save in front of the pages of its state: how many stages are finished, and the front of the state
 pub record IsSaveFrontOf (front : SaveFront) (save : SaveText) : Type 0 where
   pub stages : front.stages ≡ length save.stages
   pub state : IsFrontOf front.state save.state

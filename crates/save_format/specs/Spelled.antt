@@ -1,4 +1,4 @@
--- How a save is spelled, and which have a text.
+-- How a save is written, and which saves have a text.
 use Rattle.std.specs.Prelude.{◌≡◌, ◌⊎◌, ℕ, ◌^◌, ◌<◌, true, Option, None, List, ◌++◌, All, length}
 use Rattle.std.specs.Int.{w16, w32, w64}
 use Rattle.ddc_base.specs.declared.digests.Digest.{Digest}
@@ -29,14 +29,14 @@ unfoldable pub save_text_in : TextForm → SaveText → List ℕ
 save_text_in form save =
     save_magic form ++ (digest_text save.recipe ++ (list_text digest_text save.inputs ++ (list_text stage_text save.stages ++ state.state_text_in form save.state)))
 
--- what is written has the second form
+-- new texts are written in format 2
 abbrev pub text_of_save : SaveText → List ℕ
 text_of_save save = save_text_in Second save
 
 abbrev pub old_text_of_save : SaveText → List ℕ
 old_text_of_save save = save_text_in First save
 
--- its lengths have a place in a text
+-- its lengths fit their fields
 pub record IsShortStage (stage : StageText) : Type 0 where
   pub stream1 : stage.stream1.length < 2 ^ 32
   pub stream2 : stage.stream2.length < 2 ^ 32
@@ -74,6 +74,6 @@ pub record IsSaveText (save : SaveText) : Type 0 where
 
 -- ---- which are its texts
 
--- a save has one text of the second form; where nothing is reserved it has also an old text, of the first
+-- a save has one text in format 2; without a reservation it also has one in format 1
 abbrev pub IsTextOfSave : SaveText → List ℕ → Type 0
 IsTextOfSave save text = (text ≡ text_of_save save) ⊎ ((save.state.reservation ≡ None) × (text ≡ old_text_of_save save))

@@ -1,6 +1,6 @@
-//! Fields of a text of bytes: read from left to right, with how many bytes were left at the first wrong one, and spelled.
+//! Fields of a byte text: read from left to right, and written. A wrong field is reported by how many bytes were left at it.
 //!
-//! A field is a little-endian number, a byte, so many bytes, a length with so many bytes, or a list of items.
+//! A field is a little-endian number, a byte, a fixed number of bytes, a length and that many bytes, or a list of items.
 
 mod cursor;
 mod form;

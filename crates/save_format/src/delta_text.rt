@@ -1,6 +1,6 @@
-//! The text of a delta: where an audit stands, kept as what differs from a save, its base.
+//! The text of a delta: an audit's checkpoint, stored as its difference from a base save.
 //!
-//! docs/reference/delta.md has its fields for a reader, and specs/DeltaText/DeltaText.antt the same for the prover.
+//! The fields are in docs/reference/delta.md for readers, and in specs/DeltaText/DeltaText.antt for the prover.
 
 pub mod laws;
 mod parts;

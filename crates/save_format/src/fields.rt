@@ -1,4 +1,4 @@
-//! How each field of a save is read and written.
+//! Reads and writes each field of a save.
 
 ghost use Rattle.std.specs.Prelude.{◌≡◌, ◌<◌, ◌^◌, ◌++◌, All, None, OnErr, OnOk, length, map};
 ghost use Rattle.std.specs.Io.{StartsWith};
@@ -31,7 +31,7 @@ pub fn digest_of(cursor: &mut Cursor<'_>) -> Result<Digest, WrongField>
     Ok(Digest(digest))
 }
 
-/// A length of 4 bytes, and a digest.
+/// A mark: a length of 4 bytes, and a digest.
 #[tactic(auto, unfolding(crate::specs::SaveText::mark_at))]
 pub(crate) fn mark_of(cursor: &mut Cursor<'_>) -> Result<Mark, WrongField>
     ensures { Finds (λ x. x) result cursor.new (mark_at cursor.old) }
@@ -44,7 +44,7 @@ pub(crate) fn mark_of(cursor: &mut Cursor<'_>) -> Result<Mark, WrongField>
     })
 }
 
-/// Adds a mark.
+/// Appends a mark.
 #[tactic(auto, using(crate::proofs::ByteFieldsLemmas::Kept::kept), unfolding(crate::specs::Spelled::mark_text))]
 pub(crate) fn put_mark(out: &mut Bytes, mark: Mark) -> Result<(), OutOfMemory>
     requires { mark.length < 2 ^ 32 }
@@ -55,7 +55,7 @@ pub(crate) fn put_mark(out: &mut Bytes, mark: Mark) -> Result<(), OutOfMemory>
     out.extend(&mark.digest.0)
 }
 
-/// Whether a name is after the one before it.
+/// Whether a name is greater than the preceding one.
 fn comes_after(last: Option<&[u8]>, name: &[u8]) -> bool
     ensures { result ≡ comes_after (option_copied last.entry) name.now }
 {
@@ -100,7 +100,7 @@ pub(crate) fn line_of<'a>(
     Ok((name, mark))
 }
 
-/// Adds the files that a stage left.
+/// Appends the files that a stage left.
 #[tactic(auto, using(crate::proofs::ByteFieldsLemmas::Kept::kept))]
 pub(crate) fn put_left(out: &mut Bytes, files: &[LeftLine]) -> Result<(), OutOfMemory>
     requires few { length files.now < 2 ^ 32 }
@@ -160,7 +160,7 @@ impl<'a> TextItem<'a> for InputPart {
     }
 }
 
-/// The first fields of a stage that is done.
+/// The first fields of a finished stage.
 #[tactic(auto, unfolding(crate::specs::SaveText::saved_stage_at, crate::specs::Inside::Fronts::left_and_made_at))]
 pub(crate) fn stage_front(cursor: &mut Cursor<'_>) -> Result<StageFront, WrongField>
     ensures { ReadsFront left_and_made_at result cursor.new (saved_stage_at 0 cursor.old) }
@@ -177,7 +177,7 @@ pub(crate) fn stage_front(cursor: &mut Cursor<'_>) -> Result<StageFront, WrongFi
     })
 }
 
-/// A copy of a length of 4 bytes, and that many bytes.
+/// A length of 4 bytes, and a copy of that many bytes.
 fn copy_of(alloc: Global, cursor: &mut Cursor<'_>) -> Result<Bytes, ReadStop>
     ensures { GivesField (λ x. x) result cursor.new (blob w32 cursor.old) }
 {
@@ -186,7 +186,7 @@ fn copy_of(alloc: Global, cursor: &mut Cursor<'_>) -> Result<Bytes, ReadStop>
     Ok(copy)
 }
 
-/// A stage that is done.
+/// A finished stage.
 #[tactic(auto, unfolding(crate::specs::Inside::Fronts::left_and_made_at))]
 pub(crate) fn stage_of(alloc: Global, cursor: &mut Cursor<'_>) -> Result<StagePart, ReadStop>
     ensures { GivesField stage_view result cursor.new (saved_stage_at 0 cursor.old) }
@@ -203,7 +203,7 @@ pub(crate) fn stage_of(alloc: Global, cursor: &mut Cursor<'_>) -> Result<StagePa
     })
 }
 
-/// A count of 4 bytes, and that many stages that are done.
+/// A count of 4 bytes, and that many finished stages.
 pub(crate) fn stages_of(alloc: Global, cursor: &mut Cursor<'_>) -> Result<Vec<StagePart>, ReadStop>
     ensures { GivesField (λ v. map stage_view v.items) result cursor.new (counted saved_stage_at (λ stage. 0) 0 cursor.old) }
 {
@@ -216,7 +216,7 @@ pub(crate) fn stages_of(alloc: Global, cursor: &mut Cursor<'_>) -> Result<Vec<St
     Ok(stages)
 }
 
-/// Goes past the files that a stage left.
+/// Skips the files that a stage left.
 fn pass_left(cursor: &mut Cursor<'_>, count: u32) -> Result<(), WrongField>
     ensures { GoesPast result cursor.new (several saved_left_at after_left None count cursor.old) }
 {
@@ -228,7 +228,7 @@ fn pass_left(cursor: &mut Cursor<'_>, count: u32) -> Result<(), WrongField>
     Ok(())
 }
 
-/// Goes past a stage that is done.
+/// Skips a finished stage.
 #[tactic(auto, unfolding(crate::specs::Inside::Fronts::left_and_made_at))]
 pub(crate) fn pass_stage(cursor: &mut Cursor<'_>) -> Result<(), WrongField>
     ensures { GoesPast result cursor.new (saved_stage_at 0 cursor.old) }
@@ -239,7 +239,7 @@ pub(crate) fn pass_stage(cursor: &mut Cursor<'_>) -> Result<(), WrongField>
     Ok(())
 }
 
-/// Goes past so many stages that are done.
+/// Skips `count` finished stages.
 pub(crate) fn pass_several(cursor: &mut Cursor<'_>, count: u32) -> Result<(), WrongField>
     ensures { GoesPast result cursor.new (several saved_stage_at (λ stage. 0) 0 count cursor.old) }
 {
@@ -249,7 +249,7 @@ pub(crate) fn pass_several(cursor: &mut Cursor<'_>, count: u32) -> Result<(), Wr
     Ok(())
 }
 
-/// Goes past a count of 4 bytes, and that many stages that are done.
+/// Skips a count of 4 bytes, and that many finished stages.
 pub(crate) fn pass_stages(cursor: &mut Cursor<'_>) -> Result<(), WrongField>
     ensures { GoesPast result cursor.new (counted saved_stage_at (λ stage. 0) 0 cursor.old) }
 {

@@ -1,11 +1,11 @@
-//! A save is read as it is spelled, in each form. Each law is the contract of a function that does nothing.
+//! Reading and writing a save are inverse, in each format. Each law is the contract of a function that does nothing.
 
 ghost use Rattle.save_format.specs.ByteFields.Law.{IsReadInForms};
 ghost use Rattle.save_format.specs.SaveText.{save_at};
 ghost use Rattle.save_format.specs.Spelled.{IsSaveText, save_text_in};
 ghost use Rattle.save_format.specs.StateText.Spelled.{HasPlaceIn};
 
-/// The text of a save, and with it its lists.
+/// A save's text reads as the save, and so do its lists.
 pub fn saves_are_read_as_spelled()
     ensures { IsReadInForms save_at save_text_in (λ form save. IsSaveText save × HasPlaceIn form save.state.reservation) }
 {}

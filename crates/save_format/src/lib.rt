@@ -1,8 +1,7 @@
-//! The text of a save: where an audit stands between two steps, as it is kept in a file. Below it stand the fields of such texts
-//! (`byte_fields`) and the text of a state (`state_text`).
+//! The text of a save: an audit's checkpoint between two steps, as stored in a file. The modules below are the fields
+//! of such texts (`byte_fields`) and the text of a state (`state_text`).
 //!
-//! docs/reference/save.md has its fields for a reader, and specs/SaveText.antt the same for the prover. What the fields say may still be
-//! no place in any audit: that is judged above.
+//! The fields are in docs/reference/save.md for readers, and in specs/SaveText.antt for the prover.
 #![tactic(auto)]
 
 pub mod byte_fields;

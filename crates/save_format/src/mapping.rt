@@ -1,4 +1,4 @@
-//! What is told of a save without memory: what it says in front of its pages, and of which recipe it is.
+//! Reads parts of a save without allocation: the fields in front of its pages, and the recipe that it belongs to.
 
 ghost use Rattle.std.specs.Prelude.{◌≡◌, IsOk, Ok};
 ghost use Rattle.save_format.specs.ByteFields.Reader.{Finds};
@@ -13,15 +13,15 @@ use crate::reading::{MAGIC, OLD_MAGIC};
 use crate::state_text::{StateFront, state_front};
 use ddc_base::digests::Digest;
 
-/// What a save says in front of the pages of its state.
+/// The fields of a save in front of the pages of its state.
 #[derive(Clone, Copy)]
 pub struct SaveFront {
-    /// How many stages are done.
+    /// How many stages are finished.
     pub stages: u32,
     pub state: StateFront,
 }
 
-/// The front of a save's text at the front of what remains.
+/// The fields in front of the pages, from a save's text at the start of the remaining bytes.
 #[tactic(auto, unfolding(crate::specs::SaveText::save_at, crate::specs::SaveText::fields_at))]
 fn save_front(cursor: &mut Cursor<'_>) -> Result<SaveFront, WrongField>
     ensures { Tells IsSaveFrontOf result (save_at cursor.old) }
@@ -35,7 +35,7 @@ fn save_front(cursor: &mut Cursor<'_>) -> Result<SaveFront, WrongField>
     Ok(SaveFront { stages, state })
 }
 
-/// What a save of the form says in front of the pages of its state, which takes no memory.
+/// The fields of a well-formed save in front of the pages of its state. Allocates nothing.
 pub fn front_of(text: &[u8]) -> SaveFront
     requires { IsOk (parsed_save text.now) }
     ensures { (save : SaveText) → parsed_save text.now ≡ Ok save → IsSaveFrontOf result save }
@@ -47,7 +47,7 @@ pub fn front_of(text: &[u8]) -> SaveFront
     }
 }
 
-/// The digest of the recipe that a save is of, and how many inputs that has, whose digests follow.
+/// The digest of a save's recipe, and the number of its inputs, whose digests follow.
 #[tactic(auto, unfolding(crate::specs::SaveText::origin_at))]
 pub fn origin_of(cursor: &mut Cursor<'_>) -> Result<(Digest, u32), WrongField>
     ensures { Finds (λ x. (x.0, x.1)) result cursor.new (origin_at cursor.old) }

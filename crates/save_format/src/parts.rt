@@ -8,14 +8,14 @@ pub struct InputPart {
     pub digest: Digest,
 }
 
-/// A stage that is done.
+/// A finished stage.
 #[derive(Drop)]
 pub struct StagePart {
     /// The step at which its program exited.
     pub steps: u64,
-    /// What its program wrote to its standard output; its length is below 2^32, as those of all marks here.
+    /// The mark of its program's standard output. Its length is below 2^32, as in all marks here.
     pub stream1: Mark,
-    /// What its program wrote to its standard error.
+    /// The mark of its program's standard error.
     pub stream2: Mark,
     /// The files that its program left, ascending by the bytes of their names.
     pub left: LeftLines,
@@ -23,7 +23,7 @@ pub struct StagePart {
     pub made: Bytes,
 }
 
-/// The first fields of a stage that is done.
+/// The first fields of a finished stage.
 #[derive(Clone, Copy)]
 pub(crate) struct StageFront {
     pub steps: u64,
@@ -33,15 +33,15 @@ pub(crate) struct StageFront {
     pub count: u32,
 }
 
-/// What the text of a save says. The contents of its state are borrowed.
+/// The fields of a save. The contents of its state are borrowed.
 #[derive(Drop)]
 pub struct Parts<'a> {
     /// The digest of the recipe's bytes.
     pub recipe: Digest,
-    /// In the recipe's order.
+    /// The inputs, in the recipe's order.
     pub inputs: Vec<InputPart>,
-    /// The stages that are done, in the recipe's order.
+    /// The finished stages, in the recipe's order.
     pub done: Vec<StagePart>,
-    /// The present stage's guest.
+    /// The guest of the current stage.
     pub state: crate::state_text::StateParts<'a>,
 }

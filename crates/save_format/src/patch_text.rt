@@ -1,6 +1,6 @@
-//! The text of a patch: a state, kept as what differs from another one, its base.
+//! The text of a patch: a state, stored as its difference from a base state.
 //!
-//! docs/reference/delta.md has its fields for a reader, and specs/PatchText/PatchText.antt the same for the prover.
+//! The fields are in docs/reference/delta.md for readers, and in specs/PatchText/PatchText.antt for the prover.
 
 mod change;
 mod fields;

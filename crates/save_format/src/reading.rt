@@ -14,10 +14,10 @@ use std::alloc::Global;
 /// The eight bytes that begin the text of a save.
 pub const MAGIC: [u8; 8] = *b"ddcsave2";
 
-/// Those that began one of the first form.
+/// The eight bytes that begin the text of a save of format 1.
 pub(crate) const OLD_MAGIC: [u8; 8] = *b"ddcsave1";
 
-/// A save's text of either form at the front of what is left.
+/// A save in either format, from the start of the remaining bytes.
 #[tactic(auto, unfolding(crate::specs::SaveText::save_at, crate::specs::SaveText::fields_at))]
 fn save_of<'a>(alloc: Global, cursor: &mut Cursor<'a>) -> Result<Parts<'a>, ReadStop>
     ensures { GivesField save_view result cursor.new (save_at cursor.old) }
@@ -35,7 +35,7 @@ fn save_of<'a>(alloc: Global, cursor: &mut Cursor<'a>) -> Result<Parts<'a>, Read
     })
 }
 
-/// Goes past a save's text of either form at the front of what is left.
+/// Skips a save in either format at the start of the remaining bytes.
 #[tactic(auto, unfolding(crate::specs::SaveText::save_at, crate::specs::SaveText::fields_at))]
 fn pass_save(cursor: &mut Cursor<'_>) -> Result<(), WrongField>
     ensures { GoesPast result cursor.new (save_at cursor.old) }
@@ -47,7 +47,7 @@ fn pass_save(cursor: &mut Cursor<'_>) -> Result<(), WrongField>
     pass_state_in(cursor, form)
 }
 
-/// Whether a text has the form of a save's, all of it.
+/// Checks that the whole text is a well-formed save.
 #[tactic(auto, unfolding(crate::specs::SaveText::parsed_save))]
 fn judge(text: &[u8]) -> Result<(), TextRefusal>
     ensures { JudgesForm result (parsed_save text.now) }
@@ -63,14 +63,15 @@ fn judge(text: &[u8]) -> Result<(), TextRefusal>
     }
 }
 
-/// What the text of a save says. Each field is judged given those before it, so an offset is that of the first wrong one; a wrong field of the
-/// state has its place in the save. The form is judged first, which takes no memory.
+/// Parses a save of either format. Errors: `Form` with the offset of the first wrong field, `OutOfMemory`.
+/// Each field is judged given those before it; the offset of a wrong field of the state counts from the start of the save.
+/// The format is checked first, without allocation.
 pub fn read(alloc: Global, text: &[u8]) -> Result<Parts<'_>, TextRefusal>
-    // What is read is spelled so, in one of the two forms.
+    // A parsed save has this text, in one of the two formats.
     ensures found { IfOk result (λ p. IsSaveText (save_view p) × IsTextOfSave (save_view p) text.now) }
-    // What is spelled so is read, unless memory runs out.
+    // Every such text is parsed, unless memory runs out.
     ensures only { (save : SaveText) → IsSaveText save → IsTextOfSave save text.now → ReadsSaveText result (Ok save) }
-    // Which field is the first wrong one.
+    // The offset is that of the first wrong field.
     ensures exact { ReadsSaveText result (parsed_save text.now) }
 {
     all(alloc, text)

@@ -1,7 +1,7 @@
-//! The text of a state: how a guest that stands between two steps is kept in a file.
+//! The text of a state: a guest between two steps, as stored in a file.
 //!
-//! docs/reference/save.md has its fields for a reader, and specs/StateText/StateText.antt the same for the prover. What the fields say may still be
-//! no state of any guest: that is judged above.
+//! The fields are in docs/reference/save.md for readers, and in specs/StateText/StateText.antt for the prover. Fields
+//! that are well-formed may still describe no state of any guest.
 
 mod items;
 pub mod laws;

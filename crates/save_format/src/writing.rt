@@ -7,7 +7,7 @@ use crate::fields::{put_left, put_mark};
 use ddc_base::{Bytes, OutOfMemory};
 use report::{LeftLine, Mark};
 
-/// Adds the marks of a stage's two streams, of which want of memory may leave a part after what was there.
+/// Appends the marks of a stage's two streams. Out of memory: a part may have been appended.
 #[tactic(auto, using(crate::proofs::Written::written, crate::proofs::ByteFieldsLemmas::Kept::kept))]
 fn put_streams(out: &mut Bytes, first: Mark, second: Mark) -> Result<(), OutOfMemory>
     requires first { first.length < 2 ^ 32 }
@@ -19,7 +19,7 @@ fn put_streams(out: &mut Bytes, first: Mark, second: Mark) -> Result<(), OutOfMe
     put_mark(out, second)
 }
 
-/// Adds a stage that is done, of which want of memory may leave a part after what was there.
+/// Appends a finished stage. Out of memory: a part may have been appended.
 #[tactic(auto, using(crate::proofs::Written::written, crate::proofs::ByteFieldsLemmas::Kept::kept), unfolding(crate::specs::Spelled::stage_text))]
 fn add_stage(
     out: &mut Bytes,
@@ -39,7 +39,7 @@ fn add_stage(
     put_blob32(out, made)
 }
 
-/// Adds a stage that is done, all or none: its steps, the marks of its two streams, the files that it left, and its artefact.
+/// Appends a finished stage, all or none: its steps, the marks of its two streams, the files that it left, and its artefact.
 pub fn put_stage(
     out: &mut Bytes,
     steps: u64,

@@ -8,7 +8,7 @@ use Rattle.save_format.specs.declared.byte_fields.cursor.WrongField.{WrongField}
 use Rattle.save_format.specs.declared.byte_fields.cursor.ReadStop.{ReadStop}
 use Rattle.save_format.specs.declared.byte_fields.cursor.ReadStop.TheVariants.{Wrong, OutOfMemory}
 
--- a value and what is left after it, or how many bytes were left at the first byte of the first wrong field
+-- a value and the bytes left after it, or how many bytes were left at the first byte of the first wrong field
 abbrev pub Read : Type 0 → Type 0
 Read A = Result (A × List ℕ) ℕ
 
@@ -43,7 +43,7 @@ u64 = number_of_width w64
 unfoldable pub byte : Reader ℕ
 byte left = if nat_lt (length left) 1 then Err (length left) else Ok (slice_index left 0, drop 1 left)
 
--- so many bytes
+-- `count` bytes
 unfoldable pub bytes : ℕ → Reader (List ℕ)
 bytes count left = if nat_lt (length left) count then Err (length left) else Ok (take count left, drop count left)
 
@@ -51,21 +51,21 @@ abbrev pub tested : {A : Type 0} → (A → Bool) → Read A → ℕ → Read A
 tested test (Ok x) at = if test x.0 then Ok x else Err at
 tested test (Err left) at = Err left
 
--- a field that meets a test, else it is wrong at its first byte
+-- a field that must meet a test; otherwise it is wrong at its first byte
 abbrev pub that : {A : Type 0} → (A → Bool) → Reader A → Reader A
 that test field left = tested test (field left) (length left)
 
--- a number of 4 bytes that is at least this
+-- a number of 4 bytes that is at least `least`
 abbrev pub u32_from : ℕ → Reader ℕ
 u32_from least = that (λ n. nat_le least n) u32
 
--- the eight bytes that begin each text of a form
+-- the eight bytes that begin each text of a format
 abbrev pub begun : List ℕ → Reader (Unit {0})
 begun magic = do
   found ← that (bytes_eq magic) (bytes 8)
   done tt
 
--- the eight bytes that begin each text of one of two forms: which of them this text has
+-- the eight bytes that begin a text of one of two formats, and which format it is
 abbrev pub begun_in : List ℕ → List ℕ → Reader TextForm
 begun_in first second = do
   found ← that (λ found. bytes_eq first found || bytes_eq second found) (bytes 8)
@@ -77,7 +77,7 @@ blob w = do
   count ← number_of_width w
   bytes count
 
--- so many items, each read in the light of the one before it
+-- `count` items, each read given the preceding one
 unfoldable pub several : {A S : Type 0} → (S → Reader A) → (A → S) → S → ℕ → Reader (List A)
 several item next s zero = done []
 several item next s (suc count) = do
@@ -85,7 +85,7 @@ several item next s (suc count) = do
   xs ← several item next (next x) count
   done (x ∷ xs)
 
--- so many items, each by itself
+-- `count` items, each read by itself
 abbrev pub alike : {A : Type 0} → Reader A → ℕ → Reader (List A)
 alike item count = several (λ (before : Unit {0}). item) (λ x. tt) tt count
 
@@ -95,26 +95,26 @@ counted item next s = do
   count ← number_of_width w32
   several item next s count
 
--- nothing is left after the value
+-- no bytes are left after the value
 abbrev pub ended : {A : Type 0} → Read A → Result A ℕ
 ended (Ok x) = if length x.1 == 0 then Ok x.0 else Err (length x.1)
 ended (Err left) = Err left
 
--- where a field begins of which so many bytes were left
+-- the offset at which a field begins that has this many bytes left
 abbrev pub placed_in : {A : Type 0} → ℕ → Result A ℕ → Result A ℕ
 placed_in size (Ok x) = Ok x
 placed_in size (Err left) = Err (size - left)
 
--- the value of a whole text, or how many bytes stand before its first wrong field
+-- the value of a whole text, or the offset of its first wrong field
 abbrev pub whole : {A : Type 0} → Reader A → List ℕ → Result A ℕ
 whole field text = placed_in (length text) (ended (field text))
 
--- what a function returned, seen by view, with what it left, is what reading gives
+-- the value that a function returned, seen by `view`, and the bytes that it left are those of reading; or both find the same wrong field
 abbrev pub Finds : {X Y : Type 0} → (X → Y) → Result X WrongField → List ℕ → Read Y → Type 0
 Finds view (Ok x) left read = read ≡ Ok (view x, left)
 Finds view (Err field) left read = read ≡ Err field.left
 
--- the same of a function that takes memory; want of it aside
+-- a wrong field is the one of reading; out of memory is always allowed
 abbrev pub FailsField : {Y : Type 0} → ReadStop → Read Y → Type 0
 FailsField (Wrong at) read = read ≡ Err at
 FailsField OutOfMemory read = Unit {0}

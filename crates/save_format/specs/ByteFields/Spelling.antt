@@ -1,4 +1,4 @@
--- How the values of fields are spelled, and which values have a text.
+-- How the values of fields are written, and which values have a text.
 use Rattle.std.specs.Prelude.{ℕ, ◌^◌, ◌<◌, List, [], ◌∷◌, ◌++◌, length}
 use Rattle.std.specs.List.{flat_map}
 use Rattle.std.specs.Int.{Width, w32, to_le_bytes}
@@ -15,7 +15,7 @@ blob_text w xs = number_text w (length xs) ++ xs
 abbrev pub list_text : {A : Type 0} → (A → List ℕ) → List A → List ℕ
 list_text item xs = number_text w32 (length xs) ++ flat_map item xs
 
--- each item fits in the light of the one before it
+-- each item fits, given the preceding one
 abbrev pub InTurn : {A S : Type 0} → (S → A → Type 0) → (A → S) → S → List A → Type 0
 InTurn Fits next s [] = Unit {0}
 InTurn Fits next s (x ∷ xs) = Fits s x × InTurn Fits next (next x) xs
@@ -24,7 +24,7 @@ InTurn Fits next s (x ∷ xs) = Fits s x × InTurn Fits next (next x) xs
 abbrev pub Alike : {A : Type 0} → (A → Type 0) → List A → Type 0
 Alike Fits xs = InTurn (λ (before : Unit {0}) x. Fits x) (λ x. tt) tt xs
 
--- few enough items for a count, each of which fits in the light of the one before it
+-- few enough items for a count, each of which fits, given the preceding one
 abbrev pub Counted : {A S : Type 0} → (S → A → Type 0) → (A → S) → S → List A → Type 0
 Counted Fits next s xs = (length xs < 2 ^ 32) × InTurn Fits next s xs
 

@@ -1,5 +1,5 @@
--- What the text of a delta says: where an audit stands, relative to the save that is its base. It is read field by field. docs/reference/delta.md says
--- the same for people.
+-- The fields of a delta: an audit's checkpoint, relative to the save that is its base; and how they are read.
+-- docs/reference/delta.md is the page for readers.
 use Rattle.std.specs.Prelude.{ℕ, List, [], ◌∷◌, ◌++◌, Result}
 use Rattle.ddc_base.specs.declared.digests.Digest.{Digest}
 use Rattle.save_format.specs.ByteFields.Reader.{Reader, ◌>>=◌, begun, done, whole}
@@ -10,7 +10,7 @@ use Rattle.save_format.specs.PatchText.PatchText.{patch_at}
 use Rattle.save_format.specs.PatchText.Spelled as patch
 use Rattle.save_format.specs.DeltaText.Stages.{AreStagesRelative, stages_relative_at, stages_relative_text}
 
--- the digest of its base's text, the stages that are done, and the present guest's state
+-- the digest of its base's text, the finished stages, and the state of the current guest
 pub record DeltaText : Type 0 where
   pub base : Digest
   pub stages : List StageText
@@ -20,7 +20,7 @@ pub record DeltaText : Type 0 where
 abbrev pub delta_magic : List ℕ
 delta_magic = 100 ∷ 100 ∷ 99 ∷ 100 ∷ 101 ∷ 108 ∷ 116 ∷ 50 ∷ []
 
--- of which base it is, which is judged before what follows
+-- the digest of its base, which is judged before the fields that follow
 unfoldable pub delta_front_at : Reader Digest
 delta_front_at = do
   start ← begun delta_magic
@@ -34,7 +34,7 @@ delta_at base = do
   state ← patch_at base.state
   done (record { base = digest; stages = stages; state = state })
 
--- what a text says relative to its base, or the offset of its first wrong field: nothing follows the patch
+-- the delta in a text, relative to its base, or the offset of its first wrong field: nothing follows the patch
 unfoldable pub parsed_delta : SaveText → List ℕ → Result DeltaText ℕ
 parsed_delta base text = whole (delta_at base) text
 

@@ -1,2 +1,2 @@
--- What serves the split of the code. No promise rests on this file being read.
+-- How the code is split. To read the promises, this file is not needed.
 pub mod Relative

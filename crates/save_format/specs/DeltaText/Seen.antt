@@ -1,4 +1,4 @@
--- What the code has, as the definitions see it.
+-- The code's values as the definitions see them.
 use Rattle.std.specs.Prelude.{◌≡◌, ℕ, map, IsOk, Result, Ok, Err}
 use Rattle.save_format.specs.DeltaText.DeltaText.{DeltaText}
 use Rattle.save_format.specs.Seen.{stage_view}
@@ -10,7 +10,7 @@ use Rattle.save_format.specs.declared.state_text.reading.TextRefusal.TheVariants
 abbrev pub delta_view : DeltaParts → DeltaText
 delta_view p = record { base = p.base; stages = map stage_view p.done.items; state = state.state_view p.state }
 
--- what was read is what the text says; want of memory comes only where the text's form holds
+-- the result agrees with reading the text; memory runs out only if the text is well-formed
 abbrev pub ReadsDeltaText : Result DeltaParts TextRefusal → Result DeltaText ℕ → Type 0
 ReadsDeltaText (Ok p) read = read ≡ Ok (delta_view p)
 ReadsDeltaText (Err (Form offset)) read = read ≡ Err offset

@@ -1,5 +1,5 @@
--- The stages that are done, relative to those of a base: how many in front are the base's, and then the further ones. docs/reference/delta.md says the
--- same for people.
+-- The finished stages, relative to those of a base: how many at the front are the base's, and then the further ones.
+-- docs/reference/delta.md is the page for readers.
 use Rattle.std.specs.Prelude.{ℕ, suc, ◌^◌, ◌<◌, Bool, true, false, ◌&&◌, ◌==◌, not, nat_le, bytes_eq, Option, None, Some, List, [], ◌∷◌, ◌++◌, All, length, take, drop, slice_get, if◌then◌else◌}
 use Rattle.std.specs.Int.{w32}
 use Rattle.save_format.specs.ByteFields.Reader.{Reader, ◌>>=◌, counted, done, that, u32}
@@ -28,19 +28,20 @@ equal_stages first second =
     first.steps == second.steps && (equal_marks first.stream1 second.stream1 && (equal_marks first.stream2 second.stream2
     && (equal_lefts first.left second.left && bytes_eq first.made second.made)))
 
--- is it another stage than the base's in its place, if that has one?
+-- does a stage differ from the base's stage at the same index, if there is one?
 abbrev pub is_other_stage : Option StageText → StageText → Bool
 is_other_stage None stage = true
 is_other_stage (Some known) stage = not (equal_stages known stage)
 
--- a further stage, which is wrong where it could have been kept
+-- a further stage; it is wrong if it equals the base's next stage
 unfoldable pub further_at : Option StageText → Reader StageText
 further_at known = that (is_other_stage known) (saved_stage_at 0)
 
 abbrev pub after_further : StageText → Option StageText
 after_further stage = None
 
--- so many stages of the base, and then further ones: the first of these is another than the base's, so that no more could be kept
+-- the kept stages of the base, and then further ones; the first of these differs from the base's next stage, so that no
+-- more could be kept
 unfoldable pub stages_relative_at : List StageText → Reader (List StageText)
 stages_relative_at base = do
   kept ← that (λ kept. nat_le kept (length base)) u32
@@ -49,7 +50,7 @@ stages_relative_at base = do
 
 -- ---- how they are spelled
 
--- how many stages in front are the same in both
+-- how many stages at the front are the same in both
 unfoldable pub kept_stages : List StageText → List StageText → ℕ
 kept_stages [] stages = 0
 kept_stages (known ∷ more) [] = 0
@@ -58,7 +59,7 @@ kept_stages (known ∷ more) (stage ∷ stages) = if equal_stages known stage th
 abbrev pub stages_relative_text : List StageText → List StageText → List ℕ
 stages_relative_text base stages = number_text w32 (kept_stages base stages) ++ list_text stage_text (drop (kept_stages base stages) stages)
 
--- each has a text, and so have both counts
+-- each stage has a text, and both counts fit their fields
 pub record AreStagesRelative (base stages : List StageText) : Type 0 where
   pub all : All IsStageText stages
   pub kept : kept_stages base stages < 2 ^ 32

@@ -1,4 +1,4 @@
--- Texts cut after their first fields: reading them, going past them and telling of them share what reads these.
+-- Texts split after their first fields, which reading, skipping and the functions for the fields in front of the pages share.
 use Rattle.std.specs.Prelude.{◌≡◌, ℕ, None, Some, List, option_map, Result, Ok, Err}
 use Rattle.std.specs.Int.{w32}
 use Rattle.save_format.specs.ByteFields.Reader.{Read, Reader, ◌>>=◌, blob, counted, done, several}
@@ -13,12 +13,12 @@ use Rattle.save_format.specs.declared.byte_fields.cursor.WrongField.{WrongField}
 use Rattle.save_format.specs.declared.state_text.parts.FrontNumbers.{FrontNumbers}
 use Rattle.save_format.specs.declared.parts.StageFront.{StageFront}
 
--- a function read the first fields of what is read, and the others are read after them; or it found one wrong
+-- a function read the first fields, and the rest is read after them; or it found one of them wrong
 abbrev pub ReadsFront : {X Y : Type 0} → (X → Reader Y) → Result X WrongField → List ℕ → Read Y → Type 0
 ReadsFront rest (Ok front) left read = read ≡ rest front left
 ReadsFront rest (Err field) left read = read ≡ Err field.left
 
--- what stands after the numbers of a state's text
+-- the fields after the numbers of a state
 unfoldable pub lists_at : FrontNumbers → Reader StateText
 lists_at numbers = do
   runs ← counted run_at after_run 0
@@ -29,7 +29,7 @@ lists_at numbers = do
   stream2 ← blob w32
   done (record { steps = numbers.steps; pc = numbers.pc; registers = numbers.registers; reservation = option_map reserved_view numbers.reservation; heap = numbers.heap; runs = runs; pages = pages; files = files; descriptors = descriptors; stream1 = stream1; stream2 = stream2 })
 
--- what stands after the numbers of a patch
+-- the fields after the numbers of a patch
 unfoldable pub lists_relative_at : StateText → FrontNumbers → Reader StateText
 lists_relative_at base numbers = do
   runs ← counted run_at after_run 0
@@ -40,14 +40,14 @@ lists_relative_at base numbers = do
   stream2 ← content_relative_at (Some base.stream2)
   done (record { steps = numbers.steps; pc = numbers.pc; registers = numbers.registers; reservation = option_map reserved_view numbers.reservation; heap = numbers.heap; runs = runs; pages = pages; files = files; descriptors = descriptors; stream1 = stream1; stream2 = stream2 })
 
--- what stands after the digest of a delta's base
+-- the fields after the digest of a delta's base
 unfoldable pub stages_and_state_at : SaveText → Digest → Reader DeltaText
 stages_and_state_at base digest = do
   stages ← stages_relative_at base.stages
   state ← patch_at base.state
   done (record { base = digest; stages = stages; state = state })
 
--- what stands after the first fields of a stage that is done
+-- the fields after the first ones of a finished stage
 unfoldable pub left_and_made_at : StageFront → Reader StageText
 left_and_made_at front = do
   left ← several saved_left_at after_left None front.count

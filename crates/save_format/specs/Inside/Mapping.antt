@@ -1,21 +1,21 @@
--- Telling what a text says in front of its pages, on the way to them, with no memory.
+-- Reading the fields in front of the pages without allocation.
 use Rattle.std.specs.Prelude.{◌≡◌, ◌+◌, ◌^◌, ◌≤◌, ◌↔◌, ℕ, All, Bool, IsTrue, List, Option, None, Some, Result, Ok, Err, sum_by}
 use Rattle.save_format.specs.ByteFields.Reader.{Read}
 use Rattle.save_format.specs.StateText.Mappable.{AreMappable}
 use Rattle.save_format.specs.declared.byte_fields.cursor.WrongField.{WrongField}
 use Rattle.save_format.specs.declared.state_text.parts.Run.{Run}
 
--- so many of the most pages are left after runs that can be mapped; none are where they cannot
+-- how many of the most pages are left after runs that can be mapped; none if they cannot
 abbrev pub IsLeftAfter : Option ℕ → List Run → Type 0
 IsLeftAfter None runs = ¬ (AreMappable runs)
 IsLeftAfter (Some left) runs = All (λ run. run.first + run.pages ≤ 2 ^ 26) runs × (sum_by (λ run. run.pages) runs + left ≡ 329_728)
 
--- a function went past runs and told whether they can be mapped, or found them wrong
+-- a function skipped runs and returned whether they can be mapped, or found them wrong
 abbrev pub PassesRuns : Result Bool WrongField → List ℕ → Read (List Run) → Type 0
 PassesRuns (Ok mappable) left read = (runs : List Run) × (read ≡ Ok (runs, left)) × (IsTrue mappable ↔ AreMappable runs)
 PassesRuns (Err field) left read = read ≡ Err field.left
 
--- a function told something of what is read, or found a field on the way to that wrong
+-- a function returned something about the value that is read, or found a wrong field before it
 abbrev pub Tells : {X Y : Type 0} → (X → Y → Type 0) → Result X WrongField → Read Y → Type 0
 Tells {X} {Y} Holds (Ok told) read = (y : Y) (left : List ℕ) → read ≡ Ok (y, left) → Holds told y
 Tells Holds (Err field) read = read ≡ Err field.left

@@ -1,4 +1,5 @@
--- What the text of a patch says: a state, relative to the state that is its base. It is read field by field. docs/reference/delta.md says the same for people.
+-- The fields of a patch: a state, relative to the state that is its base; and how they are read.
+-- docs/reference/delta.md is the page for readers.
 use Rattle.std.specs.Prelude.{ℕ, zero, suc, ◌+◌, ◌/◌, ◌%◌, ◌^◌, Bool, true, false, ◌&&◌, not, ◌==◌, nat_le, bytes_eq, Option, None, Some, option_map, unwrap_or, List, [], ◌∷◌, Result}
 use Rattle.std.specs.Int.{w16}
 use Rattle.save_format.specs.ByteFields.Reader.{Reader, ◌>>=◌, begun, blob, byte, bytes, counted, done, that, u32, u32_from, u64, whole}
@@ -13,12 +14,12 @@ patch_magic = 100 ∷ 100 ∷ 99 ∷ 100 ∷ 105 ∷ 102 ∷ 102 ∷ 50 ∷ []
 
 -- ---- registers
 
--- a register that is marked has another value than in the base; one that is not has the base's
+-- a marked register has another value than the base's; an unmarked one has the base's
 unfoldable pub register_at : ℕ → Bool → Reader ℕ
 register_at known true = that (λ value. not (known == value)) u64
 register_at known false = done known
 
--- a mark for each register, the lowest first
+-- one mark for each register, the lowest register first
 unfoldable pub marked_at : ℕ → List ℕ → Reader (List ℕ)
 marked_at marks [] = done []
 marked_at marks (known ∷ more) = do
@@ -26,7 +27,7 @@ marked_at marks (known ∷ more) = do
   values ← marked_at (marks / 2) more
   done (value ∷ values)
 
--- bit 0 would be the mark of x0, which is always 0
+-- bit 0 would be the mark of x0, which is always 0; it must be 0
 unfoldable pub marked_registers_at : List ℕ → Reader (List ℕ)
 marked_registers_at base = do
   marks ← that (λ marks. marks % 2 == 0) u32
@@ -34,7 +35,7 @@ marked_registers_at base = do
 
 -- ---- what is kept of the base, by number
 
--- do both states have the same here, be it nothing?
+-- do both states have the same content here, or none?
 abbrev pub equal_contents : Option (List ℕ) → Option (List ℕ) → Bool
 equal_contents None None = true
 equal_contents None (Some found) = false
@@ -44,14 +45,14 @@ equal_contents (Some known) (Some found) = bytes_eq known found
 abbrev pub is_new : Option (List ℕ) → List ℕ → Bool
 is_new known found = not (equal_contents known (Some found))
 
--- the byte before what is there: 1, or 0 where the base has something
+-- the byte in front of bytes that may be there: 1 if they are, or 0, which is allowed only if the base has bytes here
 abbrev pub is_mark : Option (List ℕ) → ℕ → Bool
 is_mark None mark = mark == 1
 is_mark (Some known) mark = nat_le mark 1
 
 -- ---- pages
 
--- a page that only one of two states lists, or both with other bytes; None: the base alone lists it
+-- a page that only one of two states lists, or that both list with different bytes; None: only the base lists it
 pub record PageChange : Type 0 where
   pub number : ℕ
   pub bytes : Option (List ℕ)
@@ -65,7 +66,7 @@ page_bytes_at known (suc more) = do
   found ← that (λ found. is_page found && is_new known found) (bytes 4096)
   done (Some found)
 
--- what stands after the number of a page that the base has so, or has not
+-- the fields after the number of a page, given the base's bytes of it
 unfoldable pub changed_bytes_at : Option (List ℕ) → Reader (Option (List ℕ))
 changed_bytes_at known = do
   mark ← that (is_mark known) byte
@@ -80,7 +81,7 @@ change_at base least = do
 abbrev pub after_change : PageChange → ℕ
 after_change change = change.number + 1
 
--- the pages of a state that has these changes against the base
+-- the pages of a state with these changes from the base
 abbrev pub page_of : ℕ → Option (List ℕ) → Option PageText
 page_of number found = option_map (λ bytes. record { number = number; bytes = bytes }) found
 
@@ -108,7 +109,7 @@ unfoldable pub marked_content_at : Option (List ℕ) → ℕ → Reader (List �
 marked_content_at known zero = done (unwrap_or known [])
 marked_content_at known (suc more) = new_content_at known
 
--- what the base has, or other bytes with their length before them
+-- the base's content, or other bytes preceded by their length
 unfoldable pub content_relative_at : Option (List ℕ) → Reader (List ℕ)
 content_relative_at known = do
   mark ← that (is_mark known) byte
@@ -146,6 +147,6 @@ patch_at base = do
   start ← begun patch_magic
   patch_body_at base
 
--- the state that a text says relative to its base, or the offset of its first wrong field: nothing follows the patch
+-- the state in a text, relative to its base, or the offset of its first wrong field: nothing follows the patch
 unfoldable pub parsed_patch : StateText → List ℕ → Result StateText ℕ
 parsed_patch base text = whole (patch_at base) text

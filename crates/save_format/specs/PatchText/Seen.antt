@@ -1,4 +1,4 @@
--- What the code has, as the definitions see it.
+-- The code's values as the definitions see them.
 use Rattle.std.specs.Prelude.{ℕ, List, Option, option_map}
 use Rattle.std.specs.Borrow.{Bor}
 use Rattle.std.specs.Option.{option_copied}

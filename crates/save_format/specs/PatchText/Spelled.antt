@@ -1,4 +1,4 @@
--- How a state is spelled relative to a base, and which have a text there.
+-- How a state is written relative to a base, and which states have such a text.
 use Rattle.std.specs.Prelude.{◌≡◌, ℕ, ◌+◌, ◌*◌, ◌^◌, ◌<◌, ◌==◌, if◌then◌else◌, Option, None, Some, List, [], ◌∷◌, ◌++◌, length}
 use Rattle.std.specs.Int.{w16, w32, w64}
 use Rattle.save_format.specs.ByteFields.Spelling.{Alike, Counted, InTurn, IsBlob, blob_text, list_text, number_text}
@@ -14,7 +14,7 @@ use Rattle.save_format.specs.PatchText.PatchText.{PageChange, content_in, patch_
 abbrev pub register_text : ℕ → ℕ → List ℕ
 register_text known value = if known == value then [] else number_text w64 value
 
--- bit i says whether the register at i differs
+-- bit i is set if the register at i differs
 unfoldable pub marks_of : List ℕ → List ℕ → ℕ
 marks_of [] values = 0
 marks_of (known ∷ more) [] = 0
@@ -28,7 +28,7 @@ values_text (known ∷ more) (value ∷ values) = register_text known value ++ v
 abbrev pub marked_registers_text : List ℕ → List ℕ → List ℕ
 marked_registers_text base values = number_text w32 (2 * marks_of base values) ++ values_text base values
 
--- the pages that only one of two states lists, or both with other bytes
+-- the change of a page that only one of two states lists, or that both list with different bytes
 abbrev pub page_change_of : ℕ → Option (List ℕ) → Option (List ℕ) → Option PageChange
 page_change_of number known found = if equal_contents known found then None else Some (record { number = number; bytes = found })
 
@@ -58,13 +58,13 @@ patch_body_text base s =
     ++ (list_text run_text s.runs ++ (page_changes_text base.pages s.pages ++ (list_text (patched_file_text base.files) s.files ++ (list_text descriptor_text s.descriptors
     ++ (content_relative_text (Some base.stream1) s.stream1 ++ content_relative_text (Some base.stream2) s.stream2)))))))))
 
--- the patch of a state against a base
+-- the patch of a state relative to a base
 abbrev pub text_of_patch : StateText → StateText → List ℕ
 text_of_patch base s = patch_magic ++ patch_body_text base s
 
 -- ---- which have a text
 
--- pages in turn, of which few enough for a count differ from the base's
+-- valid pages of rising numbers; the pages that differ from the base's are few enough for a count
 pub record ArePatchedPages (base pages : List PageText) : Type 0 where
   pub turn : InTurn IsPage after_page 0 pages
   pub few : length (page_changes base pages) < 2 ^ 32

@@ -1,11 +1,12 @@
--- Which runs can be mapped, and what a text is told of in front of its pages. docs/reference/save.md says the same for people.
+-- Which runs can be mapped, and the fields in front of the pages. docs/reference/save.md is the page for readers.
 use Rattle.std.specs.Prelude.{◌≡◌, ◌+◌, ◌^◌, ◌≤◌, ◌↔◌, All, IsTrue, List, option_map, sum_by}
 use Rattle.save_format.specs.StateText.Seen.{reserved_view}
 use Rattle.save_format.specs.StateText.StateText.{StateText}
 use Rattle.save_format.specs.declared.state_text.mapping.StateFront.{StateFront}
 use Rattle.save_format.specs.declared.state_text.parts.Run.{Run}
 
--- what runs can be mapped: they end in memory, and have no more pages than a guest can have, 67,584 apart from its heap and 262,144 of its heap
+-- runs that can be mapped end within memory, and together have at most as many pages as a guest can have: 67,584
+-- outside its heap and 262,144 in it
 pub record AreMappable (runs : List Run) : Type 0 where
   pub within : All (λ run. run.first + run.pages ≤ 2 ^ 26) runs
   pub few : sum_by (λ run. run.pages) runs ≤ 329_728

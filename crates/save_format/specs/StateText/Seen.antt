@@ -1,4 +1,4 @@
--- What the code has, as the definitions see it.
+-- The code's values as the definitions see them.
 use Rattle.std.specs.Prelude.{◌≡◌, ℕ, map, option_map, IsOk, Result, Ok, Err}
 use Rattle.std.specs.Option.{option_copied}
 use Rattle.mem_files.specs.Lists.{ListedFile}
@@ -40,7 +40,7 @@ state_view p = record {
   stream2 = p.stream2.now;
 }
 
--- what was read is what the text says; want of memory comes only where the text's form holds
+-- the result agrees with reading the text; memory runs out only if the text is well-formed
 abbrev pub ReadsStateText : Result StateParts TextRefusal → Result StateText ℕ → Type 0
 ReadsStateText (Ok p) read = read ≡ Ok (state_view p)
 ReadsStateText (Err (Form offset)) read = read ≡ Err offset

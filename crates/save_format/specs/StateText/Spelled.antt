@@ -1,4 +1,4 @@
--- How a state is spelled, and which have a text.
+-- How a state is written, and which states have a text.
 use Rattle.std.specs.Prelude.{◌≡◌, ◌⊎◌, ℕ, ◌+◌, ◌^◌, ◌<◌, ◌≤◌, if◌then◌else◌, IsTrue, Option, None, Some, List, [], ◌∷◌, ◌++◌, length}
 use Rattle.std.specs.List.{flat_map}
 use Rattle.std.specs.Int.{w16, w32, w64}
@@ -48,7 +48,7 @@ name_bytes (Some name) = name
 abbrev pub file_text : ListedFile → List ℕ
 file_text file = number_text w32 file.number ++ (blob_text w16 (name_bytes file.name) ++ blob_text w32 file.content)
 
--- its name and its content have few enough bytes
+-- its name and its content are short enough for their lengths
 abbrev pub IsShortFile : ListedFile → Type 0
 IsShortFile file = (length (name_bytes file.name) < 2 ^ 16) × (length file.content < 2 ^ 32)
 
@@ -84,7 +84,7 @@ body_text form s =
 abbrev pub state_text_in : TextForm → StateText → List ℕ
 state_text_in form s = state_magic form ++ body_text form s
 
--- what is written has the second form
+-- new texts are written in format 2
 abbrev pub text_of_state : StateText → List ℕ
 text_of_state s = state_text_in Second s
 
@@ -98,7 +98,7 @@ abbrev pub IsReserved : Option (ℕ × ℕ) → Type 0
 IsReserved None = Unit {0}
 IsReserved (Some held) = ((held.0 ≡ 4) ⊎ (held.0 ≡ 8)) × (held.1 < 2 ^ 64)
 
--- the first form has no place for a reservation
+-- format 1 has no reservation
 abbrev pub HasPlaceIn : TextForm → Option (ℕ × ℕ) → Type 0
 HasPlaceIn First reservation = reservation ≡ None
 HasPlaceIn Second reservation = Unit {0}
@@ -120,7 +120,7 @@ pub record IsPage (least : ℕ) (page : PageText) : Type 0 where
   pub full : length page.bytes ≡ 4096
   pub some : IsTrue (is_page page.bytes)
 
--- a name has a byte
+-- a name has at least one byte
 abbrev pub IsNameText : Option (List ℕ) → Type 0
 IsNameText None = Unit {0}
 IsNameText (Some name) = (1 ≤ length name) × (length name < 2 ^ 16)
@@ -158,6 +158,6 @@ pub record IsStateText (s : StateText) : Type 0 where
 
 -- ---- which are its texts
 
--- a state has one text of the second form; without a reservation it has also an old text, of the first
+-- a state has one text in format 2; without a reservation it also has one in format 1
 abbrev pub IsTextOfState : StateText → List ℕ → Type 0
 IsTextOfState s text = (text ≡ text_of_state s) ⊎ ((s.reservation ≡ None) × (text ≡ old_text_of_state s))

@@ -1,4 +1,4 @@
--- What the text of a state says, and how it is read, field by field. docs/reference/save.md says the same for people.
+-- The fields of a state, and how they are read. docs/reference/save.md is the page for readers.
 use Rattle.std.specs.Prelude.{ℕ, zero, suc, ◌+◌, ◌%◌, Bool, ◌&&◌, ◌||◌, not, ◌==◌, nat_le, nat_lt, Option, None, Some, List, [], ◌∷◌, Result}
 use Rattle.std.specs.List.{list_all}
 use Rattle.std.specs.Int.{w16, w32}
@@ -20,7 +20,7 @@ pub record PageText : Type 0 where
   pub number : ℕ
   pub bytes : List ℕ
 
--- the registers are x1 to x31; a reservation is how many bytes are reserved, and from which address on
+-- the registers are x1 to x31; a reservation is the number of reserved bytes and the address of the first
 pub record StateText : Type 0 where
   pub steps : ℕ
   pub pc : ℕ
@@ -36,7 +36,7 @@ pub record StateText : Type 0 where
 
 -- ---- how it is read
 
--- the eight bytes that begin each text of a form: `ddcstat1` and `ddcstat2`
+-- the eight bytes that begin each text of a format: `ddcstat1` and `ddcstat2`
 abbrev pub state_magic : TextForm → List ℕ
 state_magic First = 100 ∷ 100 ∷ 99 ∷ 115 ∷ 116 ∷ 97 ∷ 116 ∷ 49 ∷ []
 state_magic Second = 100 ∷ 100 ∷ 99 ∷ 115 ∷ 116 ∷ 97 ∷ 116 ∷ 50 ∷ []
@@ -45,14 +45,14 @@ state_magic Second = 100 ∷ 100 ∷ 99 ∷ 115 ∷ 116 ∷ 97 ∷ 116 ∷ 50 �
 abbrev pub is_reserved_count : ℕ → Bool
 is_reserved_count count = count == 0 || (count == 4 || count == 8)
 
--- so many bytes that are reserved, from an address on
+-- `count` reserved bytes from an address on
 unfoldable pub reserved_at : ℕ → Reader (Option (ℕ × ℕ))
 reserved_at zero = done None
 reserved_at (suc more) = do
   at ← u64
   done (Some (suc more, at))
 
--- what is reserved: a text of the first form says nothing of it
+-- the reservation; a text of format 1 has none
 unfoldable pub reservation_at : TextForm → Reader (Option (ℕ × ℕ))
 reservation_at First = done None
 reservation_at Second = do
@@ -66,18 +66,18 @@ heap_at = do
   limit ← u64
   done (record { first = first; now = now; limit = limit })
 
--- a run begins at a page from `least` on, and has at least one
+-- a run begins at a page from `least` on, and has at least one page
 unfoldable pub run_at : ℕ → Reader Run
 run_at least = do
   first ← u32_from least
   pages ← u32_from 1
   done (record { first = first; pages = pages })
 
--- at least one page lies between two runs
+-- at least one unmapped page is between two runs
 abbrev pub after_run : Run → ℕ
 after_run run = run.first + run.pages + 1
 
--- a page is not all zero
+-- a page is not all zeros
 abbrev pub is_page : List ℕ → Bool
 is_page bytes = not (list_all (λ b. b == 0) bytes)
 
@@ -122,7 +122,7 @@ access_at = do
   flags ← that are_flags byte
   done (access_of_code flags)
 
--- what a descriptor stands for, by its kind
+-- the open file of a descriptor, by its kind
 unfoldable pub open_file_at : ℕ → Reader OpenFile
 open_file_at zero = done open_file.Input
 open_file_at (suc zero) = done open_file.Stream1
@@ -143,7 +143,7 @@ descriptor_at least = do
 abbrev pub after_descriptor : ℕ × OpenFile → ℕ
 after_descriptor descriptor = descriptor.0 + 1
 
--- what stands after the magic of a form
+-- the fields after the magic of a format
 unfoldable pub body_at : TextForm → Reader StateText
 body_at form = do
   steps ← u64
@@ -159,18 +159,18 @@ body_at form = do
   stream2 ← blob w32
   done (record { steps = steps; pc = pc; registers = registers; reservation = reservation; heap = heap; runs = runs; pages = pages; files = files; descriptors = descriptors; stream1 = stream1; stream2 = stream2 })
 
--- a text of this form
+-- a state in this format
 unfoldable pub state_in : TextForm → Reader StateText
 state_in form = do
   start ← begun (state_magic form)
   body_at form
 
--- a text of either form
+-- a state in either format
 unfoldable pub state_at : Reader StateText
 state_at = do
   form ← begun_in (state_magic First) (state_magic Second)
   body_at form
 
--- what a text says, or the offset of its first wrong field: nothing follows the state
+-- the state in a text, or the offset of its first wrong field: nothing follows the state
 unfoldable pub parsed_state : List ℕ → Result StateText ℕ
 parsed_state text = whole state_at text

@@ -7,13 +7,13 @@ use crate::byte_fields::form::TextForm;
 use std::alloc::{AllocError, AllocFailed};
 use std::marker::Model;
 
-/// A wrong field, by how many bytes were left at its first byte.
+/// A wrong field. `left` is how many bytes were left at its first byte.
 #[derive(Clone, Copy)]
 pub struct WrongField {
     pub left: usize,
 }
 
-/// Why a reader that takes memory stops.
+/// Why a reader that allocates stops.
 #[derive(Clone, Copy)]
 pub enum ReadStop {
     /// A wrong field, with how many bytes were left at its first byte.
@@ -53,8 +53,8 @@ impl<T: Drop> From<AllocFailed<T>> for ReadStop {
     }
 }
 
-/// What is left of a text. Each reader takes a field from its front, or answers how many bytes were left at the field's first byte, and then
-/// what is left is any part of the text.
+/// The rest of a text that is being read. Each reader takes a field from its start. After an error, which reports how
+/// many bytes were left at the field's first byte, the cursor may be anywhere in the text.
 #[derive(Drop)]
 pub struct Cursor<'a> {
     left: &'a [u8],
@@ -67,7 +67,7 @@ impl<'a> Model for Cursor<'a> {
 }
 
 impl<'a> Cursor<'a> {
-    /// The whole text is left.
+    /// A cursor at the start of a text.
     pub fn new(left: &'a [u8]) -> Cursor<'a>
         ensures { result ≡ left.now }
     {
@@ -112,7 +112,7 @@ impl<'a> Cursor<'a> {
         Ok(front)
     }
 
-    /// The eight bytes that begin each text of a form.
+    /// The eight bytes that begin each text of a format.
     pub fn begins_with(&mut self, magic: &[u8; 8]) -> Result<(), WrongField>
         ensures { Finds (λ x. x) result self.new (begun magic.now self.old) }
     {
@@ -124,7 +124,7 @@ impl<'a> Cursor<'a> {
         Ok(())
     }
 
-    /// The eight bytes that begin each text of one of two forms: which of them this text has.
+    /// The eight bytes that begin a text of one of two formats. Returns which format it is.
     pub fn begins_with_either(
         &mut self,
         first: &[u8; 8],

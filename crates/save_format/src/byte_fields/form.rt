@@ -1,4 +1,4 @@
-/// Which of its two forms a text has. One of the first form says nothing of a reservation; what is written has the second.
+/// The format of a text, 1 or 2. Format 1 has no reservation. New texts are written in format 2.
 #[derive(Clone, Copy, PartialEq, Eq)]
 pub enum TextForm {
     First,

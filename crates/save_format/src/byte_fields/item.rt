@@ -9,39 +9,39 @@ use crate::byte_fields::spelling::{all_or_none, put_u32};
 use ddc_base::{Bytes, OutOfMemory};
 use std::alloc::Global;
 
-/// An item of a list, which is read in the light of the one before it.
+/// An item of a list. Reading it may depend on the preceding item.
 pub trait TextItem<'a>: Sized + Drop {
-    // What contracts see of it.
+    // The item as contracts see it.
     ghost Seen: { Type 0 };
 
     ghost seen: { Self → Seen };
 
-    // How it is read, where its first number must not be below the given one.
+    // How it is read, if its first number must be at least the given one.
     ghost read_from: { ℕ → Reader Seen };
 
-    // The least number of the item after it.
+    // The least number of the next item.
     ghost next_least: { Seen → ℕ };
 
-    // How it is spelled, and what can be.
+    // Its text, and which items have one.
     ghost text: { Seen → List ℕ };
 
     ghost IsShort: { Seen → Type 0 };
 
-    /// Reads it, where its first number must not be below `least`.
+    /// Reads the item. Its first number must be at least `least`.
     fn take(cursor: &mut Cursor<'a>, least: u64) -> Result<Self, WrongField>
         ensures { Finds seen result cursor.new (read_from least cursor.old) };
 
-    /// The least number of the item after it.
+    /// The least number of the next item.
     fn least_after(&self) -> u64
         ensures { result ≡ next_least (seen self.now) };
 
-    /// Adds its text, of which want of memory may leave a part after what was there.
+    /// Appends its text. Out of memory: a part may have been appended.
     fn add(&self, out: &mut Bytes) -> Result<(), OutOfMemory>
         requires { IsShort (seen self.now) }
         ensures ok { OnOk result (out.new ≡ out.old ++ text (seen self.now)) }
         ensures err { OnErr result (StartsWith out.new out.old) };
 
-    /// Adds its text, all or none.
+    /// Appends its text, all or none.
     final fn put(&self, out: &mut Bytes) -> Result<(), OutOfMemory>
         requires { IsShort (seen self.now) }
         ensures ok { OnOk result (out.new ≡ out.old ++ text (seen self.now)) }
@@ -53,7 +53,7 @@ pub trait TextItem<'a>: Sized + Drop {
     }
 }
 
-/// So many items, each read in the light of the one before it. No memory is taken by the count alone.
+/// Reads `count` items, each given the preceding one. The count alone causes no allocation.
 pub fn items<'a, T: TextItem<'a>>(
     alloc: Global,
     cursor: &mut Cursor<'a>,
@@ -71,7 +71,7 @@ pub fn items<'a, T: TextItem<'a>>(
     Ok(items)
 }
 
-/// Goes past a count of 4 bytes, and that many items.
+/// Skips a count of 4 bytes, and that many items.
 pub(crate) fn pass_counted<'a, T: TextItem<'a>>(cursor: &mut Cursor<'a>) -> Result<(), WrongField>
     ensures { GoesPast result cursor.new (counted T.read_from T.next_least 0 cursor.old) }
 {
@@ -95,7 +95,7 @@ pub fn counted<'a, T: TextItem<'a>>(
     items(alloc, cursor, count)
 }
 
-/// Adds a count of 4 bytes, and the texts of these items, of which want of memory may leave a part after what was there.
+/// Appends a count of 4 bytes, and the texts of these items. Out of memory: a part may have been appended.
 #[tactic(auto, using(crate::proofs::ByteFieldsLemmas::Kept::kept))]
 fn add_counted<'a, T: TextItem<'a>>(out: &mut Bytes, items: &[T]) -> Result<(), OutOfMemory>
     requires few { length items.now < 2 ^ 32 }
@@ -110,7 +110,7 @@ fn add_counted<'a, T: TextItem<'a>>(out: &mut Bytes, items: &[T]) -> Result<(), 
     Ok(())
 }
 
-/// Adds a count of 4 bytes, and the texts of these items, all or none.
+/// Appends a count of 4 bytes, and the texts of these items, all or none.
 pub fn put_counted<'a, T: TextItem<'a>>(out: &mut Bytes, items: &[T]) -> Result<(), OutOfMemory>
     requires few { length items.now < 2 ^ 32 }
     requires short { All (λ item. T.IsShort (T.seen item)) items.now }

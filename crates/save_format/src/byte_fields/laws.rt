@@ -1,4 +1,4 @@
-//! Fields are read as they are spelled. Each law is the contract of a function that does nothing.
+//! Reading and writing a field are inverse. Each law is the contract of a function that does nothing.
 
 ghost use Rattle.std.specs.Prelude.{◌≡◌, ℕ, ◌^◌, ◌<◌, List, [], ◌∷◌, length};
 ghost use Rattle.std.specs.Int.{w16, w32, w64};
@@ -6,14 +6,14 @@ ghost use Rattle.save_format.specs.ByteFields.Law.{IsReadAsSpelled};
 ghost use Rattle.save_format.specs.ByteFields.Reader.{begun, blob, byte, bytes, u16, u32, u64};
 ghost use Rattle.save_format.specs.ByteFields.Spelling.{IsBlob, blob_text, number_text};
 
-/// Numbers of 2, 4 and 8 bytes.
+/// Numbers of 2, 4 and 8 bytes read as they are written.
 pub fn numbers_are_read_as_spelled()
     ensures two { IsReadAsSpelled u16 (number_text w16) (λ number. number < 2 ^ 16) }
     ensures four { IsReadAsSpelled u32 (number_text w32) (λ number. number < 2 ^ 32) }
     ensures eight { IsReadAsSpelled u64 (number_text w64) (λ number. number < 2 ^ 64) }
 {}
 
-/// One byte, so many bytes, a length with so many bytes, and the bytes that begin a text.
+/// These fields read as they are written: one byte, a fixed number of bytes, a length with that many bytes, and the magic of a text.
 pub fn bytes_are_read_as_spelled()
     ensures one { IsReadAsSpelled byte (λ value. value ∷ []) (λ value. value < 256) }
     ensures many { (count : ℕ) → IsReadAsSpelled (bytes count) (λ values. values) (λ values. length values ≡ count) }

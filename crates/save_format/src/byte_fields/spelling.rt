@@ -4,7 +4,7 @@ ghost use Rattle.save_format.specs.ByteFields.Spelling.{blob_text, number_text};
 
 use ddc_base::{Bytes, OutOfMemory};
 
-/// How adding to a text ended that had `len` bytes before: where memory was wanting, it has these alone again.
+/// Restores a text of `len` bytes if appending to it ran out of memory, and returns the result of appending.
 pub(crate) fn all_or_none(
     out: &mut Bytes,
     len: usize,
@@ -20,7 +20,7 @@ pub(crate) fn all_or_none(
     added
 }
 
-/// Adds a number of 2 bytes, or nothing.
+/// Appends a number of 2 bytes, or nothing.
 #[tactic(auto, unfolding(crate::specs::ByteFields::Spelling::number_text))]
 pub fn put_u16(out: &mut Bytes, number: u16) -> Result<(), OutOfMemory>
     ensures ok { OnOk result (out.new ≡ out.old ++ number_text w16 number) }
@@ -29,7 +29,7 @@ pub fn put_u16(out: &mut Bytes, number: u16) -> Result<(), OutOfMemory>
     out.extend(&number.to_le_bytes())
 }
 
-/// Adds a number of 4 bytes, or nothing.
+/// Appends a number of 4 bytes, or nothing.
 #[tactic(auto, unfolding(crate::specs::ByteFields::Spelling::number_text))]
 pub fn put_u32(out: &mut Bytes, number: u32) -> Result<(), OutOfMemory>
     ensures ok { OnOk result (out.new ≡ out.old ++ number_text w32 number) }
@@ -38,7 +38,7 @@ pub fn put_u32(out: &mut Bytes, number: u32) -> Result<(), OutOfMemory>
     out.extend(&number.to_le_bytes())
 }
 
-/// Adds a number of 8 bytes, or nothing.
+/// Appends a number of 8 bytes, or nothing.
 #[tactic(auto, unfolding(crate::specs::ByteFields::Spelling::number_text))]
 pub fn put_u64(out: &mut Bytes, number: u64) -> Result<(), OutOfMemory>
     ensures ok { OnOk result (out.new ≡ out.old ++ number_text w64 number) }
@@ -47,7 +47,7 @@ pub fn put_u64(out: &mut Bytes, number: u64) -> Result<(), OutOfMemory>
     out.extend(&number.to_le_bytes())
 }
 
-/// Adds a length of 2 bytes, and these bytes, all or none.
+/// Appends a length of 2 bytes, and these bytes, all or none.
 pub fn put_blob16(out: &mut Bytes, bytes: &[u8]) -> Result<(), OutOfMemory>
     requires { length bytes.now < 2 ^ 16 }
     ensures ok { OnOk result (out.new ≡ out.old ++ blob_text w16 bytes.now) }
@@ -59,7 +59,7 @@ pub fn put_blob16(out: &mut Bytes, bytes: &[u8]) -> Result<(), OutOfMemory>
     all_or_none(out, len, added)
 }
 
-/// Adds a length of 4 bytes, and these bytes, all or none.
+/// Appends a length of 4 bytes, and these bytes, all or none.
 pub fn put_blob32(out: &mut Bytes, bytes: &[u8]) -> Result<(), OutOfMemory>
     requires { length bytes.now < 2 ^ 32 }
     ensures ok { OnOk result (out.new ≡ out.old ++ blob_text w32 bytes.now) }

@@ -1,13 +1,13 @@
 use crate::parts::StagePart;
 use ddc_base::digests::Digest;
 
-/// What the text of a delta says relative to its base. The contents of its state are borrowed: what stays the base's is the base's.
+/// The checkpoint in a delta. The contents of its state are borrowed, from the base if they are unchanged.
 #[derive(Drop)]
 pub struct DeltaParts<'a> {
-    /// The digest of the base's text, of the second form.
+    /// The digest of the base's text in format 2.
     pub base: Digest,
-    /// The stages that are done, in the recipe's order.
+    /// The finished stages, in the recipe's order.
     pub done: Vec<StagePart>,
-    /// The present stage's guest.
+    /// The guest of the current stage.
     pub state: crate::state_text::StateParts<'a>,
 }

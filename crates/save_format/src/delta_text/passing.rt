@@ -1,4 +1,4 @@
-//! Going past the fields of a delta without keeping them: its form is judged so, with no memory.
+//! Skips the fields of a delta, so that its format is checked without allocation.
 
 ghost use Rattle.std.specs.Prelude.{◌≡◌, ◌==◌, ◌&&◌, None, bytes_eq, drop, length, map, nat_le, option_map};
 ghost use Rattle.std.specs.Option.{option_copied};
@@ -23,7 +23,7 @@ use crate::state_text::TextRefusal;
 use ddc_base::digests::Digest;
 use report::{LeftLine, Mark};
 
-/// Whether a text begins as a delta against another base than that of this digest.
+/// Whether a text begins as a delta whose base has another digest than this one.
 pub fn names_other_base(base: &Digest, text: &[u8]) -> bool
     ensures { result ≡ is_of_other_base base.now text.now }
 {
@@ -34,7 +34,7 @@ pub fn names_other_base(base: &Digest, text: &[u8]) -> bool
     }
 }
 
-/// Of which base a text is, by the digest after its magic.
+/// The digest of a delta's base, after its magic.
 #[tactic(auto, unfolding(crate::specs::DeltaText::DeltaText::delta_front_at, crate::specs::DeltaText::DeltaText::delta_at, crate::specs::Inside::Fronts::stages_and_state_at))]
 pub(crate) fn front_of(cursor: &mut Cursor<'_>) -> Result<Digest, WrongField>
     ensures alone { Finds (λ x. x) result cursor.new (delta_front_at cursor.old) }
@@ -51,7 +51,7 @@ fn are_both(first: bool, second: bool) -> bool
     if first { second } else { false }
 }
 
-/// Whether the file at an index is one of this name and mark.
+/// Whether the file at an index has this name and mark.
 fn is_left_at(known: &[LeftLine], index: usize, name: &[u8], mark: Mark) -> bool
     ensures { IsLeftNext (drop index known.now) (record { name = name.now; mark = mark }) result }
 {
@@ -61,14 +61,14 @@ fn is_left_at(known: &[LeftLine], index: usize, name: &[u8], mark: Mark) -> bool
     }
 }
 
-/// Whether there are no more files than so many.
+/// Whether there are at most `count` files.
 fn is_reached(known: &[LeftLine], count: u32) -> bool
     ensures { result ≡ nat_le (length known.now) count }
 {
     known.len() <= count as usize
 }
 
-/// Goes past the files that a stage left, and says whether they are those of the base.
+/// Skips the files that a stage left. Returns whether they are those of the base.
 fn pass_lefts(cursor: &mut Cursor<'_>, count: u32, known: &[LeftLine]) -> Result<bool, WrongField>
     ensures { PassesRelative (equal_lefts known.now) result cursor.new (several saved_left_at after_left None count cursor.old) }
 {
@@ -82,7 +82,7 @@ fn pass_lefts(cursor: &mut Cursor<'_>, count: u32, known: &[LeftLine]) -> Result
     Ok(are_both(same, is_reached(known, count)))
 }
 
-/// Whether a stage of the base has these steps and marks, and this artefact, where it is known whether the files that were left are the same.
+/// Whether a stage of the base has these steps, marks and artefact, and `same_left` holds for the files that it left.
 fn are_same(known: &StagePart, front: StageFront, same_left: bool, made: &[u8]) -> bool
     ensures { result ≡ (known.now.steps == front.steps && (equal_marks known.now.stream1 front.stream1
         && (equal_marks known.now.stream2 front.stream2 && (same_left && bytes_eq known.now.made made.now)))) }
@@ -99,7 +99,7 @@ fn are_same(known: &StagePart, front: StageFront, same_left: bool, made: &[u8]) 
     are_both(same_left, known.made.as_slice() == made)
 }
 
-/// Goes past a stage that is done, and says whether it is that of the base.
+/// Skips a finished stage. Returns whether it is that of the base.
 #[tactic(auto, unfolding(crate::specs::Inside::Fronts::left_and_made_at))]
 fn pass_relative(cursor: &mut Cursor<'_>, known: &StagePart) -> Result<bool, WrongField>
     ensures { PassesRelative (equal_stages (stage_view known.now)) result cursor.new (saved_stage_at 0 cursor.old) }
@@ -110,7 +110,7 @@ fn pass_relative(cursor: &mut Cursor<'_>, known: &StagePart) -> Result<bool, Wro
     Ok(are_same(known, front, same_left, made))
 }
 
-/// Goes past a further stage, which is wrong where it could have been kept.
+/// Skips a further stage. It is wrong if it equals the base's next stage.
 #[tactic(auto, unfolding(crate::specs::DeltaText::Stages::further_at))]
 fn pass_further(cursor: &mut Cursor<'_>, known: Option<&StagePart>) -> Result<(), WrongField>
     ensures { GoesPast result cursor.new (further_at (option_map stage_view (option_copied known.entry)) cursor.old) }
@@ -127,7 +127,7 @@ fn pass_further(cursor: &mut Cursor<'_>, known: Option<&StagePart>) -> Result<()
     }
 }
 
-/// Goes past a count of 4 bytes, and that many further stages.
+/// Skips a count of 4 bytes, and that many further stages.
 fn pass_several(cursor: &mut Cursor<'_>, known: Option<&StagePart>) -> Result<(), WrongField>
     ensures { GoesPast result cursor.new (counted further_at after_further (option_map stage_view (option_copied known.entry)) cursor.old) }
 {
@@ -140,7 +140,7 @@ fn pass_several(cursor: &mut Cursor<'_>, known: Option<&StagePart>) -> Result<()
     Ok(())
 }
 
-/// Goes past the stages that are done.
+/// Skips the finished stages.
 #[tactic(auto, unfolding(crate::specs::DeltaText::Stages::stages_relative_at))]
 fn pass_stages_relative(cursor: &mut Cursor<'_>, base: &[StagePart]) -> Result<(), WrongField>
     ensures { GoesPast result cursor.new (stages_relative_at (map stage_view base.now) cursor.old) }
@@ -149,7 +149,7 @@ fn pass_stages_relative(cursor: &mut Cursor<'_>, base: &[StagePart]) -> Result<(
     pass_several(cursor, known_at(base, kept))
 }
 
-/// Goes past a delta.
+/// Skips a delta.
 #[tactic(auto, unfolding(crate::specs::Inside::Fronts::stages_and_state_at))]
 fn pass_delta<'a>(cursor: &mut Cursor<'a>, base: &Parts<'a>) -> Result<(), WrongField>
     requires { IsSaveText (save_view base.now) }
@@ -160,7 +160,7 @@ fn pass_delta<'a>(cursor: &mut Cursor<'a>, base: &Parts<'a>) -> Result<(), Wrong
     pass_patch(cursor, &base.state)
 }
 
-/// Whether a text has the form of a delta, all of it.
+/// Checks that the whole text is a well-formed delta.
 #[tactic(auto, unfolding(crate::specs::DeltaText::DeltaText::parsed_delta))]
 pub(crate) fn judge<'a>(base: &Parts<'a>, text: &'a [u8]) -> Result<(), TextRefusal>
     requires { IsSaveText (save_view base.now) }

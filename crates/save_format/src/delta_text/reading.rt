@@ -1,4 +1,4 @@
-//! A position read of a delta, relative to its base.
+//! Parses the checkpoint in a delta, relative to its base.
 
 ghost use Rattle.std.specs.Prelude.{◌≡◌, ◌++◌, IfOk, Ok, map, option_map, take};
 ghost use Rattle.std.specs.Option.{option_copied};
@@ -24,7 +24,7 @@ use std::alloc::{AllocError, Global};
 /// The eight bytes that begin the text of a delta.
 pub const MAGIC: [u8; 8] = *b"ddcdelt2";
 
-/// A further stage, which is wrong where it could have been kept.
+/// A further stage. It is wrong if it equals the base's next stage.
 #[tactic(auto, unfolding(crate::specs::DeltaText::Stages::further_at))]
 fn further_of(
     alloc: Global,
@@ -60,7 +60,7 @@ fn several_further(
     Ok(stages)
 }
 
-/// The first so many of a base's stages, and further ones after them. No artefact is copied.
+/// The first `kept` stages of the base, followed by the further ones. No artefact is copied.
 fn joined(
     base: Vec<StagePart>,
     kept: usize,
@@ -75,7 +75,7 @@ fn joined(
     Ok(stages)
 }
 
-/// The stages that are done.
+/// The finished stages.
 #[tactic(auto, unfolding(crate::specs::DeltaText::Stages::stages_relative_at))]
 fn stages_of(
     alloc: Global,
@@ -90,7 +90,7 @@ fn stages_of(
     Ok(stages)
 }
 
-/// What stands after the digest of a delta's base.
+/// The fields after the digest of a delta's base.
 #[tactic(auto, unfolding(crate::specs::Inside::Fronts::stages_and_state_at))]
 fn after_digest<'a>(
     alloc: Global,
@@ -116,7 +116,7 @@ fn after_digest<'a>(
     })
 }
 
-/// A delta's text at the front of what is left.
+/// A delta at the start of the remaining bytes.
 fn delta_of<'a>(
     alloc: Global,
     cursor: &mut Cursor<'a>,
@@ -129,19 +129,21 @@ fn delta_of<'a>(
     after_digest(alloc, cursor, digest, base)
 }
 
-/// What a delta says relative to its base. Each field is judged given those before it and the base, so an offset is that of the first wrong one; a
-/// wrong field of the patch has its place in the delta. The form is judged first, which takes no memory.
+/// Parses a delta relative to its base. Errors: `Form` with the offset of the first wrong field, `OutOfMemory`.
+/// Each field is judged given the base and the fields before it; the offset of a wrong field of the patch counts from
+/// the start of the delta.
+/// The format is checked first, without allocation.
 pub fn read<'a>(
     alloc: Global,
     base: Parts<'a>,
     text: &'a [u8],
 ) -> Result<DeltaParts<'a>, TextRefusal>
     requires { IsSaveText (save_view base) }
-    // What is read is spelled so relative to the base.
+    // A parsed delta has this text relative to the base.
     ensures found { IfOk result (λ p. IsDelta (save_view base.entry) (delta_view p) × (text.now ≡ text_of_delta (save_view base.entry) (delta_view p))) }
-    // What is spelled so relative to the base is read, unless memory runs out.
+    // Every such text is parsed, unless memory runs out.
     ensures only { (d : DeltaText) → IsDelta (save_view base.entry) d → text.now ≡ text_of_delta (save_view base.entry) d → ReadsDeltaText result (Ok d) }
-    // Which field is the first wrong one.
+    // The offset is that of the first wrong field.
     ensures exact { ReadsDeltaText result (parsed_delta (save_view base.entry) text.now) }
 {
     all(alloc, base, text)

@@ -1,4 +1,4 @@
-//! The stages that are done, relative to those of a base.
+//! The finished stages, relative to those of a base.
 
 ghost use Rattle.std.specs.Prelude.{◌≡◌, length, map, nat_le, option_map, slice_get};
 ghost use Rattle.std.specs.Option.{option_copied};
@@ -10,14 +10,14 @@ use crate::byte_fields::{Cursor, WrongField};
 use crate::parts::StagePart;
 use report::{LeftLine, Mark};
 
-/// Whether two marks are the same.
+/// Whether two marks are equal.
 pub(crate) fn is_same_mark(first: Mark, second: Mark) -> bool
     ensures { result ≡ equal_marks first second }
 {
     first.length == second.length && first.digest.0.as_slice() == second.digest.0.as_slice()
 }
 
-/// Whether a file that was left is the same as one of this name and mark.
+/// Whether a left file has this name and mark.
 pub(crate) fn is_same_left(first: &LeftLine, name: &[u8], mark: Mark) -> bool
     ensures { result ≡ equal_left first.now (record { name = name.now; mark = mark }) }
 {
@@ -42,7 +42,7 @@ fn are_same_lefts(firsts: &[LeftLine], seconds: &[LeftLine]) -> bool
     }
 }
 
-/// Whether a stage of a base is the stage with these steps, marks of its two streams, files that it left, and artefact.
+/// Whether a stage of a base has these steps, marks of its two streams, left files, and artefact.
 pub fn is_same_stage(
     known: &StagePart,
     steps: u64,
@@ -68,7 +68,7 @@ pub fn is_same_stage(
     known.made.as_slice() == made
 }
 
-/// Whether it is another stage than the base's in its place, if that has one.
+/// Whether a stage differs from the base's stage at the same index, if there is one.
 pub(crate) fn is_other(known: Option<&StagePart>, stage: &StagePart) -> bool
     ensures { result ≡ is_other_stage (option_map stage_view (option_copied known.entry)) (stage_view stage.now) }
 {
@@ -91,14 +91,14 @@ fn stage_at(base: &[StagePart], index: u32) -> Option<&StagePart>
     base.get(index as usize)
 }
 
-/// The stage of the base after those that are kept.
+/// The first stage of the base that is not kept.
 pub(crate) fn known_at(base: &[StagePart], kept: u32) -> Option<&StagePart>
     ensures { option_map stage_view (option_copied result) ≡ slice_get (map stage_view base.now) kept }
 {
     stage_at(base, kept)
 }
 
-/// How many stages of the base are kept: no more than it has.
+/// How many stages of the base are kept, at most all of them.
 #[tactic(auto, using(crate::proofs::DeltaTextLemmas::Relative::count_seen))]
 pub(crate) fn kept_of(cursor: &mut Cursor<'_>, base: &[StagePart]) -> Result<u32, WrongField>
     ensures { Finds (λ x. x) result cursor.new (that (λ kept. nat_le kept (length (map stage_view base.now))) u32 cursor.old) }

@@ -1,4 +1,4 @@
-//! The fields of a patch that take no memory, each read relative to what the base has.
+//! The fields of a patch that need no allocation, each read relative to the base.
 ghost use Rattle.std.specs.Prelude.{◌≡◌, ◌==◌, ◌%◌, ◌≤◌, ◌+◌, ◌&&◌, drop, not, length, IfOk, map, option_map};
 ghost use Rattle.std.specs.Option.{option_copied};
 ghost use Rattle.save_format.specs.ByteFields.Reader.{Finds, byte, bytes, that, u32, u64};
@@ -18,7 +18,7 @@ use crate::state_text::{
     File, FrontNumbers, Page, StateParts, heap_of, is_zero, name_of, reservation_of,
 };
 
-/// A register: another value than the base's where it is marked, else the base's.
+/// A register: a value other than the base's if it is marked, otherwise the base's.
 #[tactic(auto, unfolding(crate::specs::PatchText::PatchText::register_at))]
 fn register_of(cursor: &mut Cursor<'_>, known: u64, marked: bool) -> Result<u64, WrongField>
     ensures { Finds (λ x. x) result cursor.new (register_at known marked cursor.old) }
@@ -47,7 +47,7 @@ fn marked_of(cursor: &mut Cursor<'_>, marks: u32, base: &[u64; 31]) -> Result<[u
     Ok(registers)
 }
 
-/// The registers: other values than the base's where they are marked.
+/// The registers: those that are marked have other values than the base's.
 #[tactic(auto, unfolding(crate::specs::PatchText::PatchText::marked_registers_at))]
 fn registers_of(cursor: &mut Cursor<'_>, base: &[u64; 31]) -> Result<[u64; 31], WrongField>
     ensures { Finds (λ x. x) result cursor.new (marked_registers_at base.now cursor.old) }
@@ -83,7 +83,7 @@ pub(crate) fn numbers_of(
     })
 }
 
-/// The byte before what is there: 1, or 0 where the base has something.
+/// The byte in front of bytes that may be there: 1 if they are, or 0, which is allowed only if the base has bytes here.
 fn mark_of(cursor: &mut Cursor<'_>, known: Option<&[u8]>) -> Result<u8, WrongField>
     ensures { Finds (λ x. x) result cursor.new (that (is_mark (option_copied known.entry)) byte cursor.old) }
 {
@@ -104,7 +104,7 @@ fn is_mark(known: Option<&[u8]>, mark: u8) -> bool
     }
 }
 
-/// Whether these are other bytes than the base's.
+/// Whether these bytes differ from the base's.
 fn is_new(known: Option<&[u8]>, found: &[u8]) -> bool
     ensures { result ≡ is_new (option_copied known.entry) found.now }
 {
@@ -117,7 +117,7 @@ fn is_new_page(known: Option<&[u8]>, found: &[u8]) -> bool
     !is_zero(found) && is_new(known, found)
 }
 
-/// What stands after the number of a page.
+/// The fields after the number of a page.
 #[tactic(auto, unfolding(crate::specs::PatchText::PatchText::changed_bytes_at, crate::specs::PatchText::PatchText::page_bytes_at))]
 fn changed_of<'a>(
     cursor: &mut Cursor<'a>,
@@ -138,7 +138,7 @@ fn changed_of<'a>(
     }
 }
 
-/// What a base has of a file's content, and where its files after it begin.
+/// The base's content of a file, and the index of the base's next file.
 pub(crate) fn known_content<'a>(
     base: &[File<'a>],
     at: usize,
@@ -165,7 +165,7 @@ fn content_of<'a>(file: Option<&File<'a>>) -> Option<&'a [u8]>
     }
 }
 
-/// A change, whose number is to be at least this one; and where the base's pages after it begin.
+/// A change whose number is at least `least`, and the index of the base's next page.
 #[tactic(auto, unfolding(crate::specs::PatchText::PatchText::change_at))]
 pub(crate) fn change_of<'a>(
     cursor: &mut Cursor<'a>,
@@ -189,7 +189,7 @@ pub(crate) fn change_of<'a>(
 
 // ---- contents
 
-/// What the base has, or other bytes with their length before them.
+/// The base's content, or other bytes preceded by their length.
 #[tactic(auto, unfolding(crate::specs::PatchText::PatchText::content_relative_at, crate::specs::PatchText::PatchText::marked_content_at, crate::specs::PatchText::PatchText::new_content_at))]
 pub(crate) fn content<'a>(
     cursor: &mut Cursor<'a>,
@@ -213,7 +213,7 @@ pub(crate) fn content<'a>(
 
 // ---- files
 
-/// A file, whose number is to be at least this one; and where the base's files after it begin.
+/// A file whose number is at least `least`, and the index of the base's next file.
 #[tactic(auto, unfolding(crate::specs::PatchText::PatchText::patched_file_at))]
 pub(crate) fn file_of<'a>(
     cursor: &mut Cursor<'a>,

@@ -1,4 +1,4 @@
-//! What a patch says in front of its pages, which is told without memory.
+//! Reads the fields of a patch in front of its pages without allocation.
 
 ghost use Rattle.std.specs.Prelude.{◌≡◌, IsOk, Ok};
 ghost use Rattle.save_format.specs.Inside.Mapping.{Tells};
@@ -11,7 +11,7 @@ use crate::byte_fields::{Cursor, WrongField};
 use crate::patch_text::fields::numbers_of;
 use crate::state_text::{StateFront, StateParts, runs_mappable};
 
-/// The front of a patch's text at the front of what remains.
+/// The fields in front of the pages, from a patch at the start of the remaining bytes.
 fn patch_front(cursor: &mut Cursor<'_>, base: &StateParts<'_>) -> Result<StateFront, WrongField>
     ensures { Tells IsFrontOf result (patch_at (state_view base.now) cursor.old) }
 {
@@ -20,7 +20,7 @@ fn patch_front(cursor: &mut Cursor<'_>, base: &StateParts<'_>) -> Result<StateFr
     Ok(numbers.front(mappable))
 }
 
-/// What the state that a patch of the form says relative to its base says in front of its pages. It takes no memory.
+/// Header fields of the state obtained by applying a well-formed patch to `base`. Allocates nothing.
 pub fn front_of(base: &StateParts<'_>, text: &[u8]) -> StateFront
     requires { IsOk (parsed_patch (state_view base.now) text.now) }
     ensures { (s : StateText) → parsed_patch (state_view base.now) text.now ≡ Ok s → IsFrontOf result s }

@@ -1,4 +1,4 @@
-//! Pages that differ, and pages that are changed: both lists are gone along together, by number.
+//! Differences of pages, and their application: both walk two lists together, by number.
 ghost use Rattle.std.specs.Prelude.{◌≡◌, IfOk, map, option_map};
 ghost use Rattle.std.specs.Option.{option_copied};
 ghost use Rattle.save_format.specs.ByteFields.Spelling.{InTurn};
@@ -16,7 +16,7 @@ use crate::state_text::Page;
 use ddc_base::OutOfMemory;
 use std::alloc::Global;
 
-/// The lower one of two first numbers.
+/// The lower of two first numbers.
 fn lowest(first: Option<u32>, second: Option<u32>) -> Option<u32>
     ensures { IsLowest first second result }
 {
@@ -29,7 +29,7 @@ fn lowest(first: Option<u32>, second: Option<u32>) -> Option<u32>
     }
 }
 
-/// Whether both are nothing, or the same bytes.
+/// Whether both are absent, or both have the same bytes.
 pub(crate) fn are_same(known: Option<&[u8]>, found: Option<&[u8]>) -> bool
     ensures { result ≡ equal_contents (option_copied known.entry) (option_copied found.entry) }
 {
@@ -42,7 +42,7 @@ pub(crate) fn are_same(known: Option<&[u8]>, found: Option<&[u8]>) -> bool
     }
 }
 
-/// The changes of pages against those of a base.
+/// The changes that turn the pages of a base into these pages. Error: out of memory.
 pub fn changes<'a>(
     alloc: Global,
     base: &[Page<'_>],
@@ -69,7 +69,7 @@ pub fn changes<'a>(
     Ok(found)
 }
 
-/// The change of what a base has at a number.
+/// The change of the base's page with this number; `None` if nothing changed.
 fn change_of<'a>(
     number: u32,
     known: Option<&Page<'_>>,
@@ -95,7 +95,7 @@ pub(crate) fn bytes_of<'a>(page: Option<&Page<'a>>) -> Option<&'a [u8]>
     }
 }
 
-/// The pages that changes make of those of a base.
+/// The pages obtained by applying changes to those of a base. Error: out of memory.
 pub fn changed<'a>(
     alloc: Global,
     base: &[Page<'a>],
@@ -122,7 +122,7 @@ pub fn changed<'a>(
     Ok(pages)
 }
 
-/// What a change makes of what a base has.
+/// The bytes of a page after a change, if it has one.
 fn made_of<'a>(known: Option<&Page<'a>>, change: Option<&Change<'a>>) -> Option<&'a [u8]>
     ensures { option_copied result ≡ bytes_changed_by (bytes_in known.entry) (option_map change_view (option_copied change.entry)) }
 {

@@ -1,4 +1,4 @@
-//! Lists by rising numbers, gone along by number.
+//! Lists in the order of rising numbers, and walking them by number.
 ghost use Rattle.std.specs.Prelude.{◌≡◌, ◌≤◌, ◌+◌, ℕ, drop, length, map, option_map};
 ghost use Rattle.std.specs.Option.{option_copied};
 ghost use Rattle.save_format.specs.PatchText.Numbered.{item_numbered};
@@ -7,9 +7,9 @@ ghost use Rattle.save_format.specs.PatchText.Inside.Walking.{IsFront, Rises, Sam
 use crate::patch_text::change::Change;
 use crate::state_text::{File, Page};
 
-/// Something with a number of its own.
+/// An item with a number of its own.
 pub trait Numbered: Sized + Drop {
-    // What contracts see of it.
+    // The item as contracts see it.
     ghost Seen: { Type 0 };
 
     ghost seen: { Self → Seen };
@@ -67,7 +67,7 @@ impl<'a> Numbered for Change<'a> {
     }
 }
 
-/// Where those begin whose numbers are not below this one, from an index on.
+/// The index of the first item from `index` on whose number is at least `number`.
 pub fn from_number<T: Numbered>(items: &[T], index: usize, number: u32) -> usize
     requires within { index ≤ length items.now }
     requires rises { Rises T.number_of 0 (map T.seen (drop index items.now)) }
@@ -85,7 +85,7 @@ pub fn from_number<T: Numbered>(items: &[T], index: usize, number: u32) -> usize
     index
 }
 
-/// The one of this number, where it stands at the index, and the index after it.
+/// The item at the index if it has this number, and the index after it; otherwise `None` and the same index.
 pub fn taken<T: Numbered>(items: &[T], index: usize, number: u32) -> (Option<&T>, usize)
     requires within { index ≤ length items.now }
     requires rises { Rises T.number_of number (map T.seen (drop index items.now)) }
@@ -106,7 +106,7 @@ pub fn taken<T: Numbered>(items: &[T], index: usize, number: u32) -> (Option<&T>
     }
 }
 
-/// The number of the one at an index.
+/// The number of the item at an index.
 pub fn front<T: Numbered>(items: &[T], index: usize) -> Option<u32>
     ensures { IsFront (λ item. T.number_of (T.seen item)) (drop index items.now) result }
 {

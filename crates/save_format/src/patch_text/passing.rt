@@ -1,4 +1,4 @@
-//! Going past the fields of a patch without keeping them: its form is judged so, with no memory.
+//! Skips the fields of a patch, so that its format is checked without allocation.
 ghost use Rattle.std.specs.Prelude.{map};
 ghost use Rattle.save_format.specs.ByteFields.Reader.{counted};
 ghost use Rattle.save_format.specs.ByteFields.Spelling.{InTurn};
@@ -14,7 +14,7 @@ use crate::byte_fields::{Cursor, WrongField, pass_counted};
 use crate::patch_text::fields::{change_of, content, file_of, numbers_of};
 use crate::state_text::{File, NumberedDescriptor, Page, Run, StateParts, TextRefusal};
 
-/// Goes past the changes of pages.
+/// Skips the changes of pages.
 #[tactic(auto, unfolding(crate::specs::PatchText::PatchText::changed_pages_at))]
 fn pass_pages(cursor: &mut Cursor<'_>, base: &[Page<'_>]) -> Result<(), WrongField>
     requires { InTurn IsPage after_page 0 (map page_view base.now) }
@@ -31,7 +31,7 @@ fn pass_pages(cursor: &mut Cursor<'_>, base: &[Page<'_>]) -> Result<(), WrongFie
     Ok(())
 }
 
-/// Goes past a count of 4 bytes, and that many files.
+/// Skips a count of 4 bytes, and that many files.
 fn pass_files<'a>(cursor: &mut Cursor<'a>, base: &[File<'a>]) -> Result<(), WrongField>
     requires { Rises (λ file. file.number) 0 (map file_view base.now) }
     ensures { GoesPast result cursor.new (counted (patched_file_at (map file_view base.now)) after_file 0 cursor.old) }
@@ -47,7 +47,7 @@ fn pass_files<'a>(cursor: &mut Cursor<'a>, base: &[File<'a>]) -> Result<(), Wron
     Ok(())
 }
 
-/// Goes past a patch's text at the front of what is left.
+/// Skips a patch at the start of the remaining bytes.
 #[tactic(auto, unfolding(crate::specs::Inside::Fronts::lists_relative_at))]
 pub(crate) fn pass_patch<'a>(
     cursor: &mut Cursor<'a>,
@@ -66,7 +66,7 @@ pub(crate) fn pass_patch<'a>(
     Ok(())
 }
 
-/// Whether a text has the form of a patch, all of it.
+/// Checks that the whole text is a well-formed patch.
 #[tactic(auto, unfolding(crate::specs::PatchText::PatchText::parsed_patch))]
 pub(crate) fn judge<'a>(base: &StateParts<'a>, text: &'a [u8]) -> Result<(), TextRefusal>
     requires { IsStateText (state_view base.now) }

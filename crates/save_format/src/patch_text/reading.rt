@@ -1,4 +1,4 @@
-//! A state read of a patch, relative to its base.
+//! Parses the state in a patch, relative to its base.
 ghost use Rattle.std.specs.Prelude.{◌≡◌, IfOk, Ok, map};
 ghost use Rattle.save_format.specs.ByteFields.Reader.{GivesField, counted, several};
 ghost use Rattle.save_format.specs.ByteFields.Spelling.{InTurn};
@@ -22,7 +22,7 @@ use std::alloc::Global;
 /// The eight bytes that begin the text of a patch.
 pub const MAGIC: [u8; 8] = *b"ddcdiff2";
 
-/// So many changes.
+/// Reads `count` changes.
 fn several_changes<'a>(
     alloc: Global,
     cursor: &mut Cursor<'a>,
@@ -44,7 +44,7 @@ fn several_changes<'a>(
     Ok(changes)
 }
 
-/// The pages that changes make of a base's.
+/// The pages obtained by applying the changes to those of a base.
 #[tactic(auto, unfolding(crate::specs::PatchText::PatchText::changed_pages_at))]
 fn pages_apart<'a>(
     alloc: Global,
@@ -82,7 +82,7 @@ fn files_relative<'a>(
     Ok(files)
 }
 
-/// A patch's text at the front of what is left: the state that it says relative to its base.
+/// The state in a patch at the start of the remaining bytes, relative to its base.
 #[tactic(auto, unfolding(crate::specs::Inside::Fronts::lists_relative_at))]
 pub(crate) fn patch_of<'a>(
     alloc: Global,
@@ -115,19 +115,21 @@ pub(crate) fn patch_of<'a>(
     })
 }
 
-/// The state that a patch says relative to its base. Contents are borrowed: what stays the base's is the base's. Each field is judged given those
-/// before it and the base, so an offset is that of the first wrong one. The form is judged first, which takes no memory.
+/// Parses a patch: returns the state obtained by applying it to `base`. Errors: `Form` with the offset of the first
+/// wrong field, `OutOfMemory`.
+/// Contents are borrowed, from the base if they are unchanged. Each field is judged given the base and the fields before it.
+/// The format is checked first, without allocation.
 pub fn read<'a>(
     alloc: Global,
     base: &StateParts<'a>,
     text: &'a [u8],
 ) -> Result<StateParts<'a>, TextRefusal>
     requires { IsStateText (state_view base.now) }
-    // What is read is spelled so relative to the base.
+    // A parsed patch has this text relative to the base.
     ensures found { IfOk result (λ p. IsPatched (state_view base.now) (state_view p) × (text.now ≡ text_of_patch (state_view base.now) (state_view p))) }
-    // What is spelled so relative to the base is read, unless memory runs out.
+    // Every such text is parsed, unless memory runs out.
     ensures only { (s : StateText) → IsPatched (state_view base.now) s → text.now ≡ text_of_patch (state_view base.now) s → ReadsStateText result (Ok s) }
-    // Which field is the first wrong one.
+    // The offset is that of the first wrong field.
     ensures exact { ReadsStateText result (parsed_patch (state_view base.now) text.now) }
 {
     all(alloc, base, text)

@@ -1,4 +1,4 @@
-//! A state written relative to its base.
+//! Writes a state relative to its base.
 ghost use Rattle.std.specs.Prelude.{◌≡◌, ◌==◌, ◌<◌, ◌≤◌, ◌*◌, ◌^◌, ◌++◌, All, OnErr, OnOk, if◌then◌else◌, length, map, option_map};
 ghost use Rattle.std.specs.Io.{StartsWith};
 ghost use Rattle.std.specs.Option.{option_copied};
@@ -30,7 +30,7 @@ fn mark_of(known: u64, value: u64) -> u32
     if known == value { 0 } else { 1 }
 }
 
-/// Bit i says whether the register at i differs.
+/// A number whose bit i is set if the register at i differs.
 #[tactic(auto, unfolding(crate::specs::PatchText::Spelled::marks_of))]
 fn marks_of(base: &[u64], registers: &[u64]) -> u32
     requires { length base.now ≤ 31 }
@@ -59,7 +59,7 @@ fn put_register(out: &mut Bytes, known: u64, value: u64) -> Result<(), OutOfMemo
     put_u64(out, value)
 }
 
-/// The registers that differ.
+/// Appends the registers that differ.
 #[tactic(auto, using(crate::proofs::PatchTextLemmas::Written::written, crate::proofs::ByteFieldsLemmas::Kept::kept), unfolding(crate::specs::PatchText::Spelled::values_text))]
 fn put_values(out: &mut Bytes, base: &[u64], registers: &[u64]) -> Result<(), OutOfMemory>
     ensures ok { OnOk result (out.new ≡ out.old ++ values_text base.now registers.now) }
@@ -125,7 +125,7 @@ fn put_changes(out: &mut Bytes, changes: &[Change<'_>]) -> Result<(), OutOfMemor
     Ok(())
 }
 
-/// The changes of pages. No page is copied before it is written.
+/// Appends the changes of pages. No page is copied before it is written.
 #[tactic(auto, using(crate::proofs::ByteFieldsLemmas::Kept::kept))]
 fn put_pages(
     alloc: Global,
@@ -170,7 +170,7 @@ fn put_file(out: &mut Bytes, known: Option<&[u8]>, file: &File<'_>) -> Result<()
     put_content(out, known, file.content)
 }
 
-/// All files, each relative to the base's of its number.
+/// Appends all files, each relative to the base's file with its number.
 #[tactic(auto, using(crate::proofs::ByteFieldsLemmas::Kept::kept))]
 fn add_files(out: &mut Bytes, base: &[File<'_>], files: &[File<'_>]) -> Result<(), OutOfMemory>
     requires base { Rises (λ file. file.number) 0 (map file_view base.now) }
@@ -194,7 +194,7 @@ fn add_files(out: &mut Bytes, base: &[File<'_>], files: &[File<'_>]) -> Result<(
 
 // ---- the whole
 
-/// All files, all or none of their texts.
+/// Appends all files, all or none of their texts.
 fn put_files(out: &mut Bytes, base: &[File<'_>], files: &[File<'_>]) -> Result<(), OutOfMemory>
     requires base { Rises (λ file. file.number) 0 (map file_view base.now) }
     requires files { Rises (λ file. file.number) 0 (map file_view files.now) }
@@ -208,7 +208,7 @@ fn put_files(out: &mut Bytes, base: &[File<'_>], files: &[File<'_>]) -> Result<(
     all_or_none(out, len, added)
 }
 
-/// The pc, the registers that differ, and what is reserved.
+/// Appends the pc, the registers that differ, and the reservation.
 #[tactic(auto, using(crate::proofs::PatchTextLemmas::Written::written, crate::proofs::ByteFieldsLemmas::Kept::kept))]
 fn put_hart(
     out: &mut Bytes,
@@ -225,7 +225,7 @@ fn put_hart(
     put_reservation(out, parts.reservation)
 }
 
-/// The pc, the registers that differ, what is reserved, and the heap.
+/// Appends the pc, the registers that differ, the reservation, and the heap.
 #[tactic(auto, using(crate::proofs::PatchTextLemmas::Written::written, crate::proofs::ByteFieldsLemmas::Kept::kept))]
 fn put_machine(
     out: &mut Bytes,
@@ -242,7 +242,7 @@ fn put_machine(
     put_heap(out, parts.heap)
 }
 
-/// The numbers after the magic.
+/// Appends the numbers after the magic.
 #[tactic(auto, using(crate::proofs::PatchTextLemmas::Written::written, crate::proofs::ByteFieldsLemmas::Kept::kept))]
 fn put_numbers(
     out: &mut Bytes,
@@ -259,7 +259,7 @@ fn put_numbers(
     put_machine(out, base, parts)
 }
 
-/// The lists after the numbers.
+/// Appends the lists after the numbers.
 #[tactic(auto, using(crate::proofs::PatchTextLemmas::Written::written, crate::proofs::ByteFieldsLemmas::Kept::kept))]
 fn put_lists(
     alloc: Global,
@@ -281,7 +281,7 @@ fn put_lists(
     put_counted(out, &parts.descriptors)
 }
 
-/// What stands after the magic.
+/// Appends all that follows the magic.
 #[tactic(auto, using(crate::proofs::PatchTextLemmas::Written::written, crate::proofs::ByteFieldsLemmas::Kept::kept), unfolding(crate::specs::PatchText::Spelled::patch_body_text))]
 fn put_body(
     alloc: Global,
@@ -300,7 +300,7 @@ fn put_body(
     put_content(out, Some(base.stream2), parts.stream2)
 }
 
-/// Adds the patch of a state, of which want of memory may leave a part after what was there.
+/// Appends the patch of a state. Out of memory: a part may have been appended.
 #[tactic(auto, using(crate::proofs::PatchTextLemmas::Written::written, crate::proofs::ByteFieldsLemmas::Kept::kept))]
 fn add_patch(
     alloc: Global,
@@ -317,7 +317,7 @@ fn add_patch(
     put_body(alloc, out, base, parts)
 }
 
-/// Adds the patch of a state against a base, all or none.
+/// Appends the patch of a state relative to a base, all or none.
 pub fn put_patch(
     alloc: Global,
     out: &mut Bytes,

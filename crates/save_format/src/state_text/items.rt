@@ -1,4 +1,4 @@
-//! How each item of a list is read and written.
+//! Reads and writes each item of a list.
 
 ghost use Rattle.std.specs.Prelude.{◌≡◌, ◌++◌, ◌∷◌, ◌==◌, OnErr, OnOk, nat_le};
 ghost use Rattle.std.specs.Io.{StartsWith};
@@ -138,7 +138,7 @@ impl<'a> TextItem<'a> for File<'a> {
 ghost use Rattle.std.specs.Option.{option_copied};
 ghost use Rattle.save_format.specs.StateText.StateText.{optional_name};
 
-/// The name of a file: no bytes are none.
+/// The name of a file; `None` for no bytes.
 pub(crate) fn name_of(bytes: &[u8]) -> Option<&[u8]>
     ensures { option_copied result ≡ optional_name bytes.now }
 {
@@ -190,7 +190,7 @@ impl<'a> TextItem<'a> for NumberedDescriptor {
     }
 }
 
-/// What a descriptor of this kind stands for.
+/// The open file of a descriptor of this kind.
 #[tactic(auto, unfolding(crate::specs::StateText::StateText::open_file_at))]
 fn open_file_of(cursor: &mut Cursor<'_>, kind: u8) -> Result<OpenFile, WrongField>
     ensures { Finds (λ x. x) result cursor.new (open_file_at kind cursor.old) }

@@ -1,10 +1,10 @@
-//! A state is read as it is spelled, in each form. Each law is the contract of a function that does nothing.
+//! Reading and writing a state are inverse, in each format. Each law is the contract of a function that does nothing.
 
 ghost use Rattle.save_format.specs.ByteFields.Law.{IsReadInForms};
 ghost use Rattle.save_format.specs.StateText.StateText.{state_at};
 ghost use Rattle.save_format.specs.StateText.Spelled.{HasPlaceIn, IsStateText, state_text_in};
 
-/// The text of a state, and with it its lists.
+/// A state's text reads as the state, and so do its lists.
 pub fn states_are_read_as_spelled()
     ensures { IsReadInForms state_at state_text_in (λ form s. IsStateText s × HasPlaceIn form s.reservation) }
 {}

@@ -9,7 +9,7 @@ use ddc_base::OutOfMemory;
 use mem_files::Files;
 use std::alloc::Global;
 
-/// The files, ascending by their numbers. Names and contents are borrowed.
+/// The files, ascending by number. Names and contents are borrowed. Error: out of memory.
 pub fn files_of(alloc: Global, files: &Files) -> Result<Vec<File<'_>>, OutOfMemory>
     requires { AreInRange (lists_of files.now) }
     ensures { IfOk result (λ v. map file_view v.items ≡ (lists_of files.now).files) }
@@ -27,7 +27,7 @@ pub fn files_of(alloc: Global, files: &Files) -> Result<Vec<File<'_>>, OutOfMemo
     Ok(list)
 }
 
-/// The descriptors, ascending.
+/// The descriptors, ascending. Error: out of memory.
 pub fn descriptors_of(alloc: Global, files: &Files) -> Result<Vec<NumberedDescriptor>, OutOfMemory>
     requires { AreInRange (lists_of files.now) }
     ensures { IfOk result (λ v. map descriptor_view v.items ≡ (lists_of files.now).open_files) }

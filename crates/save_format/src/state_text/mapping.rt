@@ -1,4 +1,4 @@
-//! What a text says in front of its pages, which is told without memory.
+//! Reads the fields in front of the pages without allocation.
 
 ghost use Rattle.std.specs.Prelude.{◌≡◌, ◌++◌, ◌∷◌, [], ◌↔◌, IsOk, IsTrue, List, Ok};
 ghost use Rattle.save_format.specs.ByteFields.Reader.{counted};
@@ -12,7 +12,7 @@ use crate::state_text::parts::{FrontNumbers, Reserved, Run};
 use crate::state_text::reading::{MAGIC, OLD_MAGIC, begin, numbers_of};
 use linux_calls::Heap;
 
-/// What a state's text says in front of its pages.
+/// The fields of a state in front of its pages.
 #[derive(Clone, Copy)]
 pub struct StateFront {
     /// How many steps were taken.
@@ -25,7 +25,7 @@ pub struct StateFront {
 }
 
 impl FrontNumbers {
-    /// These numbers in front of runs that can be mapped, or cannot.
+    /// These numbers, with whether the runs after them can be mapped.
     pub(crate) fn front(&self, mappable: bool) -> StateFront
         ensures { result ≡ record { steps = self.now.steps; pc = self.now.pc; reservation = self.now.reservation; heap = self.now.heap; mappable = mappable } }
     {
@@ -39,10 +39,10 @@ impl FrontNumbers {
     }
 }
 
-/// How many pages a guest can have: 67,584 apart from its heap, and 262,144 of its heap.
+/// The most pages of a guest: 67,584 outside its heap, and 262,144 in its heap.
 pub const MOST_PAGES: u64 = 329_728;
 
-/// What is left of the most pages after one more run; `None` where there are too many, or a run ends after memory.
+/// How many of the most pages are left after one more run. `None` if there are too many, or if a run ends past the end of memory.
 fn left_after(left: Option<u64>, run: &Run) -> Option<u64>
     ensures { (runs : List RunText) → IsLeftAfter left runs → IsLeftAfter result (runs ++ run.now ∷ []) }
 {
@@ -58,7 +58,7 @@ fn left_after(left: Option<u64>, run: &Run) -> Option<u64>
     }
 }
 
-/// Goes past a count of 4 bytes, and that many runs, and says whether they can be mapped.
+/// Skips a count of 4 bytes and that many runs. Returns whether the runs can be mapped.
 pub(crate) fn runs_mappable(cursor: &mut Cursor<'_>) -> Result<bool, WrongField>
     ensures { PassesRuns result cursor.new (counted run_at after_run 0 cursor.old) }
 {
@@ -73,7 +73,7 @@ pub(crate) fn runs_mappable(cursor: &mut Cursor<'_>) -> Result<bool, WrongField>
     Ok(left.is_some())
 }
 
-/// What stands after the magic of a form, in front of the pages.
+/// The fields between the magic of a format and the pages.
 fn body_front(cursor: &mut Cursor<'_>, form: TextForm) -> Result<StateFront, WrongField>
     ensures { Tells IsFrontOf result (body_at form cursor.old) }
 {
@@ -82,7 +82,7 @@ fn body_front(cursor: &mut Cursor<'_>, form: TextForm) -> Result<StateFront, Wro
     Ok(numbers.front(mappable))
 }
 
-/// The front of a state's text of this form at the front of what remains.
+/// The fields in front of the pages, from a state in this format at the start of the remaining bytes.
 #[tactic(auto, unfolding(crate::specs::StateText::StateText::state_in))]
 pub(crate) fn state_front(cursor: &mut Cursor<'_>, form: TextForm) -> Result<StateFront, WrongField>
     ensures { Tells IsFrontOf result (state_in form cursor.old) }
@@ -91,7 +91,7 @@ pub(crate) fn state_front(cursor: &mut Cursor<'_>, form: TextForm) -> Result<Sta
     body_front(cursor, form)
 }
 
-/// The same of a text of either form.
+/// The fields in front of the pages, from a state in either format at the start of the remaining bytes.
 #[tactic(auto, unfolding(crate::specs::StateText::StateText::state_at))]
 fn either_front(cursor: &mut Cursor<'_>) -> Result<StateFront, WrongField>
     ensures { Tells IsFrontOf result (state_at cursor.old) }
@@ -100,7 +100,7 @@ fn either_front(cursor: &mut Cursor<'_>) -> Result<StateFront, WrongField>
     body_front(cursor, form)
 }
 
-/// What a text of the form says in front of its pages, which takes no memory.
+/// The fields of a well-formed state in front of its pages. Allocates nothing.
 pub fn front_of(text: &[u8]) -> StateFront
     requires { IsOk (parsed_state text.now) }
     ensures { (s : StateText) → parsed_state text.now ≡ Ok s → IsFrontOf result s }

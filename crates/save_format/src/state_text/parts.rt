@@ -2,16 +2,16 @@ use linux_calls::Heap;
 use mem_files::OpenFile;
 use paged_mem::Width;
 
-/// Bytes that are reserved.
+/// The reserved bytes of a state.
 #[derive(Clone, Copy)]
 pub struct Reserved {
-    /// How many: 4 or 8.
+    /// How many bytes: 4 or 8.
     pub width: Width,
     /// The address of the first of them.
     pub at: u64,
 }
 
-/// Mapped pages in a row, with pages before and after it that are not mapped.
+/// Consecutive mapped pages. The page before and the page after them are not mapped.
 #[derive(Clone, Copy, PartialEq, Eq)]
 pub struct Run {
     /// The number of its first page: its address divided by 4,096.
@@ -33,19 +33,19 @@ pub struct Page<'a> {
 #[derive(Clone, Copy)]
 pub struct File<'a> {
     pub number: u32,
-    /// None where its name was removed.
+    /// `None` if its name was removed.
     pub name: Option<&'a [u8]>,
     pub content: &'a [u8],
 }
 
-/// An open descriptor of the guest, and what it stands for.
+/// An open descriptor of the guest, and its open file.
 #[derive(Clone, Copy)]
 pub struct NumberedDescriptor {
     pub fd: u32,
     pub open_file: OpenFile,
 }
 
-/// The numbers that stand in front of the lists of a state's text.
+/// The numbers before the lists of a state.
 #[derive(Clone, Copy)]
 pub(crate) struct FrontNumbers {
     pub steps: u64,
@@ -55,7 +55,7 @@ pub(crate) struct FrontNumbers {
     pub heap: Heap,
 }
 
-/// What the text of a state says. Contents are borrowed.
+/// The fields of a state. Contents are borrowed.
 #[derive(Drop)]
 pub struct StateParts<'a> {
     /// How many steps were taken.
@@ -63,16 +63,16 @@ pub struct StateParts<'a> {
     pub pc: u64,
     /// x1 to x31.
     pub registers: [u64; 31],
-    /// None in a text of the first form.
+    /// `None` in a text of format 1.
     pub reservation: Option<Reserved>,
     pub heap: Heap,
-    /// Ascending, and no two of them touch.
+    /// Ascending. Any two of them have a gap between them.
     pub runs: Vec<Run>,
-    /// Ascending by their numbers.
+    /// Ascending by number.
     pub pages: Vec<Page<'a>>,
-    /// Ascending by their numbers.
+    /// Ascending by number.
     pub files: Vec<File<'a>>,
-    /// Ascending by their numbers.
+    /// Ascending by number.
     pub descriptors: Vec<NumberedDescriptor>,
     pub stream1: &'a [u8],
     pub stream2: &'a [u8],

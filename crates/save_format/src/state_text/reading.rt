@@ -17,13 +17,13 @@ use std::alloc::Global;
 /// The eight bytes that begin the text of a state.
 pub const MAGIC: [u8; 8] = *b"ddcstat2";
 
-/// Those that began one of the first form.
+/// The eight bytes that begin the text of a state of format 1.
 pub(crate) const OLD_MAGIC: [u8; 8] = *b"ddcstat1";
 
 /// Why a text is refused.
 #[derive(Clone, Copy)]
 pub enum TextRefusal {
-    /// The field that begins at this offset is the first wrong one, or the first byte after the last field.
+    /// The offset of the first wrong field, or of the first byte after the last field.
     Form(u64),
     OutOfMemory,
 }
@@ -38,7 +38,7 @@ pub(crate) fn registers_of(cursor: &mut Cursor<'_>) -> Result<[u64; 31], WrongFi
     Ok(registers)
 }
 
-/// What is reserved by a text of this form.
+/// The reservation in a text of this format.
 #[tactic(auto, unfolding(crate::specs::StateText::StateText::reservation_at, crate::specs::StateText::StateText::reserved_at))]
 pub(crate) fn reservation_of(
     cursor: &mut Cursor<'_>,
@@ -70,7 +70,7 @@ pub(crate) fn heap_of(cursor: &mut Cursor<'_>) -> Result<Heap, WrongField>
     Ok(Heap { first, now, limit })
 }
 
-/// The numbers after the magic of a form.
+/// The numbers after the magic of a format.
 #[tactic(auto, unfolding(crate::specs::StateText::StateText::body_at, crate::specs::Inside::Fronts::lists_at))]
 pub(crate) fn numbers_of(
     cursor: &mut Cursor<'_>,
@@ -92,7 +92,7 @@ pub(crate) fn numbers_of(
     })
 }
 
-/// What stands after the magic of a form.
+/// All fields after the magic of a format.
 #[tactic(auto, unfolding(crate::specs::Inside::Fronts::lists_at))]
 fn body_of<'a>(
     alloc: Global,
@@ -124,7 +124,7 @@ fn body_of<'a>(
     })
 }
 
-/// The eight bytes that begin a text of this form.
+/// The eight bytes that begin a text of this format.
 pub(crate) fn begin(cursor: &mut Cursor<'_>, form: TextForm) -> Result<(), WrongField>
     ensures { Finds (λ x. x) result cursor.new (begun (state_magic form) cursor.old) }
 {
@@ -134,7 +134,7 @@ pub(crate) fn begin(cursor: &mut Cursor<'_>, form: TextForm) -> Result<(), Wrong
     }
 }
 
-/// A state's text of this form at the front of what is left; one of the other form is wrong at its first byte.
+/// A state in this format at the start of the remaining bytes. The other format is wrong at its first byte.
 #[tactic(auto, unfolding(crate::specs::StateText::StateText::state_in))]
 pub(crate) fn parts_in<'a>(
     alloc: Global,
@@ -147,7 +147,7 @@ pub(crate) fn parts_in<'a>(
     body_of(alloc, cursor, form)
 }
 
-/// A state's text of either form at the front of what is left.
+/// A state in either format at the start of the remaining bytes.
 #[tactic(auto, unfolding(crate::specs::StateText::StateText::state_at))]
 fn parts_at<'a>(alloc: Global, cursor: &mut Cursor<'a>) -> Result<StateParts<'a>, ReadStop>
     ensures { GivesField state_view result cursor.new (state_at cursor.old) }
@@ -156,7 +156,7 @@ fn parts_at<'a>(alloc: Global, cursor: &mut Cursor<'a>) -> Result<StateParts<'a>
     body_of(alloc, cursor, form)
 }
 
-/// Goes past what stands after the magic of a form.
+/// Skips all fields after the magic of a format.
 #[tactic(auto, unfolding(crate::specs::Inside::Fronts::lists_at))]
 fn pass_body(cursor: &mut Cursor<'_>, form: TextForm) -> Result<(), WrongField>
     ensures { GoesPast result cursor.new (body_at form cursor.old) }
@@ -171,7 +171,7 @@ fn pass_body(cursor: &mut Cursor<'_>, form: TextForm) -> Result<(), WrongField>
     Ok(())
 }
 
-/// Goes past a state's text of this form at the front of what is left.
+/// Skips a state in this format at the start of the remaining bytes.
 #[tactic(auto, unfolding(crate::specs::StateText::StateText::state_in))]
 pub(crate) fn pass_state_in(cursor: &mut Cursor<'_>, form: TextForm) -> Result<(), WrongField>
     ensures { GoesPast result cursor.new (state_in form cursor.old) }
@@ -180,7 +180,7 @@ pub(crate) fn pass_state_in(cursor: &mut Cursor<'_>, form: TextForm) -> Result<(
     pass_body(cursor, form)
 }
 
-/// Goes past a state's text of either form at the front of what is left.
+/// Skips a state in either format at the start of the remaining bytes.
 #[tactic(auto, unfolding(crate::specs::StateText::StateText::state_at))]
 fn pass_state(cursor: &mut Cursor<'_>) -> Result<(), WrongField>
     ensures { GoesPast result cursor.new (state_at cursor.old) }
@@ -189,7 +189,7 @@ fn pass_state(cursor: &mut Cursor<'_>) -> Result<(), WrongField>
     pass_body(cursor, form)
 }
 
-/// Whether a text has the form of a state's, all of it.
+/// Checks that the whole text is a well-formed state.
 #[tactic(auto, unfolding(crate::specs::StateText::StateText::parsed_state))]
 fn judge(text: &[u8]) -> Result<(), TextRefusal>
     ensures { JudgesForm result (parsed_state text.now) }
@@ -205,14 +205,14 @@ fn judge(text: &[u8]) -> Result<(), TextRefusal>
     }
 }
 
-/// What the text of a state says. Each field is judged given those before it, so an offset is that of the first wrong one.
-/// The form is judged first, which takes no memory.
+/// Parses a state of either format. Errors: `Form` with the offset of the first wrong field, `OutOfMemory`.
+/// Each field is judged given those before it. The format is checked first, without allocation.
 pub fn read(alloc: Global, text: &[u8]) -> Result<StateParts<'_>, TextRefusal>
-    // What is read is spelled so, in one of the two forms.
+    // A parsed state has this text, in one of the two formats.
     ensures found { IfOk result (λ p. IsStateText (state_view p) × IsTextOfState (state_view p) text.now) }
-    // What is spelled so is read, unless memory runs out.
+    // Every such text is parsed, unless memory runs out.
     ensures only { (s : StateText) → IsStateText s → IsTextOfState s text.now → ReadsStateText result (Ok s) }
-    // Which field is the first wrong one.
+    // The offset is that of the first wrong field.
     ensures exact { ReadsStateText result (parsed_state text.now) }
 {
     all(alloc, text)

@@ -59,7 +59,7 @@ fn put_files(out: &mut Bytes, files: &[File<'_>]) -> Result<(), OutOfMemory>
     put_counted(out, files)
 }
 
-/// The pc, the registers, and what is reserved.
+/// Appends the pc, the registers, and the reservation.
 #[tactic(auto, using(crate::proofs::StateTextLemmas::Written::written, crate::proofs::ByteFieldsLemmas::Kept::kept))]
 fn put_hart(out: &mut Bytes, parts: &StateParts<'_>) -> Result<(), OutOfMemory>
     ensures ok { OnOk result (out.new ≡ out.old ++ (number_text w64 parts.now.pc ++ (u64s parts.now.registers
@@ -71,7 +71,7 @@ fn put_hart(out: &mut Bytes, parts: &StateParts<'_>) -> Result<(), OutOfMemory>
     put_reservation(out, parts.reservation)
 }
 
-/// The numbers after the magic.
+/// Appends the numbers after the magic.
 #[tactic(auto, using(crate::proofs::StateTextLemmas::Written::written, crate::proofs::ByteFieldsLemmas::Kept::kept))]
 fn put_numbers(out: &mut Bytes, parts: &StateParts<'_>) -> Result<(), OutOfMemory>
     ensures ok { OnOk result (out.new ≡ out.old ++ (number_text w64 parts.now.steps ++ (number_text w64 parts.now.pc
@@ -83,7 +83,7 @@ fn put_numbers(out: &mut Bytes, parts: &StateParts<'_>) -> Result<(), OutOfMemor
     put_heap(out, parts.heap)
 }
 
-/// The lists after the numbers.
+/// Appends the lists after the numbers.
 #[tactic(auto, using(crate::proofs::StateTextLemmas::Written::written, crate::proofs::ByteFieldsLemmas::Kept::kept))]
 fn put_lists(out: &mut Bytes, parts: &StateParts<'_>) -> Result<(), OutOfMemory>
     requires { IsStateText (state_view parts.now) }
@@ -97,7 +97,7 @@ fn put_lists(out: &mut Bytes, parts: &StateParts<'_>) -> Result<(), OutOfMemory>
     put_counted(out, &parts.descriptors)
 }
 
-/// What stands after the magic.
+/// Appends all that follows the magic.
 #[tactic(auto, using(crate::proofs::StateTextLemmas::Written::written, crate::proofs::ByteFieldsLemmas::Kept::kept), unfolding(crate::specs::StateText::Spelled::body_text))]
 fn put_body(out: &mut Bytes, parts: &StateParts<'_>) -> Result<(), OutOfMemory>
     requires { IsStateText (state_view parts.now) }
@@ -110,7 +110,7 @@ fn put_body(out: &mut Bytes, parts: &StateParts<'_>) -> Result<(), OutOfMemory>
     put_blob32(out, parts.stream2)
 }
 
-/// Adds the text of a state, of which want of memory may leave a part after what was there.
+/// Appends the text of a state. Out of memory: a part may have been appended.
 #[tactic(auto, using(crate::proofs::StateTextLemmas::Written::written, crate::proofs::ByteFieldsLemmas::Kept::kept))]
 fn add_parts(out: &mut Bytes, parts: &StateParts<'_>) -> Result<(), OutOfMemory>
     requires { IsStateText (state_view parts.now) }
@@ -121,7 +121,7 @@ fn add_parts(out: &mut Bytes, parts: &StateParts<'_>) -> Result<(), OutOfMemory>
     put_body(out, parts)
 }
 
-/// Adds the text of a state, all or none.
+/// Appends the text of a state in format 2, all or none.
 pub fn put_parts(out: &mut Bytes, parts: &StateParts<'_>) -> Result<(), OutOfMemory>
     requires { IsStateText (state_view parts.now) }
     ensures ok { OnOk result (out.new ≡ out.old ++ text_of_state (state_view parts.now)) }
