@@ -7,6 +7,6 @@ pub record IsHexOf (text bytes : List ℕ) : Type 0 where
   pub are_bytes : All (λ byte. byte < 256) bytes
   pub spelled : text ≡ encode_lower bytes
 
--- a lower-case digit, `0` to `9` or `a` to `f`
+-- is this byte a lower-case digit, `0` to `9` or `a` to `f`?
 abbrev pub is_lower_digit : ℕ → Bool
 is_lower_digit byte = (nat_le 48 byte && nat_le byte 57) || (nat_le 97 byte && nat_le byte 102)

@@ -34,7 +34,7 @@ pub(crate) struct PlainFile {
 /// What is at a path. A symbolic link is not followed.
 #[derive(Clone, Copy)]
 pub(crate) enum Standing {
-    /// No file.
+    /// No file exists there.
     Nothing,
     /// A regular file.
     Plain(PlainFile),

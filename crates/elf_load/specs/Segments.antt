@@ -50,23 +50,23 @@ page_end segment = page_up (segment_end segment)
 abbrev pub paged_size : Segment → ℕ
 paged_size segment = page_end segment - first_page segment
 
--- more bytes in the file than in memory, bytes past the end of a file of `size` bytes, or pages above 2^37
+-- whether a segment has more bytes in the file than in memory, bytes past the end of a file of `size` bytes, or pages above 2^37
 unfoldable pub is_out_of_range : ℕ → Segment → Bool
 is_out_of_range size segment =
     nat_lt segment.memory_size segment.file_size
     || nat_lt size (segment.offset + segment.file_size)
     || nat_lt (2 ^ 37) (page_end segment)
 
--- two segments have a page in common
+-- whether two segments have a page in common
 abbrev pub share_page : Segment → Segment → Bool
 share_page one other = nat_lt (first_page one) (page_end other) && nat_lt (first_page other) (page_end one)
 
--- some two of the segments share a page
+-- whether some two of the segments have a page in common
 abbrev pub any_share : List Segment → Bool
 any_share [] = false
 any_share (segment ∷ rest) = list_any (share_page segment) rest || any_share rest
 
--- the address is one of the segment's bytes in memory
+-- whether the address is one of the segment's bytes in memory
 abbrev pub holds_address : ℕ → Segment → Bool
 holds_address address segment = nat_le segment.address address && nat_lt address (segment_end segment)
 

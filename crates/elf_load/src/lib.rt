@@ -48,7 +48,7 @@ pub struct Image {
 /// Public source: System V ABI (gABI), "Object Files" and "Program Loading and Dynamic Linking".
 pub fn read_image(file: &[u8]) -> Result<Image, ElfRefusal>
     ensures value { result ≡ image_of file.now }
-    // The properties that the crates above use.
+    // The image is loadable (`IsLoadable`).
     ensures sound { IfOk result (IsLoadable (length file.now)) }
 {
     checks::check_header(file)?;

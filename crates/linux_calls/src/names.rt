@@ -19,7 +19,7 @@ pub fn back(answer: Result<u64, u16>) -> CallEnd
     }
 }
 
-/// unlinkat(dir, path, flags)
+/// unlinkat(dir, path, flags): removes a name.
 pub fn unlinkat<R: Ram>(
     ram: &R,
     files: &mut Files,
@@ -37,7 +37,7 @@ pub fn unlinkat<R: Ram>(
     Ok(0)
 }
 
-/// faccessat(dir, path, mode)
+/// faccessat(dir, path, mode): returns 0 if the file exists.
 pub fn faccessat<R: Ram>(ram: &R, files: &Files, dir: u64, at: u64, mode: u64) -> Result<u64, u16>
     ensures { result ≡ accessed (R.bytes ram.now) files.now dir at mode }
 {

@@ -38,7 +38,7 @@ fn read_text<R: Ram>(ram: &R, at: u64) -> Result<ArrayVec<u8, 256>, u16>
     Err(ENAMETOOLONG)
 }
 
-/// The file name in the path at an address: the path after `strip`.
+/// The file name in the path at an address: the path after `strip`. Errors: `EFAULT`, `ENAMETOOLONG`, `ENOENT`.
 pub fn read_path<R: Ram>(ram: &R, at: u64) -> Result<ArrayVec<u8, 256>, u16>
     ensures value { MatchResult result
         (λ name. name_at (R.bytes ram.now) at ≡ Ok name.items)
@@ -56,7 +56,7 @@ pub fn read_path<R: Ram>(ram: &R, at: u64) -> Result<ArrayVec<u8, 256>, u16>
     }
 }
 
-/// Whether the directory argument is valid for a name.
+/// Checks the directory argument for a name. Errors: `ENOTDIR`, `EBADF`.
 pub fn check_directory(files: &Files, dir: u64, name: &[u8]) -> Result<(), u16>
     ensures { MatchResult result
         (λ _. in_directory files.now dir name.now ≡ Ok name.now)
@@ -71,7 +71,7 @@ pub fn check_directory(files: &Files, dir: u64, name: &[u8]) -> Result<(), u16>
     Err(EBADF)
 }
 
-/// The file name in the path at an address, if the directory argument is valid.
+/// The file name in the path at an address, if the directory argument is valid. Errors: those of `read_path`, `ENOTDIR`, `EBADF`.
 pub fn read_path_in<R: Ram>(
     ram: &R,
     files: &Files,

@@ -1,4 +1,4 @@
-//! The heap.
+//! The heap's calls.
 
 ghost use Rattle.std.specs.Prelude.{◌≡◌, ◌≤◌, ◌<◌, ◌+◌, ◌-◌, ◌%◌, ◌^◌, true, OnOk, OnErr};
 ghost use Rattle.paged_mem.specs.Memory.{IsFree, maps, page_up};

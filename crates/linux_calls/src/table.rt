@@ -15,7 +15,7 @@ use mem_files::Files;
 use paged_mem::Ram;
 use std::alloc::Global;
 
-/// close(fd)
+/// close(fd): closes a descriptor.
 fn close(files: &mut Files, fd: u32) -> Result<u64, u16>
     ensures { answering 0 (closed files.old fd) ≡ (result, files.new) }
 {

@@ -26,7 +26,7 @@ enospc = 28
 abbrev pub espipe : ℕ
 espipe = 29
 
--- flags of openat(2): Linux, include/uapi/asm-generic/fcntl.h, where they stand as octal 3, 0, 1, 2, 100, 200, 1000 and 2000
+-- flags of openat(2): Linux, include/uapi/asm-generic/fcntl.h, which has them in octal: 3, 0, 1, 2, 100, 200, 1000 and 2000
 abbrev pub o_accmode : ℕ
 o_accmode = 3
 

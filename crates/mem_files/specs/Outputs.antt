@@ -25,7 +25,7 @@ abbrev pub out : World → OutputPlace → Option (List ℕ)
 out w FirstStream = Some w.stream1
 out w (AtPath path) = content_at w path
 
--- the bytes of a content: no more than a file or a stream may have
+-- a content: bytes, at most as many as a file or a stream may have
 pub record IsContent (content : List ℕ) : Type 0 where
   pub bytes : AreBytes content
   pub small : length content ≤ most_content

@@ -43,7 +43,7 @@ pub record IsWorldJoined (w : World) : Type 0 where
       → IsSome (map.get w.files number)
   pub used : (number : ℕ) → IsSome (map.get w.files number) → IsTrue (is_named w number || is_open w number)
 
--- both parts
+-- the rules of files: both parts
 pub record IsSound (w : World) : Type 0 where
   pub within : IsInLimits w
   pub joined : IsWorldJoined w

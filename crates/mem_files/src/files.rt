@@ -132,7 +132,7 @@ impl Files {
         requires { fits self.old fd (length bytes.now) ≡ Ok tt }
         ensures ok { OnOk result (written self.old fd bytes.now ≡ (Ok tt, self.new)) }
         ensures err { OnErr result (self.new ≡ self.old) }
-        // Overwriting bytes allocates no memory.
+        // Only a write that ends past the existing bytes can run out of memory.
         ensures memory { OnErr result (Grows self.old fd (length bytes.now)) }
     {
         self.table.write(fd, bytes)

@@ -37,7 +37,7 @@ pub fn number_has_one_name()
         → map.get w.names name ≡ Some number → map.get w.names other ≡ Some number → name ≡ other }
 {}
 
-/// The files of a start are sound, and each call keeps them sound if its names and contents are bytes.
+/// The files of a new guest are sound, and each call keeps them sound if its names and contents are bytes.
 pub fn calls_keep_the_rules()
     ensures at_start { IsSound first_world }
     ensures at_place { (w : World) (name content : List ℕ) → IsSound w → AreBytes name → AreBytes content

@@ -69,7 +69,7 @@ pub const MAX_CONTENT: u64 = 268_435_456;
 pub const MAX_TOTAL: u64 = 536_870_912;
 /// The most open descriptors, including 0, 1 and 2.
 pub const MAX_OPEN_FILES: usize = 1_024;
-/// The most names.
+/// The most names of files.
 pub const MAX_NAMES: usize = 4_096;
-/// The most bytes of a name.
+/// The most bytes of a file name.
 pub const MAX_NAME: usize = 255;

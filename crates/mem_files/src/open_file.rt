@@ -7,7 +7,7 @@ ghost use Rattle.mem_files.specs.declared.open_file.PlaceRefusal.TheVariants as 
 
 use std::alloc::AllocError;
 
-/// What a descriptor stands for.
+/// An open file: what a descriptor stands for.
 #[derive(Clone, Copy, Debug, PartialEq, Eq)]
 pub enum OpenFile {
     /// The empty input; only descriptor 0.
@@ -67,7 +67,7 @@ impl Access {
 /// Why a file is not opened or written.
 #[derive(Clone, Copy)]
 pub enum FileRefusal {
-    /// Linux's error number.
+    /// An error number of Linux.
     Errno(u16),
     /// This process is out of memory. The guest does not see it.
     OutOfMemory,

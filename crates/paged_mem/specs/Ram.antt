@@ -22,7 +22,7 @@ Writes old at bytes (Ok _) new = (maps old at (length bytes) ≡ true) × (new �
 Writes old at bytes (Err Unmapped) new = (maps old at (length bytes) ≡ false) × (new ≡ old)
 Writes old at bytes (Err OutOfMemory) new = (maps old at (length bytes) ≡ true) × (new ≡ old)
 
--- the low count bytes of a number are written, little-endian, under the same rules
+-- the low count bytes of a number are written, little-endian, under the rules of `Writes`
 abbrev pub Stores : Memory → ℕ → ℕ → ℕ → Result ⊤ StoreRefusal → Memory → Type 0
 Stores old at count value result new = Writes old at (bytes_of count value) result new
 
@@ -46,7 +46,7 @@ abbrev pub RunsFrom : Memory → ℕ → Option (ℕ × ℕ) → Type 0
 RunsFrom m at None = (address : ℕ) → at / 4096 * 4096 ≤ address → get m address ≡ None
 RunsFrom m at (Some run) = IsRun m at run.0 run.1
 
--- the bytes of a page that is shown, or none
+-- the bytes of a page that is shown; none if it is unmapped
 abbrev pub shown_bytes : PageView → Option (List ℕ)
 shown_bytes page.Unmapped = None
 shown_bytes page.Zero = Some (zeros 4096)

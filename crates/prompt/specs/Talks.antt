@@ -1,4 +1,4 @@
--- A session: lines are read one by one, and each reply is written as a segment of its own. docs/reference/step.md is
+-- A session as the lines read and the segments written: each reply is a segment of its own. docs/reference/step.md is
 -- the page for readers.
 use Rattle.std.specs.Prelude.{ℕ, zero, suc, Option, None, Some, List, [], ◌∷◌}
 use Rattle.prompt.specs.declared.asking.Asked.{Asked}

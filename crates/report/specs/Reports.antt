@@ -1,4 +1,4 @@
--- Reports: which are well-formed, their unique text, and the first fault of any other text. Digests are SHA-256 (FIPS 180-4).
+-- Which reports are well-formed, their unique text, and the first fault of any other text. Digests are SHA-256 (FIPS 180-4).
 -- docs/reference/report.md is the page for readers.
 use Rattle.std.specs.Prelude.{◌≡◌, ℕ, ◌<◌, ◌≤◌, ◌^◌, Bool, true, ◌&&◌, All, List, [], ◌∷◌, ◌++◌, length, map, ◌⊎◌, ◌==◌, if◌then◌else◌, IsTrue}
 use Rattle.std.specs.List.{flat_map}

@@ -23,7 +23,7 @@ const MANY: usize = 256;
 /// The most files that a stage leaves.
 const MANY_LEFT: usize = 4096;
 
-/// The most comparisons of a report of form 2.
+/// The most comparisons of a report of format 2.
 const MANY_COMPARED: usize = 16;
 
 /// The part of a report above the comparisons.

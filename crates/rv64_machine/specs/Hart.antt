@@ -27,7 +27,7 @@ IsReservation (Some (count, at)) = ((count ≡ 4) ⊎ (count ≡ 8)) × (at % co
 abbrev pub reserved_bytes : Reservation → ℕ × ℕ
 reserved_bytes held = (count_of held.wide, held.at)
 
--- the state of a hart: the registers x0 to x31, the address of the next instruction, memory, and the reservation where one is held
+-- the state of a hart: the registers x0 to x31, the address of the next instruction, the memory, and the reservation if there is one
 pub record HartState : Type 0 where
   pub registers : List ℕ
   pub pc : ℕ

@@ -24,7 +24,7 @@ pub enum Cause {
 /// How a step ended. Every result but `Done` leaves the hart unchanged.
 #[derive(Clone, Copy, PartialEq, Eq)]
 pub enum StepEnd {
-    /// The instruction was carried out.
+    /// The instruction was executed.
     Done,
     /// ECALL. The system performs the call and then answers it.
     Call,

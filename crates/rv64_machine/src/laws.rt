@@ -16,9 +16,8 @@ use crate::answer::StepEnd;
 use crate::hart::Hart;
 use paged_mem::Ram;
 
-/// A step reads nothing but the registers, the pc, the mapped bytes and the reservation.
-/// Two harts that are equal in these return the same and are equal afterwards, whatever their memories are, unless one
-/// runs out of memory.
+/// Two harts with equal registers, pc, mapped bytes and reservation step alike, whatever their memories are, unless one
+/// runs out of memory. A step reads nothing else.
 pub fn equal_harts_step_alike<R: Ram, S: Ram>(
     one: &mut Hart<R>,
     other: &mut Hart<S>,

@@ -1,6 +1,6 @@
 -- The table of instructions, and the row of a word.
 -- The source: RISC-V Unprivileged ISA, "RV32/64G Instruction Set Listings", the tables RV32I, RV64I, RV32M, RV64M, RV32A and RV64A.
--- docs/reference/instructions.md says the same for readers.
+-- docs/reference/instructions.md is the page for readers.
 use Rattle.std.specs.Prelude.{ℕ, ◌+◌, ◌*◌, ◌^◌, ◌≡◌, Bool, nat_le, ◌==◌, IsTrue, List, [], ◌∷◌, Option, Some, find, slice_get, bit_and}
 use Rattle.rv64_table.specs.declared.Row.{Row}
 use Rattle.rv64_table.specs.declared.Form.{Form}
@@ -128,7 +128,7 @@ table =
     ∷ atomic A 3 0x1C Amomaxud
     ∷ []
 
--- the word has the bits that the row wants where its mask is set
+-- whether the word has the row's bits where the row's mask is set
 abbrev pub matches : Row → ℕ → Bool
 matches r word = bit_and word r.mask == r.want
 

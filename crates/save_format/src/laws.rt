@@ -5,7 +5,7 @@ ghost use Rattle.save_format.specs.SaveText.{save_at};
 ghost use Rattle.save_format.specs.Spelled.{IsSaveText, save_text_in};
 ghost use Rattle.save_format.specs.StateText.Spelled.{HasPlaceIn};
 
-/// A save's text reads as the save, and so do its lists.
+/// Parsing an encoded save returns it, and every accepted text is the encoding of its save, in either format.
 pub fn saves_are_read_as_spelled()
     ensures { IsReadInForms save_at save_text_in (λ form save. IsSaveText save × HasPlaceIn form save.state.reservation) }
 {}

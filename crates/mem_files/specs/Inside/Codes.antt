@@ -8,7 +8,7 @@ use Rattle.mem_files.specs.contracts.open_file.OpenFile as open_file
 use Rattle.mem_files.specs.Names.{bytes_cmp}
 use Rattle.mem_files.specs.World.{World}
 
--- as its parts
+-- a world is stored as its parts
 abbrev pub world_code : Coded World
 world_code =
     code_by (map.FinMap bytes_cmp ℕ × (map.FinMap nat_cmp (List ℕ) × (map.FinMap nat_cmp OpenFile × (List ℕ × List ℕ))))

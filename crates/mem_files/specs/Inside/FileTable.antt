@@ -39,7 +39,7 @@ parts_of a = record {
   total = a.total;
 }
 
--- the world of a table
+-- the `World` of a table
 abbrev pub world_of : Parts → World
 world_of p = record {
   names = from_sorted p.names;

@@ -16,14 +16,14 @@ use Rattle.paged_mem.specs.Inside.Entries.{Entry, ArePages, AreRowsOf, IsHeldPag
 use Rattle.paged_mem.specs.declared.rows.PageRow.{PageRow}
 use Rattle.paged_mem.specs.declared.rows.Rows.{Rows}
 
--- after an insert, at its address and at another
+-- the byte at an address after an insert at that address, and after an insert at another
 pub get-insert_same : (m : Memory) (k v q : ℕ) → q ≡ k → get (insert m k v) q ≡ Some v
 get-insert_same m k v q e = get-insert nat_cmp_total m k v q ∙ ap (λ b. cond b (Some v) (get m q)) (unsigned_tied q k) ∙ grind (arith, nat_tests)
 
 pub get-insert_other : (m : Memory) (k v q : ℕ) → q ≢ k → get (insert m k v) q ≡ get m q
 get-insert_other m k v q ne = get-insert nat_cmp_total m k v q ∙ ap (λ b. cond b (Some v) (get m q)) (unsigned_tied q k) ∙ grind (arith, nat_tests)
 
--- after bytes are written from an address on, within them, below and above
+-- the byte at an address after bytes are written: among them, below them, or above them
 pub get-with_bytes : (m : Memory) (at : ℕ) (bytes : List ℕ) (q : ℕ) → at ≤ q → q < at + length bytes → get (with_bytes m at bytes) q ≡ Some (get_or bytes (q - at) 0)
 unfolding with_bytes
 get-with_bytes m at [] q from to = absurd (omega arith)

@@ -1,4 +1,4 @@
--- Reports of scripts: which are well-formed, their unique text, and the first fault of any other text. Digests are SHA-256 (FIPS 180-4).
+-- Which reports of scripts are well-formed, their unique text, and the first fault of any other text. Digests are SHA-256 (FIPS 180-4).
 -- docs/reference/kaem-report.md is the page for readers.
 use Rattle.std.specs.Prelude.{◌≤◌, ◌^◌, ℕ, All, List, [], ◌∷◌, ◌++◌, length, map, IsTrue}
 use Rattle.std.specs.List.{flat_map}

@@ -14,10 +14,10 @@ pub trait Numbered: Sized + Drop {
 
     ghost seen: { Self → Seen };
 
-    // Its number.
+    // The item's number.
     ghost number_of: { Seen → ℕ };
 
-    /// Its number.
+    /// The item's number.
     fn number(&self) -> u32
         ensures { result ≡ number_of (seen self.now) };
 }

@@ -7,7 +7,7 @@ use paged_mem::Width;
 pub struct Reserved {
     /// How many bytes: 4 or 8.
     pub width: Width,
-    /// The address of the first of them.
+    /// The address of the first reserved byte.
     pub at: u64,
 }
 
@@ -23,7 +23,7 @@ pub struct Run {
 /// A page that is not all zeros.
 #[derive(Clone, Copy)]
 pub struct Page<'a> {
-    /// Its address divided by 4,096.
+    /// The page number: its address divided by 4,096.
     pub number: u32,
     /// Its 4,096 bytes.
     pub bytes: &'a [u8],
