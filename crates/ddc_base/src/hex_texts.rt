@@ -15,7 +15,7 @@ pub enum HexFail {
     OutOfMemory,
 }
 
-/// The bytes of a hexadecimal text with two lower-case digits for each.
+/// The bytes of a hexadecimal text with two lower-case digits for each. Errors: `Bad` for any other text, `OutOfMemory`.
 #[tactic(auto, using(crate::proofs::HexTexts::hex_texts))]
 pub fn read_hex(alloc: Global, text: &[u8]) -> Result<Bytes, HexFail>
     ensures value { IfOk result (IsHexOf text.now) }

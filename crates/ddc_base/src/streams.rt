@@ -89,6 +89,7 @@ fn pass_over<R: Read>(reader: &mut R, count: u64) -> io::Result<()>
 }
 
 /// Returns `TooLong` if a reader has more than `limit` bytes left. Skips `limit` + 1 of them, and keeps none.
+/// It is an error if fewer are left.
 fn too_long<R: Read>(reader: &mut R, limit: u64) -> io::Result<Loaded>
     requires { limit < 2 ^ 64 - 1 }
     ensures all { IfOk result (GivesAll R.remaining reader.old limit) }

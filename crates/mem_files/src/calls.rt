@@ -290,7 +290,7 @@ impl FileTable {
         }
     }
 
-    /// Where a write goes: how many bytes are there now, and the offset of the first byte that is written.
+    /// Where a write goes: how many bytes are there now, and the offset of the first byte that is written; `None` if no write is allowed.
     pub fn write_place(&self, fd: u32) -> Option<(u64, u64)>
         ensures { result ≡ write_place self.now (map.get self.now.open_files fd) }
     {

@@ -65,7 +65,7 @@ impl Files {
         Ok(Files { table })
     }
 
-    /// Adds a named file. Removes `./` from the start of the name first.
+    /// Adds a named file. Removes `./` from the start of the name first. Errors: `BadName`, `Twice`, `Full`, `OutOfMemory`.
     pub fn place(&mut self, name: &[u8], content: &[u8]) -> Result<(), PlaceRefusal>
         ensures { Places result self.old self.new (placed self.old name.now content.now) }
     {
@@ -73,7 +73,7 @@ impl Files {
     }
 
     /// Opens a file by its name, as openat(2) does with these flags. Returns the new descriptor.
-    /// Errors: `EINVAL`, `EMFILE`, `EEXIST`, `ENOENT`, `ENOSPC`.
+    /// Errors, which change nothing: `EINVAL`, `EMFILE`, `EEXIST`, `ENOENT`, `ENOSPC`.
     pub fn open_name(&mut self, name: &[u8], flags: u32) -> Result<u32, FileRefusal>
         requires { IsTrue (is_stripped_name name.now) }
         ensures { Replies result self.old self.new (opened self.old name.now flags) }

@@ -19,7 +19,7 @@ use std::alloc::Global;
 
 /// The report with this text.
 ///
-/// Every other text is refused with the number of its first invalid line: the least number of lines that no report
+/// Errors: `Form` with the number of the first invalid line, `OutOfMemory`. That number is the least number of lines that no report
 /// begins with. A missing line, a line without its LF, and anything after the last line are invalid.
 /// Takes time linear in the number of bytes. Copies only what the report keeps.
 pub fn read(alloc: Global, bytes: &[u8]) -> Result<Report, ReportRefusal>
