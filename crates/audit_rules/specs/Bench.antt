@@ -1,4 +1,4 @@
--- The bench: the stages in order, and the comparisons; and the report of it. docs/reference/audit.md says the same for people.
+-- The audit's definition: the stages in order, the comparisons and the report. docs/reference/audit.md says the same for people.
 use Rattle.std.specs.Prelude.{ℕ, suc, Bool, true, false, Option, None, Some, Result, Ok, Err, List, [], ◌∷◌, ◌++◌, length, map}
 use Rattle.std.specs.List.{list_all}
 use Rattle.ddc_base.specs.Difference.{first_difference}
@@ -78,17 +78,17 @@ bench_report recipe inputs done = record {
   compare = compare_lines recipe (contents inputs done);
 }
 
--- the stage of this number is done and what follows goes on, or the audit is over
+-- with a fault at the stage of this number the audit is over; else the next part continues with the finished stage
 abbrev pub after_stage : ℕ → Result Finished StageFault → (Finished → AuditAnswer) → AuditAnswer
 after_stage number (Err fault) next = Fails number fault
 after_stage number (Ok f) next = next f
 
--- what the stages that are left come to, after those that are done
+-- the audit's answer from the stages that are left, after those that are done
 abbrev pub bench_from : RecipeContents → List (List ℕ) → List Finished → List Stage → AuditAnswer
 bench_from recipe inputs done [] = Completes (bench_report recipe inputs done)
 bench_from recipe inputs done (stage ∷ stages) =
     after_stage (suc (length done)) (stage_result recipe inputs done stage) (λ f. bench_from recipe inputs (done ++ f ∷ []) stages)
 
--- what an audit comes to
+-- the answer of an audit: a report, or the stage that is not done and why
 abbrev pub bench : RecipeContents → List (List ℕ) → AuditAnswer
 bench recipe inputs = bench_from recipe inputs [] recipe.stages
