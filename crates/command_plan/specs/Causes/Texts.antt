@@ -1,5 +1,4 @@
--- The printed causes for which the run of a program fails, and numbers in hexadecimal digits. docs/reference/command-line.md says the same
--- for people.
+-- Why the run of a program fails, as printed, and numbers in hexadecimal digits. docs/reference/command-line.md says the same for people.
 use Rattle.std.specs.Prelude.{ℕ, List, [], ◌∷◌, ◌++◌, codes, decimal}
 use Rattle.byteorder.specs.Endian.{big_bytes}
 use Rattle.hex.specs.Hex.{encode_lower}
@@ -15,7 +14,7 @@ hex_word number = encode_lower (big_bytes 4 number)
 abbrev pub hex_address : ℕ → List ℕ
 hex_address address = encode_lower (big_bytes 8 address)
 
--- words, a blank between neighbours
+-- these words, with a blank between neighbours
 abbrev pub spaced : List (List ℕ) → List ℕ
 spaced [] = []
 spaced (word ∷ []) = word
@@ -33,11 +32,11 @@ trap_words Break = codes "trap" ∷ codes "break" ∷ []
 unfoldable pub trap_text : Cause → List ℕ
 trap_text cause = spaced (trap_words cause)
 
--- a call of a number that is none of the table
+-- a call with an unknown number
 unfoldable pub call_text : ℕ → List ℕ
 call_text number = spaced (codes "call" ∷ decimal number ∷ [])
 
--- a file that is no program, and a program that does not start with what it is given
+-- a file that is not a program, and a program that does not start with these arguments, environment or files
 unfoldable pub elf_text : ElfRefusal → List ℕ
 elf_text refusal = spaced (codes "start" ∷ codes "elf" ∷ decimal (rank refusal) ∷ [])
 
@@ -51,6 +50,6 @@ box_text = codes "start box"
 unfoldable pub status_text : ℕ → List ℕ
 status_text status = spaced (codes "status" ∷ decimal status ∷ [])
 
--- all steps were taken
+-- the step limit is exhausted
 abbrev pub spent_text : List ℕ
 spent_text = codes "spent"
