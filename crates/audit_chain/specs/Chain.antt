@@ -13,7 +13,7 @@ use Rattle.wheeler.specs.declared.assumption.Assumption.TheVariants.{Implements,
 use Rattle.audit_chain.specs.declared.link.Link.{Link}
 use Rattle.audit_chain.specs.declared.link.ChainLine.{ChainLine}
 
--- ---- what an audit's inputs say, before any stage was run
+-- ---- an audit's inputs, before any stage is run
 
 abbrev pub given_contents : Link → Contents
 given_contents link = record { inputs = link.inputs; artefacts = [] }

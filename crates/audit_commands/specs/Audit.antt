@@ -32,7 +32,7 @@ audit_files recipe report =
     needs_inputs said (λ inputs.
     audited said report (bench said inputs))))
 
--- the words after `audit`
+-- the plan of the words after `audit`
 abbrev pub audit_plan : List (List ℕ) → Plan
 audit_plan (recipe ∷ report ∷ []) = if are_two_files recipe report then audit_files recipe report else usage
 audit_plan _ = usage

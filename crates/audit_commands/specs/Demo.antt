@@ -70,7 +70,7 @@ demo_files size =
     reads_recipe demo_recipe (λ said.
     demonstrated size said (bench said (demo_inputs said program source (generated_bytes size))))))
 
--- the word after `demo`
+-- the plan of the words after `demo`
 abbrev pub demo_plan : List (List ℕ) → Plan
 demo_plan (size ∷ []) = or_usage (as_demo_size size) demo_files
 demo_plan _ = usage

@@ -10,7 +10,7 @@ use Rattle.recipe_plan.specs.Reports.{needs_report}
 unfoldable pub show_file : List ℕ → Plan
 show_file report = needs_report report (λ made. answers Yes (report_text made))
 
--- the words after `show`
+-- the plan of the words after `show`
 abbrev pub show_plan : List (List ℕ) → Plan
 show_plan (report ∷ []) = if is_file_word report then show_file report else usage
 show_plan _ = usage

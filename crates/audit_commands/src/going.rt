@@ -20,9 +20,9 @@ use std::alloc::Global;
 /// What is saved of an audit that is not over.
 #[derive(Clone, Copy)]
 pub(crate) enum Kept<'a> {
-    /// Its whole save.
+    /// The whole save of its position.
     Whole,
-    /// Its delta against this save of the same recipe and inputs.
+    /// The delta of its position against this save of the same recipe and inputs.
     Relative(&'a [u8]),
 }
 

@@ -19,12 +19,12 @@ use Rattle.audit_rules.specs.Contents.{Contents, check_language, content}
 use Rattle.report.specs.Marks.{mark_of}
 use Rattle.audit_rules.specs.Stages.{contents, stage_result}
 
--- the lines of the inputs, with what was given for each
+-- the report's lines of the inputs, each with the mark of its bytes
 abbrev pub input_lines : List Input → List (List ℕ) → List InputLine
 input_lines (input ∷ rest) (bytes ∷ inputs) = record { name = input.name; mark = mark_of bytes } ∷ input_lines rest inputs
 input_lines _ _ = []
 
--- the lines of stages that are done
+-- the report's lines of stages that are done
 abbrev pub stage_line : RecipeContents → Stage → Finished → StageLine
 stage_line recipe stage f = record {
   name = stage.name;
@@ -49,7 +49,7 @@ compared_at (Some offset) made binary = Differs offset (length made) (length bin
 abbrev pub compared : List ℕ → List ℕ → Compared
 compared made binary = compared_at (first_difference made binary) made binary
 
--- what the recipe asks to compare: the artefact of a stage with the binary, for each compared stage in order
+-- the comparisons of the recipe: the artefact of each compared stage with the binary, in order
 abbrev pub compare_line : RecipeContents → Contents → List ℕ → CompareLine
 compare_line recipe all stage = record {
   stage = stage;

@@ -35,7 +35,7 @@ bytes_named contents (Some found) = bytes_of_content contents found
 unfoldable pub content : RecipeContents → Contents → List ℕ → List ℕ
 content recipe contents name = bytes_named contents (content_named recipe.inputs recipe.stages name)
 
--- files with one more, at its path
+-- these files with one more file of a stage, at its path
 abbrev pub with_stage_file : RecipeContents → Contents → FileMap → StageFile → FileMap
 with_stage_file recipe contents held file = files.insert held file.path (content recipe contents file.from)
 
@@ -65,7 +65,7 @@ text_of recipe contents source = record {
   files = map (content recipe contents) source.files;
 }
 
--- the language of a source, where ddc defines it
+-- the language of a source, if ddc defines it
 abbrev pub defined : SourceLanguage → Option Language
 defined (Defined language) = Some language
 defined Other = None

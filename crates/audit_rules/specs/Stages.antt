@@ -27,7 +27,7 @@ use Rattle.audit_rules.specs.Contents.{Contents, box_of, check_of, program_of}
 abbrev pub contents : List (List ℕ) → List Finished → Contents
 contents inputs done = record { inputs = inputs; artefacts = map (λ (f : Finished). f.made) done }
 
--- the bytes of all artefacts so far
+-- the number of bytes of all artefacts so far
 abbrev pub artefact_bytes : List Finished → ℕ
 artefact_bytes done = sum_by (λ (f : Finished). length f.made) done
 

@@ -25,7 +25,7 @@ pub record IsInputs (recipe : RecipeContents) (inputs : List (List ℕ)) : Type 
   pub count : length inputs ≡ length recipe.inputs
   pub each : All IsContent inputs
 
--- the mark of a stream or a file
+-- the mark of a stream or a file: a length below 2^32 bytes and a digest
 pub record IsSmallMark (mark : Mark) : Type 0 where
   pub length : mark.length < 2 ^ 32
   pub digest : IsDigest mark.digest
@@ -73,7 +73,7 @@ pub record IsAt (recipe : RecipeContents) (p : Position) (stage : Stage) (stages
   pub valid : IsValid p.at
   pub done : AreDone recipe p.done
 
--- a position: fewer stages are finished than the recipe has
+-- a valid position: it is in a stage of the recipe
 abbrev pub IsPosition : RecipeContents → Position → Type 0
 IsPosition recipe p = (stage : Stage) × (stages : List Stage) × IsAt recipe p stage stages
 

@@ -1,4 +1,4 @@
-//! A whole audit at once.
+//! Running a whole audit.
 
 ghost use Rattle.recipe.specs.Kept.{IsRecipe};
 ghost use Rattle.std.specs.Prelude.{◌≡◌, IfOk};

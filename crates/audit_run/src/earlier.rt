@@ -23,7 +23,7 @@ use std::alloc::Global;
 pub struct Unfinished {
     /// The stage's number, from 1.
     pub stage: u32,
-    /// Why it is not done.
+    /// Why the stage is not done.
     pub fault: StageFault,
 }
 

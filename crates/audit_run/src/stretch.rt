@@ -78,7 +78,8 @@ fn run_present(
     run_slice(alloc, so_far, stage, guest, most)
 }
 
-/// Steps up to the end of the present stage's run: at least one, at most `most`. Returns how many were taken. Error: out of memory.
+/// Runs the present stage up to its end, by at most `most` steps. Returns how many of these are used up: at least one, and all if the audit
+/// is over. Error: out of memory.
 fn stretch(
     alloc: Global,
     conduct: &Conduct<'_>,

@@ -133,7 +133,7 @@ impl StepCount {
         Some(StepCount { count })
     }
 
-    /// The number.
+    /// The number of steps.
     pub fn count(self) -> u64
         ensures value { result ≡ self }
         ensures some { 1 ≤ self }

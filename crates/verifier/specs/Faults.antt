@@ -95,7 +95,7 @@ unfoldable pub has_left : StageLine → World → Bool
 has_left line world =
     is_mark_of line.stream1 world.stream1 && is_mark_of line.stream2 world.stream2 && names_left line.left (left world)
 
--- the bytes of the artefacts so far
+-- the number of bytes of the artefacts so far
 abbrev pub size_of : Contents → ℕ
 size_of so_far = sum_by length so_far.artefacts
 

@@ -35,7 +35,8 @@ pub(crate) struct ReportedStage<'a> {
     pub(crate) line: &'a StageLine,
 }
 
-/// The artefact of a stage whose line is true. `total` is the bytes of the artefacts so far. Errors: the first wrong part, out of memory.
+/// The artefact of a stage whose line is true. Errors: the first wrong part, out of memory. `total` is the number of bytes of the
+/// artefacts so far.
 #[tactic(auto, unfolding(crate::specs::Faults::replayed))]
 pub(crate) fn replay(
     alloc: Global,

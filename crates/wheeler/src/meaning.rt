@@ -24,6 +24,6 @@ pub trait Meaning {
     ghost carry: { (source other : SourceText) (box : Setting) (output : OutputPlace) (program : List ℕ)
         → prescribes source box output program → compiles source box output other → Implements prescribes program other };
 
-    /// The value of a source of hex0, hex1 or hex2 implements it.
+    /// The value of a source in hex0, hex1 or hex2 implements the source.
     ghost literal: { (source : SourceText) (program : List ℕ) → binary_of source ≡ Some program → Implements prescribes program source };
 }

@@ -15,6 +15,6 @@ pub trait Semantics {
     ghost fixed: { (source : SourceText) (box : Setting) (output : OutputPlace) (one other : List ℕ)
         → prescribes source box output one → prescribes source box output other → one ≡ other };
 
-    /// The value of a source of hex0, hex1 or hex2 implements it.
+    /// The value of a source in hex0, hex1 or hex2 implements the source.
     ghost literal: { (source : SourceText) (program : List ℕ) → binary_of source ≡ Some program → Implements prescribes program source };
 }

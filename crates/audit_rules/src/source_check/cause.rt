@@ -100,7 +100,7 @@ pub enum CheckCause {
     Hex(HexCause),
     /// The source, of M1, has no items.
     M1(M1Cause),
-    /// The artefact, which is to be a hex2 text with the items of an M1 source, has no items.
+    /// The artefact has no items; it must be a hex2 text with the items of an M1 source.
     NotItems(HexCause),
     /// The first difference, from 0: a byte offset, for M1 an item number. The end of one of the two counts as a difference.
     Differs(u64),

@@ -48,14 +48,14 @@ impl Done {
         &self.finished
     }
 
-    /// Its artefact.
+    /// The stage's artefact.
     pub fn made(&self) -> &[u8]
         ensures { result.now ≡ self.now.made }
     {
         self.finished.made.as_slice()
     }
 
-    /// The mark of its artefact.
+    /// The mark of the stage's artefact.
     pub fn mark(&self) -> Mark
         ensures { result ≡ mark_of self.now.made }
     {

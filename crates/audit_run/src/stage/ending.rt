@@ -70,7 +70,7 @@ pub fn made_by<'a>(stage: &Stage, files: &'a Files) -> Option<&'a [u8]>
     }
 }
 
-/// The bytes of all artefacts so far.
+/// The number of bytes of all artefacts so far.
 fn artefact_bytes(done: &[Done]) -> u64
     requires { artefact_bytes done.now ≤ 1_073_741_824 }
     ensures { result ≡ artefact_bytes done.now }

@@ -20,7 +20,7 @@ spaced [] = []
 spaced (word ∷ []) = word
 spaced (word ∷ next ∷ words) = word ++ 32 ∷ spaced (next ∷ words)
 
--- a trap
+-- the printed words of a trap
 abbrev pub trap_words : Cause → List (List ℕ)
 trap_words (Illegal word) = codes "trap" ∷ codes "illegal" ∷ hex_word word ∷ []
 trap_words (FetchUnmapped address) = codes "trap" ∷ codes "fetch-unmapped" ∷ hex_address address ∷ []
@@ -46,7 +46,7 @@ args_text = codes "start args"
 abbrev pub box_text : List ℕ
 box_text = codes "start box"
 
--- an exit with another status than 0
+-- an exit with a status other than 0
 unfoldable pub status_text : ℕ → List ℕ
 status_text status = spaced (codes "status" ∷ decimal status ∷ [])
 
