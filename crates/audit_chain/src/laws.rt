@@ -8,9 +8,9 @@ use verifier::laws::one_report;
 use wheeler::Meaning;
 use wheeler::laws::an_equal_bench_concludes;
 
-/// If every assumption left of several audits holds, each audit concludes, whatever sources mean: its assumptions hold, every stage
-/// follows, and its audited binary implements the source of each compared stage that has one. Each audit has a true report whose
-/// comparisons are all equal.
+/// If several audits have true reports whose comparisons are all equal, and every assumption left of them holds, each audit concludes,
+/// whatever sources mean. Then its assumptions hold, every stage follows, and its audited binary implements the source of each compared
+/// stage that has one.
 pub fn composed<M: Meaning>()
     ensures { (links : List Link) → All IsTrueAudit links → RemainingHold M.prescribes M.compiles links → EachConcludes M.prescribes M.compiles links }
 {

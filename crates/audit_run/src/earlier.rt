@@ -27,7 +27,7 @@ pub struct Unfinished {
     pub fault: StageFault,
 }
 
-/// Runs the first `count` stages, in order. Returns what they leave, or the first one that is not done. Error: out of memory.
+/// Runs the first `count` stages in order, and returns what they leave or the first one that is not done. Error: out of memory.
 pub fn run_earlier(
     alloc: Global,
     recipe: &Recipe,

@@ -29,7 +29,7 @@ pub fn fetch_recipe<S: Shelf>(
     fetch_recipe_after(alloc, shelf, file, &[])
 }
 
-/// Loads and reads a recipe. Errors: not a recipe, answered after `front`, and those of `command_plan::fetch`.
+/// Loads and reads a recipe; the answer to any other file stands after `front`. Errors: that answer, and those of `command_plan::fetch`.
 pub fn fetch_recipe_after<S: Shelf>(
     alloc: Global,
     shelf: &mut S,
@@ -49,7 +49,7 @@ fn read(alloc: Global, bytes: Bytes, front: &[u8]) -> Result<Recipe, Stop>
     read_recipe(alloc, bytes.as_slice(), front)
 }
 
-/// Reads a text as a recipe. Errors: not a recipe, answered after `front`; out of memory.
+/// Reads a text as a recipe; the answer to any other text stands after `front`. Errors: that answer, and out of memory.
 pub fn read_recipe(alloc: Global, text: &[u8], front: &[u8]) -> Result<Recipe, Stop>
     ensures { (shelf : ShelfState) → Obtains (reads_recipe_after front.now text.now) shelf shelf result }
 {

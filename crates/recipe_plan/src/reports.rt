@@ -32,7 +32,7 @@ pub fn fetch_report<S: Shelf>(
     fetch_report_after(alloc, shelf, file, &[])
 }
 
-/// Loads and reads a report. Errors: not a report, answered after `front`, and those of `command_plan::fetch`.
+/// Loads and reads a report; the answer to any other file stands after `front`. Errors: that answer, and those of `command_plan::fetch`.
 pub fn fetch_report_after<S: Shelf>(
     alloc: Global,
     shelf: &mut S,

@@ -14,21 +14,21 @@ ghost use Rattle.audit_rules.specs.Bench.{all_equal, bench};
 ghost use Rattle.audit_rules.specs.Valid.{IsInputs};
 ghost use Rattle.audit_rules.specs.declared.answer.AuditAnswer.TheVariants.{Completes};
 
-/// A report has no fault exactly if `bench` completes with this report. The recipe is well formed and the inputs are within their limits.
+/// For a well-formed recipe and inputs within their limits, a report has no fault exactly if `bench` completes with this report.
 pub fn one_report()
     ensures { (recipe : RecipeContents) (inputs : List (List ℕ)) (report : Report) → IsRecipe recipe → IsInputs recipe inputs
         → (first_fault recipe inputs report ≡ None) ↔ (bench recipe inputs ≡ Completes report) }
 {}
 
-/// A stage's run is judged right exactly if its program, in its execution context, exits with 0 at the recorded step and leaves these
-/// files. The step is from 1 to the limit, both included.
+/// A stage's run is judged right exactly if the recorded step is from 1 to the limit and the program, in its execution context, exits with
+/// 0 at that step and leaves these files.
 pub fn a_judged_run_is_a_run()
     ensures { (program : List ℕ) (setting : Setting) (limit step : ℕ) (world : World)
         → (left_at (start_of program setting) limit step ≡ Some world) ↔ ((1 ≤ step) × (step ≤ limit) × ProgramRun program setting step 0 world) }
 {}
 
-/// A report has no fault exactly if every line of it is true, clause by clause (`TrueReport`). The recipe is well formed; there are as many
-/// inputs as it names, with any contents.
+/// For a well-formed recipe and as many inputs as it names, a report has no fault exactly if every line of it is true, clause by clause
+/// (`TrueReport`). The inputs may have any contents.
 pub fn no_fault_is_every_word_true()
     ensures { (recipe : RecipeContents) (inputs : List (List ℕ)) (report : Report) → IsRecipe recipe → length inputs ≡ length recipe.inputs
         → TrueReport recipe inputs report ↔ (first_fault recipe inputs report ≡ None) }

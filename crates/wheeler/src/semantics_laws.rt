@@ -86,8 +86,8 @@ pub fn the_bench_concludes_in_m1()
     the_bench_concludes::<MacroAssembly>();
 }
 
-/// What an assumption `compiles` says with the largest relation. If the stage's program implements its own source, it says exactly that the
-/// artefact implements the other source. If the source prescribes nothing, it says nothing.
+/// With the largest relation, an assumption `compiles` about a stage whose program implements its source says exactly that the artefact
+/// implements the other source. If the source prescribes nothing, it says nothing.
 pub fn a_line_says_what_was_made<S: Semantics>()
     ensures made { (source other : SourceText) (box : Setting) (output : OutputPlace) (program made : List ℕ) (step : ℕ) (world : World)
         → IsBox box → Implements S.prescribes program source → ProgramRun program box step 0 world → out world output ≡ Some made
@@ -97,8 +97,8 @@ pub fn a_line_says_what_was_made<S: Semantics>()
         → ((content : List ℕ) → S.prescribes source box output content → ⊥) → AllImplement S.prescribes source box output other }
 {}
 
-/// The assumptions with the largest relation say: each program of an unchecked stage implements its source. Those of a stage's route say it
-/// of each program on the route.
+/// With the largest relation, an audit's assumptions say exactly that each program of an unchecked stage implements its source. Those of a
+/// stage's route say it of each program on the route.
 pub fn lines_are_of_programs<S: Semantics>()
     ensures all { (recipe : RecipeContents) (inputs : List (List ℕ)) (report : Report) → IsRecipe recipe → IsInputs recipe inputs
         → bench recipe inputs ≡ Completes report

@@ -24,9 +24,9 @@ pub fn marks_are_of_the_contents()
         → mark_named recipe report name ≡ Some (mark_of (content recipe (all_contents recipe inputs) name)) }
 {}
 
-/// The lengths and digests of its dependencies settle an artefact, or two different contents with one length and digest are at hand. Two
-/// true reports of one recipe must agree on the texts, the programs that are inputs, and the layouts that a check in M1 leaves free. Then
-/// the stage has the same bytes in both; if it is checked in M1 itself, the same items.
+/// In two true reports of one recipe, equal lengths and digests of a stage's dependencies mean the same artefact, or two different contents
+/// with one length and digest are at hand. The dependencies are the texts, the programs that are inputs, and the layouts that a check in M1
+/// leaves free. The artefact has the same bytes; if the stage is checked in M1, the same items.
 pub fn the_marks_settle_it()
     ensures { (recipe : RecipeContents) (inputs others : List (List ℕ)) (report other : Report) (name : List ℕ) (stage : Stage)
         → IsRecipe recipe → IsInputs recipe inputs → IsInputs recipe others
@@ -36,6 +36,7 @@ pub fn the_marks_settle_it()
 {}
 
 /// Without assumptions and free layouts that matter, the lengths and digests of the texts alone settle the artefact, whatever programs ran.
+/// Otherwise two different contents with one length and digest are at hand.
 pub fn the_marked_texts_settle_it()
     ensures { (recipe : RecipeContents) (inputs others : List (List ℕ)) (report other : Report) (name : List ℕ) (stage : Stage)
         → IsRecipe recipe → IsInputs recipe inputs → IsInputs recipe others

@@ -32,7 +32,7 @@ pub struct Origin {
     pub same_run: ListOf<Name>,
 }
 
-/// These dependencies of the artefact of the stage of a name. Error: out of memory.
+/// The dependencies of the artefact of the stage of a name that `provenance` prints besides its basis. Error: out of memory.
 pub fn origin_of(
     alloc: Global,
     recipe: &Recipe,

@@ -10,12 +10,12 @@ use report::Report;
 use std::alloc::Global;
 use wheeler::Meaning;
 
-/// Replays a report, with the verdict of `crate::verify`.
+/// Replays a report, with the verdict of `verifier::verify`, and proves what a true report shows under every meaning of sources.
 ///
-/// It also proves what a true report shows, for every meaning of sources. If every assumption of `wheeler::assumptions` holds, every stage
-/// follows. For each compared stage, let every assumption of `wheeler::assumptions_for` hold; those of other routes are not used. If
-/// artefact and binary are equal, the parent source prescribes exactly the audited binary. If they differ, no program that makes the
-/// audited binary implements the parent source. docs/reference/argument.md explains the terms.
+/// If every assumption of `wheeler::assumptions` holds, every stage follows. For each compared stage, let every assumption of
+/// `wheeler::assumptions_for` hold; those of other routes are not used. If artefact and binary are equal, the parent source prescribes
+/// exactly the audited binary. If they differ, no program that makes the audited binary implements the parent source.
+/// docs/reference/argument.md explains the terms.
 pub fn verify<M: Meaning>(
     alloc: Global,
     recipe: &Recipe,
