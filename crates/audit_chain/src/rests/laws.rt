@@ -71,8 +71,8 @@ pub fn the_lines_are_those_of_the_audit()
         → runs_meet (walk recipe name) program ≡ true }
 {}
 
-/// Two recipes with the same sources, checks and texts among the dependencies make the same bytes, or hex2 texts with the same items, if every
-/// dependency is checked and no free layout matters. That holds whatever programs ran.
+/// Two recipes with the same sources, checks and texts among the dependencies make the same bytes, or hex2 texts with the same items, if
+/// every dependency is checked and no free layout matters. That holds whatever programs ran.
 pub fn recipes_that_check_alike_make_the_same()
     ensures { (recipe other : RecipeContents) (inputs others : List (List ℕ)) (report whole : Report) (name : List ℕ) (stage twin : Stage)
         → IsRecipe recipe → IsRecipe other → IsInputs recipe inputs → IsInputs other others
