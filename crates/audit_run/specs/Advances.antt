@@ -46,7 +46,7 @@ pub record StopsAt (recipe : RecipeContents) (inputs : List (List ℕ)) (from : 
   pub reached : forward_from recipe inputs from count ≡ On to
   pub wants : Wants recipe to
 
--- or at the first stage's start, which leaves the audit as it was
+-- an advance ran out of memory at a position, or at the first stage's start, which leaves the audit as it was
 abbrev pub StopsAudit : AuditState → ℕ → Option Standing → Type 0
 StopsAudit old most None = old.stands ≡ None
 StopsAudit old most (Some (On p)) = StopsAt old.recipe old.inputs (standing old) most p

@@ -126,7 +126,7 @@ abbrev pub is_at : ℕ → Option ℕ → Bool
 is_at offset None = false
 is_at offset (Some found) = offset == found
 
--- equal bytes of this length; or different ones of these lengths, which first differ, or of which one has ended, at this offset
+-- equal bytes of this length; or bytes of these lengths that first differ at this offset, or of which one ends there
 abbrev pub says : Compared → List ℕ → List ℕ → Bool
 says (Equal count) made binary = bytes_eq made binary && count == length made
 says (Differs offset ours theirs) made binary =
