@@ -84,7 +84,7 @@ beginning recipe inputs = enter recipe inputs [] recipe.stages
 abbrev pub position : RecipeContents → List (List ℕ) → ℕ → Standing
 position recipe inputs count = forward_from recipe inputs (beginning recipe inputs) count
 
--- the answer that a position leads to: the present run goes on to its end or its stage's limit, then the other stages run
+-- the answer that a position leads to: the present run continues to its end or its stage's limit, then the other stages run
 abbrev pub continue_among : RecipeContents → List (List ℕ) → Position → List Stage → AuditAnswer
 continue_among recipe inputs p [] = Completes (bench_report recipe inputs p.done)
 continue_among recipe inputs p (stage ∷ stages) =
