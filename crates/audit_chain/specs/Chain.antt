@@ -1,5 +1,5 @@
--- Audits in a row, of which an earlier one may show what a later one assumes: the lines that remain. docs/reference/chain.md says the same for
--- people.
+-- Several audits in order, of which an earlier one may discharge assumptions of a later one; and the assumptions that are left.
+-- docs/reference/chain.md says the same for people.
 use Rattle.std.specs.Prelude.{ℕ, ◌+◌, ◌==◌, Bool, true, false, ◌&&◌, not, bytes_eq, if◌then◌else◌, Option, None, Some, is_some, option_and_then, List, [], ◌∷◌, ◌++◌, length, map, filter}
 use Rattle.std.specs.List.{list_all, list_any}
 use Rattle.recipe.specs.declared.contents.RecipeContents.{RecipeContents}
@@ -13,7 +13,7 @@ use Rattle.wheeler.specs.declared.assumption.Assumption.TheVariants.{Implements,
 use Rattle.audit_chain.specs.declared.link.Link.{Link}
 use Rattle.audit_chain.specs.declared.link.ChainLine.{ChainLine}
 
--- ---- what an audit's inputs say, before any stage was run
+-- ---- an audit's inputs, before any stage is run
 
 abbrev pub given_contents : Link → Contents
 given_contents link = record { inputs = link.inputs; artefacts = [] }
@@ -25,16 +25,16 @@ input_bytes link name = content link.recipe (given_contents link) name
 abbrev pub names_input : RecipeContents → List ℕ → Bool
 names_input recipe name = is_some (input_at recipe.inputs name)
 
--- the text of a source all of whose files are inputs
+-- the text of a source; None if one of its files is not an input
 unfoldable pub given_text : Link → Source → Option SourceText
 given_text link source =
     if list_all (names_input link.recipe) source.files then Some (text_of link.recipe (given_contents link) source) else None
 
--- the text of the source of a name, where all its files are inputs
+-- the text of the source of a name; None if one of its files is not an input
 abbrev pub given_text_named : Link → List ℕ → Option SourceText
 given_text_named link name = option_and_then (given_text link) (source_named link.recipe.sources name)
 
--- ---- what an audit gives to later ones: for each compared stage with a source, its audited binary with the text of that source
+-- ---- what an audit provides to later ones: for each compared stage with a source, its audited binary with the text of that source
 
 -- two texts are equal: in language, in base and file by file
 abbrev pub same_files : List (List ℕ) → List (List ℕ) → Bool
@@ -49,33 +49,33 @@ abbrev pub is_same_text : SourceText → Option SourceText → Bool
 is_same_text text None = false
 is_same_text text (Some given) = same_text given text
 
--- the text of a compared stage's source, where it has one
+-- the text of a compared stage's source, if it has one
 unfoldable pub text_of_stage : Link → List ℕ → Option SourceText
 text_of_stage link stage = option_and_then (given_text_named link) (source_of link.recipe stage)
 
--- whether an audit gives these bytes with this text
+-- whether an audit provides these bytes with this text
 unfoldable pub gives : List ℕ → SourceText → Link → Bool
 gives bytes text link =
     bytes_eq (input_bytes link link.recipe.compare.binary) bytes && list_any (λ stage. is_same_text text (text_of_stage link stage)) link.recipe.compare.stages
 
--- ---- struck lines
+-- ---- discharged assumptions
 
--- one of these audits gives the bytes with the text, if there is a text
+-- one of these audits provides the bytes with the text, if there is a text
 abbrev pub is_given : List Link → List ℕ → Option SourceText → Bool
 is_given earlier bytes None = false
 is_given earlier bytes (Some text) = list_any (gives bytes text) earlier
 
--- an earlier audit shows a line: it says of an input that it implements a source, and the input's bytes are given with that source's text
+-- an earlier audit discharges an assumption: it says that an input implements a source, and the input's bytes are provided with that text
 unfoldable pub is_struck : List Link → Link → Assumption → Bool
 is_struck earlier link (Implements made source) = names_input link.recipe made && is_given earlier (input_bytes link made) (given_text_named link source)
 is_struck earlier link (Compiles source stage becomes) = false
 
--- ---- the lines that remain, each with its audit's number from 1
+-- ---- the assumptions that are left, each with its audit's number from 1
 
 abbrev pub chain_line : ℕ → Assumption → ChainLine
 chain_line number line = record { audit = number; line = line }
 
--- those that are listed of an audit and that none of the earlier ones shows
+-- the assumptions listed for an audit that no earlier one discharges
 unfoldable pub unstruck : List Link → Link → List ChainLine
 unstruck earlier link = map (chain_line (length earlier + 1)) (filter (λ line. not (is_struck earlier link line)) (lines_listed link.recipe))
 

@@ -1,4 +1,4 @@
--- What audits in a row show together. docs/reference/chain.md says the same for people.
+-- What several audits show together. docs/reference/chain.md says the same for people.
 use Rattle.std.specs.Prelude.{◌≡◌, ◌-◌, true, None, IfSome, List, All, slice_get}
 use Rattle.recipe.specs.Kept.{IsRecipe}
 use Rattle.report.specs.declared.types.Report.{Report}
@@ -21,16 +21,16 @@ pub record IsTrueAudit (link : Link) : Type 0 where
   pub true_report : first_fault link.recipe link.inputs report ≡ None
   pub equal : all_equal report.compare ≡ true
 
--- a line holds, of what its names stand for in its own audit
+-- an assumption holds, by what its names stand for in its own audit
 abbrev pub HoldsIn : Prescribes → Compiles → List Link → ChainLine → Type 0
 HoldsIn prescribes compiles links line =
     IfSome (slice_get links (line.audit - 1)) (λ (link : Link). Holds prescribes compiles link.recipe (all_contents link.recipe link.inputs) line.line)
 
--- each line that remains holds
+-- each assumption that is left holds
 abbrev pub RemainingHold : Prescribes → Compiles → List Link → Type 0
 RemainingHold prescribes compiles links = All (HoldsIn prescribes compiles links) (remaining links)
 
--- of every audit: each line that is assumed of it holds, every stage follows, and its audited binary implements the source of each compared
--- stage that has one
+-- for every audit: each of its assumptions holds, every stage follows, and its audited binary implements the source of each compared stage
+-- that has one
 abbrev pub EachConcludes : Prescribes → Compiles → List Link → Type 0
 EachConcludes prescribes compiles links = All (λ (link : Link). ConcludesListed prescribes compiles link.recipe link.inputs) links

@@ -1,4 +1,4 @@
-//! What an audit gives to later ones, and which of their lines it shows.
+//! What an audit provides to later ones, and which of their assumptions it discharges.
 
 ghost use Rattle.audit_chain.specs.Chain.{input_bytes, given_contents, gives, names_input, is_struck, is_same_text, same_files, same_text, text_of_stage, given_text_named};
 ghost use Rattle.recipe.specs.Lookups.{input_at};
@@ -13,7 +13,7 @@ use ddc_base::{Bytes, Name};
 use recipe::{Content, Input, Recipe, Source, SourceLanguage};
 use wheeler::Assumption;
 
-/// Whether one of the earlier audits shows a line of an audit.
+/// Whether one of the earlier audits discharges an assumption of an audit.
 #[tactic(auto, unfolding(crate::specs::Chain::is_struck))]
 pub(crate) fn is_struck(earlier: &[Link], link: &Link, line: &Assumption) -> bool
     ensures { result ≡ is_struck earlier.now link.now line.now }
@@ -32,7 +32,7 @@ pub(crate) fn is_struck(earlier: &[Link], link: &Link, line: &Assumption) -> boo
     }
 }
 
-/// Whether one of these audits gives bytes with the text of a source of another audit.
+/// Whether one of these audits provides bytes with the text of a source of another audit.
 fn is_given(earlier: &[Link], bytes: &[u8], link: &Link, source: &Source) -> bool
     ensures { result ≡ list_any (gives bytes.now (text_of link.now.recipe (given_contents link.now) source.now)) earlier.now }
 {
@@ -41,7 +41,7 @@ fn is_given(earlier: &[Link], bytes: &[u8], link: &Link, source: &Source) -> boo
         .any(|other| gives(other, bytes, link, source))
 }
 
-/// Whether an audit gives bytes with the text of a source of another audit: they are its audited binary, and the text is that of a
+/// Whether an audit provides bytes with the text of a source of another audit: they are its audited binary, and the text is that of a
 /// compared stage's source.
 #[tactic(auto, unfolding(crate::specs::Chain::gives))]
 fn gives(other: &Link, bytes: &[u8], link: &Link, source: &Source) -> bool
@@ -50,7 +50,7 @@ fn gives(other: &Link, bytes: &[u8], link: &Link, source: &Source) -> bool
     input_bytes(other, &other.recipe.compare().binary) == bytes && gives_text(other, link, source)
 }
 
-/// Whether the text is that of the source of one of its compared stages.
+/// Whether the text is that of the source of a compared stage of `other`.
 fn gives_text(other: &Link, link: &Link, source: &Source) -> bool
     ensures { result ≡ list_any (λ stage. is_same_text (text_of link.now.recipe (given_contents link.now) source.now) (text_of_stage other.now stage))
         other.now.recipe.compare.stages }
@@ -74,7 +74,7 @@ fn is_of_stage(other: &Link, stage: &Name, link: &Link, source: &Source) -> bool
     }
 }
 
-/// The source of a stage, where it has one and all its files are inputs.
+/// The source of a stage; `None` if it has none or one of the source's files is not an input.
 #[tactic(auto, unfolding(crate::specs::Chain::text_of_stage))]
 fn source_of_stage<'a>(link: &'a Link, stage: &Name) -> Option<&'a Source>
     ensures { option_map (λ source. text_of link.now.recipe (given_contents link.now) source.now) result ≡ text_of_stage link.now stage.now }
@@ -85,7 +85,7 @@ fn source_of_stage<'a>(link: &'a Link, stage: &Name) -> Option<&'a Source>
     }
 }
 
-/// The source of a name, where all its files are inputs.
+/// The source of this name; `None` if one of its files is not an input.
 #[tactic(auto, unfolding(crate::specs::Chain::given_text))]
 fn source_named<'a>(link: &'a Link, name: &Name) -> Option<&'a Source>
     ensures { option_map (λ source. text_of link.now.recipe (given_contents link.now) source.now) result ≡ given_text_named link.now name.now }
@@ -109,21 +109,21 @@ fn are_inputs(recipe: &Recipe, names: &[Name]) -> bool
     names.iter().all(|name| names_input(recipe, name))
 }
 
-/// Whether a name is an input's.
+/// Whether a name is an input.
 fn names_input(recipe: &Recipe, name: &Name) -> bool
     ensures { result ≡ names_input recipe.now name.now }
 {
     place_of(recipe.inputs().as_slice(), name).is_some()
 }
 
-/// The index of the input of a name.
+/// The index of the input of a name; `None` if it is not an input.
 fn place_of(inputs: &[Input], name: &Name) -> Option<usize>
     ensures { result ≡ input_at inputs.now name.now }
 {
     inputs.iter().position(|input| input.name == *name)
 }
 
-/// The bytes of the input of a name; none where it is no input's.
+/// The bytes of the input of a name; empty if it is not an input.
 #[tactic(auto, unfolding(audit_rules::specs::Contents::content))]
 fn input_bytes<'a>(link: &'a Link, name: &Name) -> &'a [u8]
     ensures { result.now ≡ input_bytes link.now name.now }
@@ -145,7 +145,7 @@ fn at(all: &[Bytes], index: usize) -> &[u8]
     }
 }
 
-/// Whether sources of two audits have one text.
+/// Whether sources of two audits have the same text.
 #[tactic(auto, unfolding(crate::specs::Chain::same_text, audit_rules::specs::Contents::text_of))]
 fn same_text(first: &Link, one: &Source, second: &Link, other: &Source) -> bool
     ensures { result ≡ same_text (text_of first.now.recipe (given_contents first.now) one.now)
@@ -156,7 +156,7 @@ fn same_text(first: &Link, one: &Source, second: &Link, other: &Source) -> bool
         && same_files(first, one.files.as_slice(), second, other.files.as_slice())
 }
 
-/// The language of a source, where ddc defines it.
+/// The language of a source, if ddc defines it.
 fn defined(language: SourceLanguage) -> Option<Language>
     ensures { result ≡ defined language }
 {
@@ -166,14 +166,14 @@ fn defined(language: SourceLanguage) -> Option<Language>
     }
 }
 
-/// Whether both are the same language, or none that ddc defines.
+/// Whether both are the same language, or both `None`.
 fn same_language(one: Option<Language>, other: Option<Language>) -> bool
     ensures { result ≡ same_language one other }
 {
     one == other
 }
 
-/// Whether files have the same bytes, one by one.
+/// Whether two lists of files have the same bytes, one by one.
 fn same_files(first: &Link, ones: &[Name], second: &Link, others: &[Name]) -> bool
     ensures { result ≡ same_files (map (input_bytes first.now) ones.now) (map (input_bytes second.now) others.now) }
 {

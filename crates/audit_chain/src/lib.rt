@@ -1,4 +1,5 @@
-//! What remains to be believed: of several audits, where an earlier one shows what a later one assumes, and of one stage's artefact (`rests`).
+//! The assumptions that are left: of several audits, where an earlier one discharges assumptions of a later one, and of one artefact
+//! (`rests`).
 //!
 //! The rules for people: docs/reference/chain.md, docs/reference/rests.md.
 #![tactic(auto)]

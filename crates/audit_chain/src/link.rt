@@ -9,10 +9,10 @@ pub struct Link {
     pub inputs: Inputs,
 }
 
-/// Audits in a row.
+/// A list of audits.
 pub type ChainLinks = ListOf<Link>;
 
-/// A line that remains.
+/// An assumption that is left.
 #[derive(Drop)]
 pub struct ChainLine {
     /// The number of its audit, from 1.
@@ -20,5 +20,5 @@ pub struct ChainLine {
     pub line: Assumption,
 }
 
-/// Such lines in a row.
+/// A list of assumptions that are left.
 pub type ChainLines = ListOf<ChainLine>;

@@ -1,4 +1,4 @@
-//! The lines that remain.
+//! The assumptions that are left.
 
 ghost use Rattle.audit_chain.specs.Chain.{is_struck, chain_line, remaining, unstruck};
 ghost use Rattle.std.specs.Prelude.{◌≡◌, ◌+◌, ◌++◌, ◌∷◌, ◌<◌, ◌^◌, [], filter, length, map, not, IfOk, OnOk};
@@ -9,9 +9,10 @@ use ddc_base::{ListOf, OutOfMemory};
 use std::alloc::Global;
 use wheeler::{Assumption, assumptions_with_compared};
 
-/// What remains to be believed of audits in a row: the lines of each, with its number from 1, that none of the earlier audits shows.
+/// The assumptions left of several audits: those of each, with its number from 1, that no earlier audit discharges. Error: out of memory.
 ///
-/// The lines of an audit are those of `wheeler::assumptions`, with each compared stage counted as the program of an unchecked stage.
+/// An audit's assumptions are those of `wheeler::assumptions_with_compared`: each compared stage counts as the program of an unchecked
+/// stage.
 pub fn remaining(alloc: Global, links: &ChainLinks) -> Result<ChainLines, OutOfMemory>
     requires { length links.now < 2 ^ 32 }
     ensures { IfOk result (λ lines. lines ≡ remaining links.now) }
@@ -19,7 +20,7 @@ pub fn remaining(alloc: Global, links: &ChainLinks) -> Result<ChainLines, OutOfM
     remaining_of(alloc, links.as_slice())
 }
 
-/// The same of audits that are borrowed.
+/// The assumptions left of these audits, which are borrowed.
 fn remaining_of(alloc: Global, links: &[Link]) -> Result<ChainLines, OutOfMemory>
     requires { length links.now < 2 ^ 32 }
     ensures { IfOk result (λ lines. lines ≡ remaining links.now) }
@@ -31,7 +32,7 @@ fn remaining_of(alloc: Global, links: &[Link]) -> Result<ChainLines, OutOfMemory
     Ok(lines)
 }
 
-/// Adds the lines of an audit that none of the earlier ones shows.
+/// Adds the assumptions of an audit that no earlier one discharges.
 #[tactic(auto, unfolding(crate::specs::Chain::unstruck))]
 fn push_unstruck(
     alloc: Global,
@@ -46,7 +47,7 @@ fn push_unstruck(
     push_each(lines, earlier, link, listed.as_slice())
 }
 
-/// Adds those of these lines that none of the earlier audits shows.
+/// Adds those of these assumptions that no earlier audit discharges.
 fn push_each(
     lines: &mut ChainLines,
     earlier: &[Link],
@@ -63,7 +64,7 @@ fn push_each(
     Ok(())
 }
 
-/// Adds a line, unless one of the earlier audits shows it.
+/// Adds an assumption, unless an earlier audit discharges it.
 fn push_line(
     lines: &mut ChainLines,
     earlier: &[Link],
@@ -83,7 +84,7 @@ fn push_line(
     })
 }
 
-/// The same line again.
+/// A copy of an assumption.
 pub(crate) fn copy_line(line: &Assumption) -> Assumption
     ensures { result ≡ line.now }
 {

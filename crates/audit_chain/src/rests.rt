@@ -1,4 +1,4 @@
-//! What a stage's artefact rests on: the texts that people read, and what has to be believed of programs.
+//! The dependencies of a stage's artefact: the texts that people read, and the assumptions about programs.
 //!
 //! The rules for people: docs/reference/rests.md.
 

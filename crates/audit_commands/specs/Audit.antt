@@ -1,5 +1,5 @@
--- `audit RECIPE REPORT`: the stages of a recipe are run, and their report is saved. docs/reference/command-line.md and
--- docs/reference/audit.md say the same for people.
+-- `audit RECIPE REPORT`: runs the stages of a recipe and saves the report. docs/reference/command-line.md and docs/reference/audit.md say
+-- the same for people.
 use Rattle.std.specs.Prelude.{ℕ, List, [], ◌∷◌, if◌then◌else◌}
 use Rattle.recipe.specs.declared.contents.RecipeContents.{RecipeContents}
 use Rattle.report.specs.Reports.{report_text}
@@ -14,17 +14,17 @@ use Rattle.recipe_plan.specs.Reports.{compared_status}
 use Rattle.recipe_plan.specs.Texts.{compared_lines}
 use Rattle.recipe_plan.specs.NotDone.{unfinished}
 
--- a report is saved, and its comparisons are said
+-- the report is saved, and its comparisons are printed
 unfoldable pub completed : List ℕ → Report → Plan
 completed out report =
     sets out (report_text report) (answers (compared_status report.compare) (compared_lines report.compare))
 
--- what an audit comes to
+-- the plan after an audit: its report is saved, or the stage that is not done is printed
 abbrev pub audited : RecipeContents → List ℕ → AuditAnswer → Plan
 audited recipe out (Completes report) = completed out report
 audited recipe out (Fails number fault) = unfinished recipe number fault
 
--- the recipe, a report that is none of its inputs, the inputs, and then the audit
+-- the plan of `audit`: the recipe, a report that is not an input, the inputs, and then the audit
 unfoldable pub audit_files : List ℕ → List ℕ → Plan
 audit_files recipe report =
     needs_recipe recipe (λ said.
@@ -32,7 +32,7 @@ audit_files recipe report =
     needs_inputs said (λ inputs.
     audited said report (bench said inputs))))
 
--- the words after `audit`
+-- the plan of the words after `audit`
 abbrev pub audit_plan : List (List ℕ) → Plan
 audit_plan (recipe ∷ report ∷ []) = if are_two_files recipe report then audit_files recipe report else usage
 audit_plan _ = usage

@@ -1,5 +1,5 @@
--- `delta-start RECIPE BASE PATCH REPORT STEPS` and `delta-resume RECIPE BASE PATCH REPORT STEPS`: an audit goes on by at most so many steps, from
--- where a whole save says that it stands, or from where that save and a delta say it, and what differs from the whole save is kept.
+-- `delta-start RECIPE BASE PATCH REPORT STEPS` and `delta-resume RECIPE BASE PATCH REPORT STEPS`: an audit continues by at most so many
+-- steps. It starts from the position of a whole save, or of that save and a delta; the delta against the whole save is kept.
 -- docs/reference/command-line.md and docs/reference/delta.md say the same for people.
 use Rattle.std.specs.Prelude.{ℕ, Result, List, [], ◌∷◌, if◌then◌else◌}
 use Rattle.recipe.specs.declared.contents.RecipeContents.{RecipeContents}
@@ -17,14 +17,14 @@ use Rattle.audit_commands.specs.PauseTexts.{delta_refused_line}
 
 -- ---- `delta-start`
 
--- the position that BASE says, and then the audit from there: what differs from that position is kept
+-- the position of BASE, and then the audit from there; the delta against that position is kept
 abbrev pub starts_relative : RecipeContents → List (List ℕ) → List ℕ → List ℕ → List ℕ → ℕ → Plan
 starts_relative recipe inputs text patch report steps =
     needs_position recipe inputs text (λ base.
     came_to recipe (delta_text_of recipe inputs base) patch report (forward recipe inputs base steps))
 
--- the recipe, a report, a base and a patch that are none of its inputs, the base, of at most 4,294,967,296 bytes, the inputs, and then the audit
--- from the position that the base says
+-- the plan of `delta-start`: the recipe; a report, a base and a patch that are not inputs; the base, of at most 4,294,967,296 bytes; the
+-- inputs; and then the audit from the base's position
 unfoldable pub delta_start_files : List ℕ → List ℕ → List ℕ → List ℕ → ℕ → Plan
 delta_start_files recipe base patch report steps =
     needs_recipe recipe (λ said.
@@ -37,7 +37,7 @@ delta_start_files recipe base patch report steps =
 
 -- ---- `delta-resume`
 
--- what a text is as a delta against a base: the one result that the rules of deltas allow, which is never want of memory
+-- the result of reading a text as a delta against a base: the one that the rules of deltas allow other than out of memory
 unfoldable pub read_relative : RecipeContents → List (List ℕ) → Position → List ℕ → Result Position DeltaRefusal
 read_relative recipe inputs base text = judged_from recipe (save_of recipe inputs base) text
 
@@ -46,14 +46,14 @@ abbrev pub needs_position_relative : RecipeContents → List (List ℕ) → Posi
 needs_position_relative recipe inputs base text next =
     unless_refused (read_relative recipe inputs base text) (λ refusal. answers SaveRefused (delta_refused_line refusal)) next
 
--- the position that BASE and PATCH say, and then the audit from there: what differs from the position of BASE is kept
+-- the position of BASE and PATCH, and then the audit from there; the delta against BASE's position is kept
 abbrev pub resumes_relative : RecipeContents → List (List ℕ) → List ℕ → List ℕ → List ℕ → List ℕ → ℕ → Plan
 resumes_relative recipe inputs text delta patch report steps =
     needs_position recipe inputs text (λ base.
     needs_position_relative recipe inputs base delta (λ p.
     came_to recipe (delta_text_of recipe inputs base) patch report (forward recipe inputs p steps)))
 
--- the same, with the patch loaded after the base, of as many bytes at most
+-- the plan of `delta-resume`: like `delta-start`, with the patch, of at most 4,294,967,296 bytes, loaded after the base
 unfoldable pub delta_resume_files : List ℕ → List ℕ → List ℕ → List ℕ → ℕ → Plan
 delta_resume_files recipe base patch report steps =
     needs_recipe recipe (λ said.
@@ -67,7 +67,7 @@ delta_resume_files recipe base patch report steps =
 
 -- ---- the words
 
--- four files and a number of steps, in the words after either command
+-- the words after either command: four distinct files and a number of steps
 abbrev pub delta_words : (List ℕ → List ℕ → List ℕ → List ℕ → ℕ → Plan) → List ℕ → List ℕ → List ℕ → List ℕ → List ℕ → Plan
 delta_words files recipe base patch report steps =
     or_usage (as_steps steps) (λ count. if are_four_files recipe base patch report then files recipe base patch report count else usage)

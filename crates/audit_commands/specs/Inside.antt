@@ -1,4 +1,4 @@
--- What serves the split of the code. No promise of a command rests on these files being read.
+-- What serves the split of the code. No promise of a command depends on these files being read.
 pub mod Keeping
 pub mod Refusing
 pub mod Resuming

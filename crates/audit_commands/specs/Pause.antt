@@ -1,5 +1,5 @@
--- `part RECIPE SAVE REPORT STEPS` and `resume RECIPE SAVE REPORT STEPS`: an audit goes on by at most so many steps, from its beginning or from
--- where a save says that it stands. docs/reference/command-line.md and docs/reference/save.md say the same for people.
+-- `part RECIPE SAVE REPORT STEPS` and `resume RECIPE SAVE REPORT STEPS`: an audit runs at most so many steps, from its beginning or from
+-- the position of a save. docs/reference/command-line.md and docs/reference/save.md say the same for people.
 use Rattle.std.specs.Prelude.{ℕ, ◌+◌, Result, List, [], ◌∷◌, length, if◌then◌else◌}
 use Rattle.recipe.specs.declared.contents.RecipeContents.{RecipeContents}
 use Rattle.audit_rules.specs.Positions.{Position, Standing, On, Over, forward, position}
@@ -15,25 +15,25 @@ use Rattle.audit_commands.specs.Audit.{audited}
 use Rattle.recipe_plan.specs.NotDone.{stage_name}
 use Rattle.audit_commands.specs.PauseTexts.{paused_line, save_refused_line}
 
--- ---- where an audit came to
+-- ---- where an audit stands afterwards
 
--- what these commands keep of a position: its whole save
+-- what these commands save of a position: its whole save
 abbrev pub whole_save : RecipeContents → List (List ℕ) → Position → List ℕ
 whole_save recipe inputs p = text_of_save (save_of recipe inputs p)
 
--- it stands at a position: what is kept of it is set, and the present stage is said, with the steps that were taken in it
+-- at a position, its text is saved, and the present stage is printed with the steps taken in it
 unfoldable pub paused : RecipeContents → (Position → List ℕ) → List ℕ → Position → Plan
 paused recipe kept name p =
     sets name (kept p) (answers Paused (paused_line (stage_name recipe.stages (length p.done + 1)) p.at.steps))
 
--- it is over, which is told as `audit` tells it, or it stands at a position
+-- the plan afterwards: that of `audit` if the audit is over, else a pause at a position
 abbrev pub came_to : RecipeContents → (Position → List ℕ) → List ℕ → List ℕ → Standing → Plan
 came_to recipe kept name report (Over answer) = audited recipe report answer
 came_to recipe kept name report (On p) = paused recipe kept name p
 
 -- ---- `part`
 
--- the recipe, a report and a save that are none of its inputs, the inputs, and then the audit from its beginning
+-- the plan of `part`: the recipe, a report and a save that are not inputs, the inputs, and then the audit from its beginning
 unfoldable pub part_files : List ℕ → List ℕ → List ℕ → ℕ → Plan
 part_files recipe save report steps =
     needs_recipe recipe (λ said.
@@ -44,7 +44,7 @@ part_files recipe save report steps =
 
 -- ---- `resume`
 
--- what a text is as a save of a recipe and its inputs: the one result that the rules of saves allow, which is never want of memory
+-- the result of reading a text as a save of a recipe and its inputs: the one that the rules of saves allow other than out of memory
 unfoldable pub read_as : RecipeContents → List (List ℕ) → List ℕ → Result Position SaveRefusal
 read_as recipe inputs text = judged recipe inputs text
 
@@ -53,8 +53,8 @@ abbrev pub needs_position : RecipeContents → List (List ℕ) → List ℕ → 
 needs_position recipe inputs text next =
     unless_refused (read_as recipe inputs text) (λ refusal. answers SaveRefused (save_refused_line refusal)) next
 
--- the recipe, a report and a save that are none of its inputs, the save, of at most 4,294,967,296 bytes, the inputs, the position that the
--- save says, and then the audit from there
+-- the plan of `resume`: the recipe; a report and a save that are not inputs; the save, of at most 4,294,967,296 bytes; the inputs. The
+-- audit then continues from the save's position
 unfoldable pub resume_files : List ℕ → List ℕ → List ℕ → ℕ → Plan
 resume_files recipe save report steps =
     needs_recipe recipe (λ said.
@@ -67,7 +67,7 @@ resume_files recipe save report steps =
 
 -- ---- the words
 
--- the words after either command
+-- the plan of the words after either command
 abbrev pub part_plan : List (List ℕ) → Plan
 part_plan (recipe ∷ save ∷ report ∷ steps ∷ []) =
     or_usage (as_steps steps) (λ count. if are_three_files recipe save report then part_files recipe save report count else usage)

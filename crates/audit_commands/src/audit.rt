@@ -1,4 +1,4 @@
-//! `audit RECIPE REPORT`: the stages of a recipe are run, and their report is saved.
+//! `audit RECIPE REPORT`: runs the stages of a recipe and saves the report.
 
 ghost use Rattle.std.specs.Prelude.{◌≡◌, map, IfOk};
 ghost use Rattle.report.specs.Reports.{IsReport};
@@ -20,7 +20,7 @@ use recipe_plan::{apart, compared_status, fetch_inputs, fetch_recipe, unfinished
 use report::{CompareLine, Report};
 use std::alloc::Global;
 
-/// Performs the command on the words after its name.
+/// `audit RECIPE REPORT`: runs the stages of a recipe and saves the report. Statuses 0, 2, 3, 4, 6, 7, 10 to 13.
 pub fn perform<S: Shelf>(alloc: Global, shelf: &mut S, words: &[&str]) -> Result<Answer, Stop>
     ensures { Performs (audit_plan (map (λ w. w.now) words.now)) (S.state shelf.old) (S.state shelf.new) result }
 {
@@ -30,7 +30,7 @@ pub fn perform<S: Shelf>(alloc: Global, shelf: &mut S, words: &[&str]) -> Result
     audit(alloc, shelf, &words)
 }
 
-/// The command on two files.
+/// The command on two distinct files.
 fn audit<S: Shelf>(alloc: Global, shelf: &mut S, words: &ReportWords<'_>) -> Result<Answer, Stop>
     ensures { Performs (audit_files words.now.recipe words.now.report) (S.state shelf.old) (S.state shelf.new) result }
 {
@@ -38,7 +38,7 @@ fn audit<S: Shelf>(alloc: Global, shelf: &mut S, words: &ReportWords<'_>) -> Res
     on_recipe(alloc, shelf, &recipe, &words.report)
 }
 
-/// The command on a recipe, which its caller lets go.
+/// The command on a recipe that was read.
 fn on_recipe<S: Shelf>(
     alloc: Global,
     shelf: &mut S,
@@ -53,7 +53,7 @@ fn on_recipe<S: Shelf>(
     run(alloc, shelf, recipe, inputs.as_slice(), report)
 }
 
-/// The audit: its report is saved, or it is said which stage is not done.
+/// Runs the audit, and saves its report or answers which stage is not done.
 fn run<S: Shelf>(
     alloc: Global,
     shelf: &mut S,
@@ -68,7 +68,7 @@ fn run<S: Shelf>(
     tell(alloc, shelf, recipe, &answer, report)
 }
 
-/// Saves the report that an audit comes to, or says which stage is not done.
+/// Saves the report of a finished audit, or answers which stage is not done. Errors: a fault of the file store (`Shelf`), out of memory.
 pub fn tell<S: Shelf>(
     alloc: Global,
     shelf: &mut S,
@@ -85,7 +85,7 @@ pub fn tell<S: Shelf>(
     }
 }
 
-/// Saves a report, and says how its comparisons ended.
+/// Saves a report, and answers with its comparisons.
 #[tactic(auto, using(command_plan::proofs::Performing::saving), unfolding(crate::specs::Audit::completed))]
 fn keep_report<S: Shelf>(
     alloc: Global,
@@ -101,7 +101,7 @@ fn keep_report<S: Shelf>(
     keep(alloc, shelf, report, text.as_slice(), answer)
 }
 
-/// The answer to comparisons.
+/// The answer with these comparisons. Error: out of memory.
 pub fn compared(alloc: Global, lines: &[CompareLine]) -> Result<Answer, OutOfMemory>
     ensures status { IfOk result (λ answer. answer.status ≡ compared_status lines.now) }
     ensures text { IfOk result (λ answer. answer.text ≡ compared_lines lines.now) }

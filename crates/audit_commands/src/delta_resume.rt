@@ -1,5 +1,4 @@
-//! `delta-resume RECIPE BASE PATCH REPORT STEPS`: another piece of an audit, from where a save and what differs from it say that the audit stands;
-//! what differs from the save then is kept.
+//! `delta-resume RECIPE BASE PATCH REPORT STEPS`: continues an audit from a save and a delta against it, and keeps the new delta.
 
 ghost use Rattle.std.specs.Prelude.{IfOk, map};
 ghost use Rattle.recipe.specs.Kept.{IsRecipe};
@@ -31,7 +30,8 @@ struct AuditDelta {
     text: Bytes,
 }
 
-/// Performs the command on the words after its name.
+/// `delta-resume RECIPE BASE PATCH REPORT STEPS`: continues an audit from a save and a delta against it, and keeps the new delta. Statuses
+/// 0, 2, 3, 4, 6 to 13.
 pub fn perform<S: Shelf>(alloc: Global, shelf: &mut S, words: &[&str]) -> Result<Answer, Stop>
     ensures { Performs (delta_resume_plan (map (λ w. w.now) words.now)) (S.state shelf.old) (S.state shelf.new) result }
 {
@@ -41,7 +41,7 @@ pub fn perform<S: Shelf>(alloc: Global, shelf: &mut S, words: &[&str]) -> Result
     delta_resume(alloc, shelf, &words)
 }
 
-/// The command on four files and a number of steps.
+/// The command on four distinct files and a number of steps.
 fn delta_resume<S: Shelf>(
     alloc: Global,
     shelf: &mut S,
@@ -54,7 +54,7 @@ fn delta_resume<S: Shelf>(
     load(alloc, shelf, recipe, words)
 }
 
-/// The command on a recipe.
+/// The command on a recipe that was read.
 fn load<S: Shelf>(
     alloc: Global,
     shelf: &mut S,
@@ -71,7 +71,7 @@ fn load<S: Shelf>(
     go_from(alloc, shelf, delta, save.as_slice(), &words.piece)
 }
 
-/// Goes on from where a save and a delta say that the audit stands.
+/// Continues from the position that a save and a delta say.
 fn go_from<S: Shelf>(
     alloc: Global,
     shelf: &mut S,
@@ -88,7 +88,7 @@ fn go_from<S: Shelf>(
     }
 }
 
-/// Reads a delta relative to its base, and lets its text go.
+/// Reads a delta relative to its base, and drops the delta's text.
 fn read(alloc: Global, delta: AuditDelta, save: &[u8]) -> Result<Audit, DeltaRefusal>
     ensures exact { ResumesAuditRelative delta.supplied.recipe delta.supplied.inputs save.now delta.text result }
     ensures found { IfOk result (λ audit. IsResumedRelative delta.supplied.recipe delta.supplied.inputs save.now delta.text audit) }
@@ -99,7 +99,7 @@ fn read(alloc: Global, delta: AuditDelta, save: &[u8]) -> Result<Audit, DeltaRef
     Audit::resume_delta(alloc, supplied.recipe, supplied.inputs, save, delta)
 }
 
-/// The answer to files that are no save and no delta against it, or want of memory.
+/// The answer to a refused save or delta. Error: out of memory, if the refusal is that.
 fn refuse(alloc: Global, refusal: DeltaRefusal) -> Result<Answer, Stop>
     ensures { RefusesDelta refusal result }
 {
@@ -109,7 +109,7 @@ fn refuse(alloc: Global, refusal: DeltaRefusal) -> Result<Answer, Stop>
     }
 }
 
-/// The answer to files that are no save and no delta against it.
+/// The answer to a refused save or delta, other than out of memory.
 fn refused(alloc: Global, refusal: DeltaRefusal) -> Result<Answer, Stop>
     ensures { Says (answers SaveRefused (delta_refused_line refusal)) result }
 {

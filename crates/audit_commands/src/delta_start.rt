@@ -1,5 +1,4 @@
-//! `delta-start RECIPE BASE PATCH REPORT STEPS`: another piece of an audit, from where a save says that it stands; what differs from the save
-//! is kept.
+//! `delta-start RECIPE BASE PATCH REPORT STEPS`: continues an audit from a save, and keeps the delta against it.
 
 ghost use Rattle.std.specs.Prelude.{map};
 ghost use Rattle.command_plan.specs.Performs.{Performs};
@@ -15,7 +14,8 @@ use ddc_base::Shelf;
 use recipe_plan::Supplied;
 use std::alloc::Global;
 
-/// Performs the command on the words after its name.
+/// `delta-start RECIPE BASE PATCH REPORT STEPS`: continues an audit from a save, and keeps the delta against it. Statuses 0, 2, 3, 4, 6 to
+/// 13.
 pub fn perform<S: Shelf>(alloc: Global, shelf: &mut S, words: &[&str]) -> Result<Answer, Stop>
     ensures { Performs (delta_start_plan (map (λ w. w.now) words.now)) (S.state shelf.old) (S.state shelf.new) result }
 {
@@ -25,7 +25,7 @@ pub fn perform<S: Shelf>(alloc: Global, shelf: &mut S, words: &[&str]) -> Result
     delta_start(alloc, shelf, &words)
 }
 
-/// The command on four files and a number of steps.
+/// The command on four distinct files and a number of steps.
 fn delta_start<S: Shelf>(
     alloc: Global,
     shelf: &mut S,
@@ -40,7 +40,7 @@ fn delta_start<S: Shelf>(
     go_from(alloc, shelf, supplied, save.as_slice(), &words.piece)
 }
 
-/// Goes on from where a save says that the audit stands.
+/// Continues from the position that a save says.
 fn go_from<S: Shelf>(
     alloc: Global,
     shelf: &mut S,

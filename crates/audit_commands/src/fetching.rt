@@ -1,4 +1,5 @@
-//! What the commands of an audit in pieces begin with: the recipe, files that are to be none of its inputs, a save and the inputs.
+//! What the commands of an audit in segments share: loading the recipe, a save and the inputs, and the rule that other files are not
+//! inputs.
 
 ghost use Rattle.std.specs.Prelude.{ℕ, IfOk, List};
 ghost use Rattle.ddc_base.specs.Outside.{ShelfState};
@@ -14,10 +15,10 @@ use recipe::{Inputs, Recipe};
 use recipe_plan::{apart, fetch_inputs, fetch_recipe};
 use std::alloc::Global;
 
-/// The most bytes of a save or a delta that is loaded. Each of a position has fewer.
+/// The limit for loading a save or a delta, in bytes. That of a position is always shorter.
 pub(crate) const SAVE_LIMIT: u64 = 4_294_967_296;
 
-/// The recipe, with a report and a save that are none of its inputs.
+/// The recipe; the report and the save must not be its inputs.
 pub(crate) fn fetch_apart<S: Shelf>(
     alloc: Global,
     shelf: &mut S,
@@ -32,7 +33,7 @@ pub(crate) fn fetch_apart<S: Shelf>(
     Ok(recipe)
 }
 
-/// Neither of two files is an input.
+/// Ends the command if one of two files is an input.
 fn both_apart(
     alloc: Global,
     recipe: &Recipe,
@@ -45,7 +46,7 @@ fn both_apart(
     apart(alloc, recipe, save)
 }
 
-/// The recipe, with a report, a base and a patch that are none of its inputs.
+/// The recipe; the report, the base and the patch must not be its inputs.
 pub(crate) fn fetch_relative<S: Shelf>(
     alloc: Global,
     shelf: &mut S,
@@ -61,7 +62,7 @@ pub(crate) fn fetch_relative<S: Shelf>(
     Ok(recipe)
 }
 
-/// A save or a delta, and then the inputs of a recipe.
+/// Loads a save or a delta, and then the inputs of a recipe.
 pub(crate) fn fetch_save<S: Shelf>(
     alloc: Global,
     shelf: &mut S,

@@ -1,4 +1,4 @@
-//! An audit goes on, and where it came to is told.
+//! Continuing an audit, and answering where it then stands.
 
 ghost use Rattle.std.specs.Prelude.{◌≡◌, ℕ, IfOk, List, Some};
 ghost use Rattle.audit_rules.specs.Positions.{Position, Standing, On, forward_from};
@@ -17,16 +17,16 @@ use ddc_base::{Bytes, OutOfMemory, Shelf};
 use recipe_plan::stage_name;
 use std::alloc::Global;
 
-/// What is kept of an audit that is not over.
+/// What is saved of an audit that is not over.
 #[derive(Clone, Copy)]
 pub(crate) enum Kept<'a> {
-    /// Its whole save.
+    /// The whole save of its position.
     Whole,
-    /// What differs from this save of the same recipe and inputs.
+    /// The delta of its position against this save of the same recipe and inputs.
     Relative(&'a [u8]),
 }
 
-/// Goes on by a piece, and then keeps where the audit stands, or its report.
+/// Advances an audit by a segment, and then saves its position or its report.
 pub(crate) fn go_on<S: Shelf>(
     alloc: Global,
     shelf: &mut S,
@@ -43,7 +43,7 @@ pub(crate) fn go_on<S: Shelf>(
     settle(alloc, shelf, &audit, kept, piece)
 }
 
-/// Keeps where an audit stands that is not over, or tells one that is over.
+/// Saves the position of an audit that is not over, or the report of one that is.
 fn settle<S: Shelf>(
     alloc: Global,
     shelf: &mut S,
@@ -62,7 +62,7 @@ fn settle<S: Shelf>(
     }
 }
 
-/// Keeps where an audit stands, and says the stage and its steps.
+/// Saves an audit's position, and answers with the stage and its steps.
 fn keep_position<S: Shelf>(
     alloc: Global,
     shelf: &mut S,
@@ -85,7 +85,7 @@ fn keep_position<S: Shelf>(
     keep(alloc, shelf, name, text.as_slice(), answer)
 }
 
-/// What is kept of where an audit stands.
+/// The save, or the delta, of an audit's position.
 fn kept_text(audit: &Audit, kept: Kept<'_>) -> Result<Bytes, OutOfMemory>
     requires on { IsOn audit.now.stands }
     requires keeps { (text : Position → List ℕ) × Keeps audit.now.recipe audit.now.inputs kept text }

@@ -1,4 +1,4 @@
-//! Laws of what the commands of audits say. Each law is the contract of a function that does nothing.
+//! A law of what the audit commands answer. It is the contract of a function that does nothing.
 
 ghost use Rattle.recipe.specs.declared.contents.RecipeContents.{RecipeContents};
 ghost use Rattle.std.specs.Prelude.{◌≡◌, ◌≤◌, ℕ, List, length};
@@ -6,7 +6,7 @@ ghost use Rattle.audit_rules.specs.Bench.{bench};
 ghost use Rattle.audit_rules.specs.declared.answer.AuditAnswer.TheVariants.{Fails};
 ghost use Rattle.audit_rules.specs.declared.answer.StageFault.{StageFault};
 
-/// A stage that is not done is one of the recipe's, so the line that says so has its name.
+/// The number of a stage that is not done is one of the recipe's, so the printed line has the stage's name.
 pub fn failed_stages_are_of_the_recipe()
     ensures first { (recipe : RecipeContents) (inputs : List (List ℕ)) (number : ℕ) (fault : StageFault) → bench recipe inputs ≡ Fails number fault
         → 1 ≤ number }

@@ -1,5 +1,5 @@
-//! The commands of an audit: `audit`, its pieces `part` and `resume`, those that keep what differs from a save, `delta_start` and
-//! `delta_resume`, `show`, which prints a report, and `demo`, which needs no recipe of one's own.
+//! The commands of an audit. `audit` runs it whole; `part` and `resume` run segments of it; `delta_start` and `delta_resume` save only what
+//! differs from a save. `show` prints a report, and `demo` has a built-in recipe.
 //!
 //! Their rules for people: docs/reference/command-line.md.
 #![tactic(auto)]

@@ -1,4 +1,4 @@
-//! `part RECIPE SAVE REPORT STEPS`: the first piece of an audit.
+//! `part RECIPE SAVE REPORT STEPS`: runs the first segment of an audit.
 
 ghost use Rattle.std.specs.Prelude.{map};
 ghost use Rattle.command_plan.specs.Performs.{Performs};
@@ -13,7 +13,7 @@ use ddc_base::Shelf;
 use recipe_plan::fetch_inputs;
 use std::alloc::Global;
 
-/// Performs the command on the words after its name.
+/// `part RECIPE SAVE REPORT STEPS`: runs the first segment of an audit. Statuses 0, 2, 3, 4, 6, 7, 8, 10 to 13.
 pub fn perform<S: Shelf>(alloc: Global, shelf: &mut S, words: &[&str]) -> Result<Answer, Stop>
     ensures { Performs (part_plan (map (λ w. w.now) words.now)) (S.state shelf.old) (S.state shelf.new) result }
 {
@@ -23,7 +23,7 @@ pub fn perform<S: Shelf>(alloc: Global, shelf: &mut S, words: &[&str]) -> Result
     part(alloc, shelf, &words)
 }
 
-/// The command on three files and a number of steps.
+/// The command on three distinct files and a number of steps.
 fn part<S: Shelf>(alloc: Global, shelf: &mut S, words: &PieceWords<'_>) -> Result<Answer, Stop>
     ensures { Performs (part_files words.now.recipe words.now.piece.save words.now.piece.report words.now.piece.steps)
         (S.state shelf.old) (S.state shelf.new) result }

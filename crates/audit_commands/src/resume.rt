@@ -1,4 +1,4 @@
-//! `resume RECIPE SAVE REPORT STEPS`: another piece of an audit, from where a save says that it stands.
+//! `resume RECIPE SAVE REPORT STEPS`: runs another segment of an audit, from the position that a save says.
 
 ghost use Rattle.std.specs.Prelude.{map};
 ghost use Rattle.ddc_base.specs.Outside.{ShelfState};
@@ -22,7 +22,7 @@ use ddc_base::{Bytes, Shelf};
 use recipe_plan::Supplied;
 use std::alloc::Global;
 
-/// Performs the command on the words after its name.
+/// `resume RECIPE SAVE REPORT STEPS`: runs another segment of an audit, from the position that a save says. Statuses 0, 2, 3, 4, 6 to 13.
 pub fn perform<S: Shelf>(alloc: Global, shelf: &mut S, words: &[&str]) -> Result<Answer, Stop>
     ensures { Performs (resume_plan (map (λ w. w.now) words.now)) (S.state shelf.old) (S.state shelf.new) result }
 {
@@ -32,7 +32,7 @@ pub fn perform<S: Shelf>(alloc: Global, shelf: &mut S, words: &[&str]) -> Result
     resume(alloc, shelf, &words)
 }
 
-/// The command on three files and a number of steps.
+/// The command on three distinct files and a number of steps.
 fn resume<S: Shelf>(alloc: Global, shelf: &mut S, words: &PieceWords<'_>) -> Result<Answer, Stop>
     ensures { Performs (resume_files words.now.recipe words.now.piece.save words.now.piece.report words.now.piece.steps)
         (S.state shelf.old) (S.state shelf.new) result }
@@ -43,7 +43,7 @@ fn resume<S: Shelf>(alloc: Global, shelf: &mut S, words: &PieceWords<'_>) -> Res
     go_on(alloc, shelf, audit, Kept::Whole, &words.piece)
 }
 
-/// The audit that stands where a save says, or what ends the command.
+/// The audit at the position that a save says, or what ends the command.
 fn audit_at(alloc: Global, supplied: Supplied, text: Bytes) -> Result<Audit, Stop>
     ensures { (shelf : ShelfState) → Obtains (λ next. needs_position supplied.recipe supplied.inputs text (λ p. next (standing_at supplied.recipe supplied.inputs p)))
         shelf shelf result }
@@ -54,14 +54,14 @@ fn audit_at(alloc: Global, supplied: Supplied, text: Bytes) -> Result<Audit, Sto
     }
 }
 
-/// Reads a save, and lets its text go.
+/// Reads a save and drops its text.
 fn read(alloc: Global, supplied: Supplied, text: Bytes) -> Result<Audit, SaveRefusal>
     ensures { ResumesAudit supplied.recipe supplied.inputs text result }
 {
     Audit::resume(alloc, supplied.recipe, supplied.inputs, text.as_slice())
 }
 
-/// The answer to a file that is no save of the recipe and its inputs, or want of memory.
+/// The answer to a refused save. Error: out of memory, if the refusal is that.
 pub(crate) fn refuse(alloc: Global, refusal: SaveRefusal) -> Result<Answer, Stop>
     ensures { Refuses refusal result }
 {
@@ -71,7 +71,7 @@ pub(crate) fn refuse(alloc: Global, refusal: SaveRefusal) -> Result<Answer, Stop
     }
 }
 
-/// The answer to a file that is no save of the recipe and its inputs.
+/// The answer to a refused save, other than out of memory.
 fn refused(alloc: Global, refusal: SaveRefusal) -> Result<Answer, Stop>
     ensures { Says (answers SaveRefused (save_refused_line refusal)) result }
 {

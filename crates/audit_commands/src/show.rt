@@ -1,4 +1,4 @@
-//! `show REPORT`: the report's text, if the file is one.
+//! `show REPORT`: prints the report, or its first invalid line.
 
 ghost use Rattle.std.specs.Prelude.{map};
 ghost use Rattle.report.specs.Reports.{IsReport, report_text};
@@ -14,7 +14,7 @@ use recipe_plan::fetch_report;
 use report::Report;
 use std::alloc::Global;
 
-/// Performs the command on the words after its name.
+/// `show REPORT`: prints the report, or its first invalid line. Statuses 0, 2, 5, 10 to 13.
 #[tactic(auto, using(command_plan::proofs::Performing::performing))]
 pub fn perform<S: Shelf>(alloc: Global, shelf: &mut S, words: &[&str]) -> Result<Answer, Stop>
     ensures { Performs (show_plan (map (λ w. w.now) words.now)) (S.state shelf.old) (S.state shelf.new) result }
@@ -36,7 +36,7 @@ fn show<S: Shelf>(alloc: Global, shelf: &mut S, report: &FileName<'_>) -> Result
     shown(alloc, &report)
 }
 
-/// The answer that shows a report.
+/// The answer with a report's text.
 fn shown(alloc: Global, report: &Report) -> Result<Answer, Stop>
     requires { IsReport report.now }
     ensures { Says (answers Yes (report_text report.now)) result }

@@ -1,11 +1,11 @@
-//! The words of the commands of an audit, each set of them as one value.
+//! The words of the audit commands, each set of them as one value.
 
 ghost use Rattle.std.specs.Prelude.{◌≡◌, map};
 ghost use Rattle.audit_commands.specs.Inside.Words.{relative_words, report_words, whole_words};
 
 use command_plan::{FileName, StepCount, four_files, three_files, two_files};
 
-/// A recipe, and the report of its audit.
+/// The names of a recipe and of the report of its audit.
 #[derive(Drop)]
 pub(crate) struct ReportWords<'w> {
     pub recipe: FileName<'w>,
@@ -13,7 +13,7 @@ pub(crate) struct ReportWords<'w> {
 }
 
 impl<'w> ReportWords<'w> {
-    /// The words `RECIPE REPORT`, and `None` for every other.
+    /// The words `RECIPE REPORT`; `None` for any others.
     pub(crate) fn read(words: &[&'w str]) -> Option<ReportWords<'w>>
         ensures { result ≡ report_words (map (λ w. w.now) words.now) }
     {
@@ -25,7 +25,7 @@ impl<'w> ReportWords<'w> {
     }
 }
 
-/// How an audit goes on: by at most so many steps, and then under one name what is kept of it is set, or its report under the other.
+/// A segment of an audit: at most so many steps, the name for its save or delta, and the name for its report.
 #[derive(Drop)]
 pub(crate) struct Piece<'w> {
     pub save: FileName<'w>,
@@ -33,7 +33,7 @@ pub(crate) struct Piece<'w> {
     pub steps: StepCount,
 }
 
-/// A recipe, and a piece of its audit.
+/// The name of a recipe, and a segment of its audit.
 #[derive(Drop)]
 pub(crate) struct PieceWords<'w> {
     pub recipe: FileName<'w>,
@@ -41,7 +41,7 @@ pub(crate) struct PieceWords<'w> {
 }
 
 impl<'w> PieceWords<'w> {
-    /// The words `RECIPE SAVE REPORT STEPS`, and `None` for every other.
+    /// The words `RECIPE SAVE REPORT STEPS`; `None` for any others.
     pub(crate) fn read(words: &[&'w str]) -> Option<PieceWords<'w>>
         ensures { result ≡ whole_words (map (λ w. w.now) words.now) }
     {
@@ -59,7 +59,7 @@ impl<'w> PieceWords<'w> {
     }
 }
 
-/// A recipe, the base, and a piece of the audit, of which what differs from the base is kept.
+/// The names of a recipe and of a base, and a segment of the audit that keeps a delta against the base.
 #[derive(Drop)]
 pub(crate) struct RelativeWords<'w> {
     pub recipe: FileName<'w>,
@@ -68,7 +68,7 @@ pub(crate) struct RelativeWords<'w> {
 }
 
 impl<'w> RelativeWords<'w> {
-    /// The words `RECIPE BASE PATCH REPORT STEPS`, and `None` for every other.
+    /// The words `RECIPE BASE PATCH REPORT STEPS`; `None` for any others.
     pub(crate) fn read(words: &[&'w str]) -> Option<RelativeWords<'w>>
         ensures { result ≡ relative_words (map (λ w. w.now) words.now) }
     {

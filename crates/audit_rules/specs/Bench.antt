@@ -1,4 +1,4 @@
--- The bench: the stages in order, and the comparisons; and the report of it. docs/reference/audit.md says the same for people.
+-- The audit's definition: the stages in order, the comparisons and the report. docs/reference/audit.md says the same for people.
 use Rattle.std.specs.Prelude.{ℕ, suc, Bool, true, false, Option, None, Some, Result, Ok, Err, List, [], ◌∷◌, ◌++◌, length, map}
 use Rattle.std.specs.List.{list_all}
 use Rattle.ddc_base.specs.Difference.{first_difference}
@@ -19,12 +19,12 @@ use Rattle.audit_rules.specs.Contents.{Contents, check_language, content}
 use Rattle.report.specs.Marks.{mark_of}
 use Rattle.audit_rules.specs.Stages.{contents, stage_result}
 
--- the lines of the inputs, with what was given for each
+-- the report's lines of the inputs, each with the mark of its bytes
 abbrev pub input_lines : List Input → List (List ℕ) → List InputLine
 input_lines (input ∷ rest) (bytes ∷ inputs) = record { name = input.name; mark = mark_of bytes } ∷ input_lines rest inputs
 input_lines _ _ = []
 
--- the lines of stages that are done
+-- the report's lines of stages that are done
 abbrev pub stage_line : RecipeContents → Stage → Finished → StageLine
 stage_line recipe stage f = record {
   name = stage.name;
@@ -49,7 +49,7 @@ compared_at (Some offset) made binary = Differs offset (length made) (length bin
 abbrev pub compared : List ℕ → List ℕ → Compared
 compared made binary = compared_at (first_difference made binary) made binary
 
--- what the recipe asks to compare: the artefact of a stage with the binary, for each compared stage in order
+-- the comparisons of the recipe: the artefact of each compared stage with the binary, in order
 abbrev pub compare_line : RecipeContents → Contents → List ℕ → CompareLine
 compare_line recipe all stage = record {
   stage = stage;
@@ -78,17 +78,17 @@ bench_report recipe inputs done = record {
   compare = compare_lines recipe (contents inputs done);
 }
 
--- the stage of this number is done and what follows goes on, or the audit is over
+-- with a fault at the stage of this number the audit is over; else the next part continues with the finished stage
 abbrev pub after_stage : ℕ → Result Finished StageFault → (Finished → AuditAnswer) → AuditAnswer
 after_stage number (Err fault) next = Fails number fault
 after_stage number (Ok f) next = next f
 
--- what the stages that are left come to, after those that are done
+-- the audit's answer from the stages that are left, after those that are done
 abbrev pub bench_from : RecipeContents → List (List ℕ) → List Finished → List Stage → AuditAnswer
 bench_from recipe inputs done [] = Completes (bench_report recipe inputs done)
 bench_from recipe inputs done (stage ∷ stages) =
     after_stage (suc (length done)) (stage_result recipe inputs done stage) (λ f. bench_from recipe inputs (done ++ f ∷ []) stages)
 
--- what an audit comes to
+-- the answer of an audit: a report, or the stage that is not done and why
 abbrev pub bench : RecipeContents → List (List ℕ) → AuditAnswer
 bench recipe inputs = bench_from recipe inputs [] recipe.stages

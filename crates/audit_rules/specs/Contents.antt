@@ -1,4 +1,4 @@
--- What a recipe's names stand for: contents by name, what a stage's program is given, and the text of a source.
+-- What a recipe's names stand for: contents by name, the execution context of a stage's program, and the text of a source.
 -- docs/reference/audit.md says the same for people.
 use Rattle.std.specs.Prelude.{ℕ, Option, Some, None, option_and_then, List, [], map, get_or}
 use Rattle.std.specs.List.{fold}
@@ -27,7 +27,7 @@ abbrev pub bytes_of_content : Contents → Content → List ℕ
 bytes_of_content contents (Input index) = get_or contents.inputs index []
 bytes_of_content contents (Artefact index) = get_or contents.artefacts index []
 
--- the bytes that a name stands for; [] for a name that stands for none so far, which a recipe's rules exclude
+-- the bytes that a name stands for; [] for a name that stands for nothing yet, which a recipe's rules exclude
 abbrev pub bytes_named : Contents → Option Content → List ℕ
 bytes_named contents None = []
 bytes_named contents (Some found) = bytes_of_content contents found
@@ -35,11 +35,11 @@ bytes_named contents (Some found) = bytes_of_content contents found
 unfoldable pub content : RecipeContents → Contents → List ℕ → List ℕ
 content recipe contents name = bytes_named contents (content_named recipe.inputs recipe.stages name)
 
--- files with one more, at its path
+-- these files with one more file of a stage, at its path
 abbrev pub with_stage_file : RecipeContents → Contents → FileMap → StageFile → FileMap
 with_stage_file recipe contents held file = files.insert held file.path (content recipe contents file.from)
 
--- what a stage's program is given
+-- the execution context of a stage's program
 unfoldable pub box_of : RecipeContents → Contents → Stage → Setting
 box_of recipe contents stage = record {
   args = stage.args;
@@ -65,7 +65,7 @@ text_of recipe contents source = record {
   files = map (content recipe contents) source.files;
 }
 
--- the language of a source, where ddc defines it
+-- the language of a source, if ddc defines it
 abbrev pub defined : SourceLanguage → Option Language
 defined (Defined language) = Some language
 defined Other = None
@@ -74,16 +74,16 @@ defined Other = None
 abbrev pub check_source : RecipeContents → Stage → Option Source
 check_source recipe stage = option_and_then (source_named recipe.sources) stage.check
 
--- the language in which a stage's artefact is checked, if it is; a recipe's rules have a defined one for each check
+-- the language of a stage's check; None for an unchecked stage. By a recipe's rules a check has a defined language
 unfoldable pub check_language : RecipeContents → Stage → Option Language
 check_language recipe stage = option_and_then (λ (source : Source). defined source.lang) (check_source recipe stage)
 
--- what is wrong with an artefact of a text
+-- what is wrong with an artefact as the value of a text; None if nothing is or the language is not defined
 abbrev pub text_check : SourceText → Option Language → List ℕ → Option CheckCause
 text_check text None made = None
 text_check text (Some language) made = check language text.base (joined_files text.files) made
 
--- what is wrong with a stage's artefact by its check's source; nothing where it is right, or unchecked
+-- what is wrong with a stage's artefact as the value of its check's source; None if nothing is, or if the stage is unchecked
 abbrev pub source_check : RecipeContents → Contents → Option Source → List ℕ → Option CheckCause
 source_check recipe contents None made = None
 source_check recipe contents (Some source) made = text_check (text_of recipe contents source) (defined source.lang) made

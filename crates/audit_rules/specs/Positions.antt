@@ -14,7 +14,7 @@ use Rattle.audit_rules.specs.declared.cause.RunCause.TheVariants as run
 use Rattle.audit_rules.specs.Stages.{by_end, contents, ending, start_cause, start_stage}
 use Rattle.audit_rules.specs.Bench.{after_stage, bench_from, bench_report}
 
--- the stages that are done, and the guest of the one after them
+-- a position: the stages that are done, and the guest of the next one
 pub record Position : Type 0 where
   pub done : List Finished
   pub at : GuestState
@@ -31,7 +31,7 @@ at done guest = record { done = done; at = guest }
 abbrev pub todo : RecipeContents → List Finished → List Stage
 todo recipe done = drop (length done) recipe.stages
 
--- the first of the stages that are left starts; where none is left, the report is made
+-- the first of the stages that are left starts, or its start fails and the audit is over
 abbrev pub entered : List Finished → Result GuestState Refusal → Standing
 entered done (Ok guest) = On (at done guest)
 entered done (Err why) = Over (Fails (suc (length done)) (Runs (run.Start (start_cause why)) 0))
@@ -45,7 +45,7 @@ abbrev pub stage_closed : RecipeContents → List (List ℕ) → List Finished �
 stage_closed recipe inputs done stages (Ok f) = enter recipe inputs (done ++ f ∷ []) stages
 stage_closed recipe inputs done stages (Err fault) = Over (Fails (suc (length done)) fault)
 
--- the guest went on: a step that reaches the stage's limit spends it
+-- the guest continues; a step that reaches the stage's limit exhausts it, and the audit is over
 abbrev pub went : List Finished → Stage → GuestState → Standing
 went done stage guest =
     if nat_lt guest.steps stage.steps then On (at done guest)
@@ -59,8 +59,7 @@ abbrev pub step_among : RecipeContents → List (List ℕ) → Position → List
 step_among recipe inputs p [] = On p
 step_among recipe inputs p (stage ∷ stages) = moved recipe inputs p stage stages (next p.at)
 
--- one step of the present guest; the step that ends its run includes the stage's ending, its check, and the next stage's start or the
--- comparison
+-- one step of the present guest. The step that ends its run includes the stage's check and the next stage's start, or the comparison
 unfoldable pub step : RecipeContents → List (List ℕ) → Position → Standing
 step recipe inputs p = step_among recipe inputs p (todo recipe p.done)
 
@@ -68,12 +67,12 @@ abbrev pub onward : Standing → (Position → Standing) → Standing
 onward (On p) next = next p
 onward (Over answer) next = Over answer
 
--- where a position comes to with so many further steps: a position, or the answer with which the audit was over by then
+-- where the audit stands this many steps after a position; once it is over, its answer stays
 unfoldable pub forward : RecipeContents → List (List ℕ) → Position → ℕ → Standing
 forward recipe inputs p zero = On p
 forward recipe inputs p (suc count) = onward (forward recipe inputs p count) (step recipe inputs)
 
--- the same from where an audit stands, which may be over
+-- where the audit stands this many steps later, from a position or an answer
 abbrev pub forward_from : RecipeContents → List (List ℕ) → Standing → ℕ → Standing
 forward_from recipe inputs from count = onward from (λ p. forward recipe inputs p count)
 
@@ -85,8 +84,7 @@ beginning recipe inputs = enter recipe inputs [] recipe.stages
 abbrev pub position : RecipeContents → List (List ℕ) → ℕ → Standing
 position recipe inputs count = forward_from recipe inputs (beginning recipe inputs) count
 
--- the answer to which a position comes with as many steps as the limits allow: the first end of the present run within what is left
--- of its stage's limit, and then the bench
+-- the answer that a position leads to: the present run continues to its end or its stage's limit, then the other stages run
 abbrev pub continue_among : RecipeContents → List (List ℕ) → Position → List Stage → AuditAnswer
 continue_among recipe inputs p [] = Completes (bench_report recipe inputs p.done)
 continue_among recipe inputs p (stage ∷ stages) =
@@ -96,7 +94,7 @@ continue_among recipe inputs p (stage ∷ stages) =
 unfoldable pub continue : RecipeContents → List (List ℕ) → Position → AuditAnswer
 continue recipe inputs p = continue_among recipe inputs p (todo recipe p.done)
 
--- the same from where an audit stands
+-- the final answer, from a position or from an answer
 abbrev pub finish : RecipeContents → List (List ℕ) → Standing → AuditAnswer
 finish recipe inputs (On p) = continue recipe inputs p
 finish recipe inputs (Over answer) = answer

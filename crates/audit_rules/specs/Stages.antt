@@ -1,4 +1,4 @@
--- One stage: the start of its program, its run, and what its end comes to. docs/reference/audit.md says the same for people. Digests are
+-- One stage: the start of its program, its run, and the result of its end. docs/reference/audit.md says the same for people. Digests are
 -- SHA-256 (FIPS 180-4).
 use Rattle.std.specs.Prelude.{ℕ, ◌+◌, ◌==◌, nat_le, Option, None, Some, Result, Ok, Err, List, length, map, sum_by}
 use Rattle.ddc_base.specs.Results.{◌>>=◌, ◌>>◌, or_error, error_unless}
@@ -27,7 +27,7 @@ use Rattle.audit_rules.specs.Contents.{Contents, box_of, check_of, program_of}
 abbrev pub contents : List (List ℕ) → List Finished → Contents
 contents inputs done = record { inputs = inputs; artefacts = map (λ (f : Finished). f.made) done }
 
--- the bytes of all artefacts so far
+-- the number of bytes of all artefacts so far
 abbrev pub artefact_bytes : List Finished → ℕ
 artefact_bytes done = sum_by (λ (f : Finished). length f.made) done
 
@@ -40,7 +40,7 @@ output_of (File path) = AtPath path
 abbrev pub marked_left : List ℕ × List ℕ → LeftLine
 marked_left file = record { name = file.0; mark = mark_of file.1 }
 
--- a stage whose program exited at a step, left these files and made this artefact
+-- the record of a stage whose program exited at a step, left these files and made this artefact
 unfoldable pub finished : ℕ → World → List ℕ → Finished
 finished steps world made = record {
   steps = steps;
@@ -50,7 +50,7 @@ finished steps world made = record {
   made = made;
 }
 
--- a start that is refused, as a cause
+-- the cause of a start that fails
 abbrev pub start_cause : Refusal → StartCause
 start_cause (Elf refusal) = start.Elf refusal
 start_cause ArgsTooLong = start.ArgsTooLong
@@ -60,18 +60,17 @@ start_cause BoxTooLarge = start.BoxTooLarge
 abbrev pub start_stage : RecipeContents → Contents → Stage → Result GuestState Refusal
 start_stage recipe so_far stage = start_of (program_of recipe so_far stage) (box_of recipe so_far stage)
 
--- the start, or the fault that there is none
+-- the started guest, or the fault that it does not start
 abbrev pub start_or_fault : Result GuestState Refusal → Result GuestState StageFault
 start_or_fault (Ok guest) = Ok guest
 start_or_fault (Err why) = Err (Runs (run.Start (start_cause why)) 0)
 
--- an artefact in which its check found nothing wrong
+-- success if the check found nothing wrong, or its fault
 abbrev pub check_passed : Option CheckCause → Result (Unit {0}) StageFault
 check_passed None = Ok tt
 check_passed (Some why) = Err (Checks why)
 
--- an exit with a status at a step: the status is 0, something is at the stage's output, all artefacts together have at most 1,073,741,824
--- bytes, and the check is right
+-- the stage is done if the status is 0, its output exists, all artefacts have at most 1,073,741,824 bytes together, and its check passes
 abbrev pub exited_with : RecipeContents → List (List ℕ) → List Finished → Stage → ℕ → ℕ → World → Result Finished StageFault
 exited_with recipe inputs done stage status steps world = do
   error_unless (Runs (run.Status status) steps) (status == 0)
@@ -80,13 +79,13 @@ exited_with recipe inputs done stage status steps world = do
   check_passed (check_of recipe (contents inputs done) stage made)
   Ok (finished steps world made)
 
--- what the end of a stage's run comes to. It comes in the step that follows the state, so its own step is counted too
+-- the result of the end of a stage's run; the ending step is the one after the state, and is counted
 abbrev pub ending : RecipeContents → List (List ℕ) → List Finished → Stage → End → GuestState → Result Finished StageFault
 ending recipe inputs done stage (Exited status) guest = exited_with recipe inputs done stage status (guest.steps + 1) guest.world
 ending recipe inputs done stage (Trapped cause) guest = Err (Runs (run.Trap cause) (guest.steps + 1))
 ending recipe inputs done stage (UnknownCall number) guest = Err (Runs (run.Call number) (guest.steps + 1))
 
--- what a stage's run comes to, by its first end within the steps that remain of the stage's limit
+-- the result of a stage's run, from its first exit, trap or unknown call; without one the stage's limit is exhausted
 abbrev pub by_end : RecipeContents → List (List ℕ) → List Finished → Stage → Option (End × GuestState) → Result Finished StageFault
 by_end recipe inputs done stage first = do
   (end, guest) ← or_error (Runs run.Spent stage.steps) first
@@ -97,6 +96,6 @@ by_start recipe inputs done stage start = do
   guest ← start_or_fault start
   by_end recipe inputs done stage (first_end guest stage.steps)
 
--- what a stage comes to, after those that are done
+-- the result of a stage, after those that are done
 abbrev pub stage_result : RecipeContents → List (List ℕ) → List Finished → Stage → Result Finished StageFault
 stage_result recipe inputs done stage = by_start recipe inputs done stage (start_stage recipe (contents inputs done) stage)

@@ -1,5 +1,5 @@
--- The positions from which an audit may go on, whether its own steps reached them or not: what a save of a position is held to.
--- docs/reference/audit.md says the same for people.
+-- The valid positions of an audit, reached by its own steps or not: the positions that a save may hold. docs/reference/audit.md says the
+-- same for people.
 use Rattle.std.specs.Prelude.{◌≡◌, ◌<◌, ◌≤◌, ◌+◌, ◌^◌, ℕ, IsTrue, List, [], ◌∷◌, length, All}
 use Rattle.std.specs.List.{Contains}
 use Rattle.mem_files.specs.Names.{is_stripped_name}
@@ -20,17 +20,17 @@ use Rattle.report.specs.Marks.{mark_of}
 use Rattle.audit_rules.specs.Stages.{artefact_bytes}
 use Rattle.audit_rules.specs.Positions.{Position, Standing, On, Over, todo}
 
--- the inputs of a recipe: as many as it names, each with at most the 268,435,456 bytes of a program's file
+-- the inputs of a recipe: as many as it names, each at most 268,435,456 bytes
 pub record IsInputs (recipe : RecipeContents) (inputs : List (List ℕ)) : Type 0 where
   pub count : length inputs ≡ length recipe.inputs
   pub each : All IsContent inputs
 
--- the mark of a stream or a file
+-- the mark of a stream or a file: a length below 2^32 bytes and a digest
 pub record IsSmallMark (mark : Mark) : Type 0 where
   pub length : mark.length < 2 ^ 32
   pub digest : IsDigest mark.digest
 
--- a file that is left, under a guest's file name
+-- a file that is left, under a valid file name of a guest
 pub record IsLeftLine (file : LeftLine) : Type 0 where
   pub named : IsTrue (is_stripped_name file.name)
   pub name_bytes : AreBytes file.name
@@ -41,8 +41,8 @@ abbrev pub HasMark : Output → Finished → Type 0
 HasMark Stream f = f.stream1 ≡ mark_of f.made
 HasMark (File path) f = Contains f.left (record { name = path; mark = mark_of f.made })
 
--- a finished stage: its steps are from 1 to the stage's limit, the files that it left are few and ascend by their names, and its
--- artefact is small and has the mark of the stage's output
+-- a finished stage: its steps are from 1 to the stage's limit, both included. At most 4,096 files are left, ascending by name. The artefact
+-- has the mark of the stage's output
 pub record IsFinished (stage : Stage) (f : Finished) : Type 0 where
   pub some_steps : 1 ≤ f.steps
   pub few_steps : f.steps ≤ stage.steps
@@ -54,7 +54,7 @@ pub record IsFinished (stage : Stage) (f : Finished) : Type 0 where
   pub made : IsContent f.made
   pub output : HasMark stage.output f
 
--- each finished stage is one of the recipe's, in order
+-- the finished stages are the recipe's first ones, in order
 abbrev pub AreFinished : List Stage → List Finished → Type 0
 AreFinished stages [] = Unit {0}
 AreFinished [] (f ∷ done) = ⊥
@@ -65,7 +65,7 @@ pub record AreDone (recipe : RecipeContents) (done : List Finished) : Type 0 whe
   pub each : AreFinished recipe.stages done
   pub small : artefact_bytes done ≤ 1_073_741_824
 
--- a position in a stage: the guest is in a valid state, with the stage's heap, and its steps are not spent
+-- a position in a stage: the guest is in a valid state, with the stage's heap, below the stage's step limit
 pub record IsAt (recipe : RecipeContents) (p : Position) (stage : Stage) (stages : List Stage) : Type 0 where
   pub left : todo recipe p.done ≡ stage ∷ stages
   pub within : p.at.steps < stage.steps
@@ -73,11 +73,11 @@ pub record IsAt (recipe : RecipeContents) (p : Position) (stage : Stage) (stages
   pub valid : IsValid p.at
   pub done : AreDone recipe p.done
 
--- a position: fewer stages are finished than the recipe has
+-- a valid position: it is in a stage of the recipe
 abbrev pub IsPosition : RecipeContents → Position → Type 0
 IsPosition recipe p = (stage : Stage) × (stages : List Stage) × IsAt recipe p stage stages
 
--- an answer: a report is well formed
+-- an answer whose report, if it has one, is well formed
 abbrev pub IsAuditAnswer : AuditAnswer → Type 0
 IsAuditAnswer (Completes report) = IsReport report
 IsAuditAnswer (Fails number fault) = Unit {0}
@@ -87,7 +87,7 @@ abbrev pub IsStanding : RecipeContents → Standing → Type 0
 IsStanding recipe (On p) = IsPosition recipe p
 IsStanding recipe (Over answer) = IsAuditAnswer answer
 
--- the steps that these stages may take together
+-- the step limits of these stages, added
 abbrev pub limits : List Stage → ℕ
 limits [] = 0
 limits (stage ∷ stages) = stage.steps + limits stages

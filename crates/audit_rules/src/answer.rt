@@ -14,14 +14,14 @@ pub struct Finished {
     pub stream2: Mark,
     /// The files that its program left, ascending by the bytes of their names.
     pub left: LeftLines,
-    /// Its artefact.
+    /// The artefact.
     pub made: Bytes,
 }
 
 /// Why a stage is not done.
 #[derive(Clone, Copy)]
 pub enum StageFault {
-    /// Its run made no artefact: the cause, and the step, which is 0 where the program did not start.
+    /// Its run made no artefact: the cause, and the step, which is 0 if the program did not start.
     Runs(RunCause, u64),
     /// Its artefact is not what its source stands for.
     Checks(CheckCause),

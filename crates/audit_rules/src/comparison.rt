@@ -12,7 +12,7 @@ pub fn all_equal(lines: &[CompareLine]) -> bool
     lines.iter().all(|line| is_equal(line.result))
 }
 
-/// Whether a comparison says so.
+/// Whether a comparison says that the artefact and the binary are equal.
 fn is_equal(compared: Compared) -> bool
     ensures { result ≡ is_equal compared }
 {

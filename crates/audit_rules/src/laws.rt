@@ -1,4 +1,4 @@
-//! Laws of benches, positions and reports, over a recipe that keeps its rules. Each law is the contract of a function that does nothing.
+//! Laws of benches, positions and reports of a well-formed recipe. Each law is the contract of a function that does nothing.
 
 ghost use Rattle.mem_files.specs.Limits.{most_content};
 ghost use Rattle.recipe.specs.Kept.{IsRecipe};
@@ -13,7 +13,7 @@ ghost use Rattle.audit_rules.specs.declared.answer.AuditAnswer.TheVariants.{Comp
 
 use crate::{MAX_ARTEFACTS, MAX_INPUT};
 
-/// Going on by some steps and then by more is going on by their sum.
+/// Advancing by some steps and then by more is advancing by their sum.
 pub fn steps_in_parts()
     ensures position { (recipe : RecipeContents) (inputs : List (List ℕ)) (p q : Position) (first more : ℕ)
         → forward recipe inputs p first ≡ On q → forward recipe inputs p (first + more) ≡ forward recipe inputs q more }
@@ -21,26 +21,26 @@ pub fn steps_in_parts()
         → forward_from recipe inputs (forward_from recipe inputs from first) more ≡ forward_from recipe inputs from (first + more) }
 {}
 
-/// Going on to the end from any valid position, reached or not, gives one answer, that of its continuation, after however many steps.
+/// From every valid position, reached or not, continuing to the end gives one answer, after any number of steps.
 pub fn positions_keep_their_answer()
     ensures { (recipe : RecipeContents) (inputs : List (List ℕ)) (p : Position) (count : ℕ) → IsRecipe recipe → IsPosition recipe p
         → finish recipe inputs (forward recipe inputs p count) ≡ continue recipe inputs p }
 {}
 
-/// Going on to the end from any position of an audit gives the bench's answer, and so its report.
+/// From every position of an audit, continuing to the end gives the answer of `bench`, and so its report.
 pub fn positions_have_the_answer_of_the_bench()
     ensures { (recipe : RecipeContents) (inputs : List (List ℕ)) (count : ℕ) → IsRecipe recipe
         → finish recipe inputs (position recipe inputs count) ≡ bench recipe inputs }
 {}
 
-/// With as many steps as the limits of the stages allow an audit is over, with the answer of its continuation.
+/// After as many steps as the stages' limits allow, an audit is over, with the answer of its continuation.
 pub fn limits_are_enough()
     ensures { (recipe : RecipeContents) (inputs : List (List ℕ)) (p : Position) (count : ℕ) → IsRecipe recipe → IsPosition recipe p
         → limits (todo recipe p.done) ≤ p.at.steps + count → forward recipe inputs p count ≡ Over (continue recipe inputs p) }
 {}
 
-/// A recipe allows fewer steps than 2^64 in all, so an audit is over after one advance by 2^64 - 1: from the beginning with the bench's
-/// answer, and from any valid position with that of its continuation.
+/// One advance by 2^64 - 1 steps ends an audit, since a recipe allows fewer than 2^64 steps in all. The answer is that of `bench`, and from
+/// a valid position that of its continuation.
 pub fn one_advance_is_enough()
     ensures position { (recipe : RecipeContents) (inputs : List (List ℕ)) (p : Position) → IsRecipe recipe → IsPosition recipe p
         → forward recipe inputs p (2 ^ 64 - 1) ≡ Over (continue recipe inputs p) }
@@ -48,7 +48,7 @@ pub fn one_advance_is_enough()
         → position recipe inputs (2 ^ 64 - 1) ≡ Over (bench recipe inputs) }
 {}
 
-/// A step from a valid position gives a valid position or an answer, whose report is well formed; so does the beginning.
+/// A step from a valid position gives a valid position or an answer with a well-formed report. So does the beginning.
 pub fn steps_keep_positions_valid()
     ensures step { (recipe : RecipeContents) (inputs : List (List ℕ)) (p : Position) → IsRecipe recipe → IsInputs recipe inputs → IsPosition recipe p
         → IsStanding recipe (step recipe inputs p) }
@@ -58,7 +58,7 @@ pub fn steps_keep_positions_valid()
         → IsStanding recipe (beginning recipe inputs) }
 {}
 
-/// Every report of an audit is well formed, whether it comes from the beginning or from any valid position.
+/// Every report of an audit is well formed, from the beginning or from any valid position.
 pub fn reports_are_well_formed()
     ensures bench { (recipe : RecipeContents) (inputs : List (List ℕ)) (report : Report) → IsRecipe recipe → IsInputs recipe inputs
         → bench recipe inputs ≡ Completes report → IsReport report }
@@ -66,7 +66,7 @@ pub fn reports_are_well_formed()
         → IsPosition recipe p → continue recipe inputs p ≡ Completes report → IsReport report }
 {}
 
-/// The numbers of the code are the written limits.
+/// The constants of the code are the written limits.
 pub fn numbers_are_those_written()
     ensures artefacts { MAX_ARTEFACTS ≡ 1_073_741_824 }
     ensures input { MAX_INPUT ≡ most_content }

@@ -1,7 +1,7 @@
-//! What an audit is: the contents, boxes and texts of its stages, the bench that runs them, its report, and the positions on the way;
-//! and the check of an artefact against its source (`source_check`).
+//! What an audit is: the contents, execution contexts (`Setting`) and texts of its stages, its definition (`bench`), its report and its
+//! positions; and the check of an artefact against its source (`source_check`).
 //!
-//! Its rules for people: docs/reference/audit.md. The crates that run an audit or judge its report have code of their own, which meets
+//! Its rules for people: docs/reference/audit.md. The crates that run an audit or judge its report have code of their own, proved equal to
 //! these definitions.
 #![tactic(auto)]
 

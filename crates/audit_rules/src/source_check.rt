@@ -1,6 +1,6 @@
-//! Whether an artefact is what its source stands for, in the four languages that ddc defines: the definition, and why it is not.
+//! Whether an artefact is what its source stands for, in the four languages that ddc defines; and why it is not.
 //!
-//! The crates that make a check have code of their own, which meets this definition, but for the two smallest tests.
+//! The crates that check have code of their own, proved equal to this definition; only the two smallest tests are shared.
 
 mod cause;
 pub mod laws;

@@ -15,7 +15,7 @@ use Rattle.audit_run.specs.declared.standing.Progress.{Progress}
 use Rattle.audit_run.specs.declared.standing.Progress.TheVariants as said
 use Rattle.audit_run.specs.Seen.{AuditState, standing}
 
--- what is said of the comparisons, of an answer, and of where an audit stands
+-- what `advance` returns for comparisons, for an answer, and for where an audit stands
 abbrev pub said_of_comparisons : List CompareLine → Progress
 said_of_comparisons lines = if all_equal lines then said.Equal else said.Differs
 
@@ -28,8 +28,8 @@ abbrev pub said_of : Standing → Progress
 said_of (On p) = said.Paused
 said_of (Over answer) = said_of_answer answer
 
--- the next step of a position takes memory: the guest's own step does; or its run ends with an artefact, which is checked and kept, and
--- then the next stage starts or the report is made
+-- the next step of a position allocates: the guest's own step does; or its run ends with an artefact, which is checked and kept before the
+-- next stage starts or the report is made
 abbrev pub WantsBy : Stage → Position → Next → Type 0
 WantsBy stage p (Goes to) = StepTakesMemory p.at
 WantsBy stage p (Ends (Exited status)) = Makes stage p.done status p.at.world
@@ -39,31 +39,31 @@ WantsBy stage p (Ends (UnknownCall number)) = ⊥
 abbrev pub Wants : RecipeContents → Position → Type 0
 Wants recipe p = (stage : Stage) × (stages : List Stage) × (todo recipe p.done ≡ stage ∷ stages) × WantsBy stage p (next p.at)
 
--- memory was wanting after fewer steps than were asked for, where the next step takes memory
+-- an advance ran out of memory after fewer steps than requested, at a position whose next step allocates
 pub record StopsAt (recipe : RecipeContents) (inputs : List (List ℕ)) (from : Standing) (most : ℕ) (to : Position) : Type 0 where
   pub count : ℕ
   pub fewer : count < most
   pub reached : forward_from recipe inputs from count ≡ On to
   pub wants : Wants recipe to
 
--- or where the first stage had still to be started, which leaves the audit as it was
+-- an advance ran out of memory at a position, or at the first stage's start, which leaves the audit as it was
 abbrev pub StopsAudit : AuditState → ℕ → Option Standing → Type 0
 StopsAudit old most None = old.stands ≡ None
 StopsAudit old most (Some (On p)) = StopsAt old.recipe old.inputs (standing old) most p
 StopsAudit old most (Some (Over answer)) = ⊥
 
--- an advance by at most so many steps goes on by so many, and says where the audit stands then; or memory is wanting
+-- an advance by so many steps leads that far and returns where the audit stands then; or memory runs out
 abbrev pub Advances : AuditState → ℕ → Progress → Option Standing → Type 0
 Advances old most said.OutOfMemory new = StopsAudit old most new
 Advances old most answer new =
     (new ≡ Some (forward_from old.recipe old.inputs (standing old) most))
     × (answer ≡ said_of (forward_from old.recipe old.inputs (standing old) most))
 
--- memory was wanting where such an advance may stop
+-- memory runs out where such an advance may stop
 abbrev pub WantsWithin : AuditState → ℕ → Type 0
 WantsWithin old most = (stops : Option Standing) × StopsAudit old most stops
 
--- the audit so many steps further on, or at its end; or memory was wanting on the way
+-- the audit this many steps later, or at its end; or memory ran out on the way
 abbrev pub IsAdvanced : AuditState → ℕ → Result AuditState OutOfMemory → Type 0
 IsAdvanced old most (Ok audit) =
     audit ≡ record { recipe = old.recipe; inputs = old.inputs; stands = Some (forward_from old.recipe old.inputs (standing old) most) }

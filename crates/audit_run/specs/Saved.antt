@@ -1,4 +1,4 @@
--- What the save of an audit says, and what resuming gives. docs/reference/save.md says the same for people.
+-- What the save of an audit says, and the result of resuming. docs/reference/save.md says the same for people.
 use Rattle.std.specs.Prelude.{◌≡◌, ℕ, List, Option, None, Some, Result, Ok, Err}
 use Rattle.audit_run.specs.Save.Saves.{Resumes, save_of}
 use Rattle.audit_run.specs.declared.save.reading.SaveRefusal.{SaveRefusal}
@@ -25,11 +25,11 @@ IsSave recipe inputs (Some (Over answer)) text = ⊥
 abbrev pub standing_at : RecipeContents → List (List ℕ) → Position → AuditState
 standing_at recipe inputs p = record { recipe = recipe; inputs = inputs; stands = Some (On p) }
 
--- an audit that was resumed of a text stands at a position, and the text is one of its save, of the second form or an old one
+-- a resumed audit stands at a position, and the text is one of its saves, in either form
 abbrev pub IsResumed : RecipeContents → List (List ℕ) → List ℕ → AuditState → Type 0
 IsResumed recipe inputs text audit = (p : Position) × (audit ≡ standing_at recipe inputs p) × IsPosition recipe p × IsTextOfSave (save_of recipe inputs p) text
 
--- what is resumed of the save of a position
+-- resuming from a save of this position gives the audit at the position, or out of memory
 abbrev pub IsResumedAt : RecipeContents → List (List ℕ) → Position → Result AuditState SaveRefusal → Type 0
 IsResumedAt recipe inputs p (Ok audit) = audit ≡ standing_at recipe inputs p
 IsResumedAt recipe inputs p (Err OutOfMemory) = Unit {0}
@@ -37,7 +37,7 @@ IsResumedAt recipe inputs p (Err (Form offset)) = ⊥
 IsResumedAt recipe inputs p (Err OtherRecipe) = ⊥
 IsResumedAt recipe inputs p (Err State) = ⊥
 
--- what is resumed of any text, and when each refusal comes
+-- the result of resuming from any text, and when each error occurs
 abbrev pub ResumesAudit : RecipeContents → List (List ℕ) → List ℕ → Result AuditState SaveRefusal → Type 0
 ResumesAudit recipe inputs text (Ok audit) = (p : Position) × (audit ≡ standing_at recipe inputs p) × Resumes recipe inputs text (Ok p)
 ResumesAudit recipe inputs text (Err refusal) = Resumes recipe inputs text (Err refusal)

@@ -1,4 +1,4 @@
--- An audit as contracts see it, and what its calls tell of it. docs/reference/audit.md says the same for people.
+-- An audit as contracts see it, and what its calls return about it. docs/reference/audit.md says the same for people.
 use Rattle.std.specs.Prelude.{ℕ, ◌+◌, List, [], ◌∷◌, length, Option, None, Some}
 use Rattle.guest_run.specs.Setting.{Setting}
 use Rattle.recipe.specs.declared.contents.RecipeContents.{RecipeContents}
@@ -16,7 +16,7 @@ pub record AuditState : Type 0 where
   pub inputs : List (List ℕ)
   pub stands : Option Standing
 
--- where an audit stands: at the beginning, which is the first stage's start, before the first advance
+-- where an audit stands; before the first advance it is at the beginning, the first stage's start
 abbrev pub standing_of : AuditState → Option Standing → Standing
 standing_of audit None = beginning audit.recipe audit.inputs
 standing_of audit (Some standing) = standing
@@ -24,7 +24,7 @@ standing_of audit (Some standing) = standing
 abbrev pub standing : AuditState → Standing
 standing audit = standing_of audit audit.stands
 
--- the answer of an audit that is over, and its report where it has one
+-- the answer of an audit that is over, and its report if it has one
 abbrev pub finished_answer : Option Standing → Option AuditAnswer
 finished_answer (Some (Over answer)) = Some answer
 finished_answer _ = None
@@ -33,18 +33,18 @@ abbrev pub finished_report : Option Standing → Option Report
 finished_report (Some (Over (Completes report))) = Some report
 finished_report _ = None
 
--- the present stage's number from 1 and the steps that its guest took; (0, 0) where the audit is over
+-- the present stage's number, from 1, and the steps that its guest took; (0, 0) if the audit is over
 abbrev pub place_of : Option Standing → ℕ × ℕ
 place_of None = (1, 0)
 place_of (Some (On p)) = (length p.done + 1, p.at.steps)
 place_of (Some (Over answer)) = (0, 0)
 
--- the program and the box of the first of these stages
+-- the program and the execution context of the first of these stages
 abbrev pub first_setting : RecipeContents → Contents → List Stage → Option (List ℕ × Setting)
 first_setting recipe so_far [] = None
 first_setting recipe so_far (stage ∷ stages) = Some (program_of recipe so_far stage, box_of recipe so_far stage)
 
--- those of the present stage; none where the audit is over
+-- the program and the execution context of the present stage; None if the audit is over
 abbrev pub present_setting : RecipeContents → List (List ℕ) → Option Standing → Option (List ℕ × Setting)
 present_setting recipe inputs None = first_setting recipe (contents inputs []) recipe.stages
 present_setting recipe inputs (Some (On p)) = first_setting recipe (contents inputs p.done) (todo recipe p.done)

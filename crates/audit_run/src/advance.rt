@@ -17,7 +17,7 @@ use recipe::Recipe;
 use report::CompareLine;
 use std::alloc::Global;
 
-/// At most `most` steps, of an audit that is to stand where memory is wanting.
+/// At most `most` steps of an audit that remains usable after out of memory.
 pub(crate) fn advance_parts(
     alloc: Global,
     recipe: &Recipe,
@@ -52,7 +52,7 @@ pub(crate) fn advance_parts(
     }
 }
 
-/// At most `most` steps, of an audit that want of memory ends.
+/// At most `most` steps of an audit that out of memory ends.
 pub(crate) fn take_piece(
     alloc: Global,
     recipe: &Recipe,
@@ -81,7 +81,7 @@ pub(crate) fn take_piece(
     advance_started(alloc, &conduct, course, most)
 }
 
-/// Enters the first stage, where it was not entered yet. Want of memory leaves the audit as it was.
+/// Enters the first stage, if it was not entered yet. Error: out of memory, which leaves the audit as it was.
 fn begin(
     alloc: Global,
     recipe: &Recipe,
@@ -106,7 +106,7 @@ fn begin(
     }
 }
 
-/// What is said of an audit that stands here.
+/// What `advance` returns for an audit that stands here.
 fn said_of(standing: &AuditStanding) -> Progress
     requires { IsStarted standing.now }
     ensures { SaysOf standing.now result }
@@ -118,7 +118,7 @@ fn said_of(standing: &AuditStanding) -> Progress
     }
 }
 
-/// What is said of an answer.
+/// What `advance` returns for an answer.
 fn said_of_answer(answer: &AuditAnswer) -> Progress
     ensures { result ≡ said_of_answer answer.now }
 {
@@ -136,7 +136,7 @@ fn said_of_answer(answer: &AuditAnswer) -> Progress
     }
 }
 
-/// What is said of the comparisons.
+/// What `advance` returns for these comparisons.
 fn said_of_comparisons(lines: &[CompareLine]) -> Progress
     ensures { result ≡ said_of_comparisons lines.now }
 {

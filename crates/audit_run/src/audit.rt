@@ -1,4 +1,4 @@
-//! The audit as callers see it.
+//! An audit, step by step.
 
 ghost use Rattle.audit_run.specs.Advances.{Advances, IsAdvanced};
 ghost use Rattle.audit_run.specs.Saved.{IsOn, IsResumed, IsResumedAt, IsSave, ResumesAudit, standing_at};
@@ -28,7 +28,7 @@ use report::Report;
 use std::alloc::Global;
 use std::marker::Model;
 
-/// An audit: a recipe, its inputs, and where it stands, which is before the first stage, in a stage, or over.
+/// An audit: a recipe, its inputs, and where it stands: before the first stage, in a stage, or over.
 ///
 /// It keeps the allocator that its constructor took.
 #[derive(Drop)]
@@ -54,7 +54,7 @@ impl Model for Audit {
 }
 
 impl Audit {
-    /// An audit whose first stage has not started. It takes no memory.
+    /// An audit whose first stage has not started. Allocates nothing.
     pub fn new(alloc: Global, recipe: Recipe, inputs: Inputs) -> Audit
         requires { IsInputs recipe inputs }
         ensures { result ≡ record { recipe = recipe; inputs = inputs; stands = None } }
@@ -70,11 +70,11 @@ impl Audit {
         }
     }
 
-    /// Goes on by `most` steps, or to the audit's end, and says where it stands then.
+    /// Advances by `most` steps or to the audit's end, and returns where the audit stands then.
     ///
-    /// The end of a stage, its check, the next start and the comparison belong to the step that ends the stage's run; the first start
-    /// belongs to none. An audit that is over answers the same again. After want of memory it stands after the steps that were done, and
-    /// may be advanced again: that comes only where the next step takes memory, or the first stage had to be started.
+    /// The end of a stage, its check, the next stage's start and the comparison belong to the step that ends the stage's run. The first
+    /// start belongs to no step. An audit that is over returns its answer again. After out of memory the audit stands after the steps that
+    /// were done and may be advanced again. Memory runs out only if the next step allocates or the first stage had still to start.
     pub fn advance(&mut self, most: u64) -> Progress
         requires { 1 ≤ most }
         ensures answer { Advances self.old most result self.new.stands }
@@ -90,9 +90,9 @@ impl Audit {
         )
     }
 
-    /// The audit `most` steps further on, or at its end, where `advance` would lead it.
+    /// The audit after `most` more steps, or at its end, as after `advance`. Error: out of memory, which leaves no audit.
     ///
-    /// A stage's guest is given up before the next stage starts, so that one guest is in memory at a time; want of memory leaves no audit.
+    /// A stage's guest is dropped before the next stage starts, so one guest is in memory at a time.
     pub fn advanced(self, most: u64) -> Result<Audit, OutOfMemory>
         ensures { IsAdvanced self most result }
     {
@@ -111,7 +111,7 @@ impl Audit {
         })
     }
 
-    /// The answer of an audit that is over.
+    /// The answer of an audit that is over; `None` before its end.
     pub fn answer(&self) -> Option<&AuditAnswer>
         ensures answer { option_copied result ≡ finished_answer self.now.stands }
         ensures form { IfSome (option_copied result) IsAuditAnswer }
@@ -122,7 +122,7 @@ impl Audit {
         }
     }
 
-    /// The report, exactly after `Equal` and `Differs`.
+    /// The report of an audit that is over; `None` before `advance` returns `Equal` or `Differs`.
     pub fn report(&self) -> Option<&Report>
         ensures report { option_copied result ≡ finished_report self.now.stands }
         ensures form { IfSome (option_copied result) IsReport }
@@ -133,8 +133,7 @@ impl Audit {
         }
     }
 
-    /// The present stage's number, from 1, and how many steps were taken in it: (1, 0) before the first advance, and (0, 0) where the
-    /// audit is over.
+    /// The present stage's number, from 1, and the steps taken in it: (1, 0) before the first advance, (0, 0) if the audit is over.
     pub fn place(&self) -> (u32, u64)
         ensures { result ≡ place_of self.now.stands }
     {
@@ -148,7 +147,8 @@ impl Audit {
         }
     }
 
-    /// The present stage's program and its box, which is made anew and takes memory; `None` where the audit is over, which takes none.
+    /// The present stage's program and a new execution context (`RunBox`); `None`, without allocating, if the audit is over. Error: out of
+    /// memory.
     pub fn setting(&self, alloc: Global) -> Result<Option<(&[u8], RunBox<'_>)>, OutOfMemory>
         ensures value { IfOk result (λ setting. option_map (λ s. (s.0.now, s.1)) setting ≡ present_setting self.now.recipe self.now.inputs self.now.stands) }
         ensures over { (answer : AuditAnswer) → self.now.stands ≡ Some (Over answer) → IsOk result }
@@ -166,12 +166,12 @@ impl Audit {
         }
     }
 
-    /// The one text of the position that has the second form (docs/reference/save.md). This is a condition on callers: the present stage has started,
-    /// which holds after `Paused` and after `resume`.
+    /// The save of the position, in the second form (docs/reference/save.md). Error: out of memory. Requires a started present stage, which
+    /// holds after `Paused` and after `resume`.
     pub fn save(&self) -> Result<Bytes, OutOfMemory>
         requires { IsOn self.now.stands }
         ensures text { IfOk result (IsSave self.now.recipe self.now.inputs self.now.stands) }
-        // Deltas can be kept against it.
+        // The text may be the base of deltas.
         ensures base { IfOk result (λ text. (p : Position) × (self.now.stands ≡ Some (On p)) × IsBaseAt self.now.recipe self.now.inputs p text) }
     {
         let alloc = self.alloc;
@@ -188,10 +188,10 @@ impl Audit {
         }
     }
 
-    /// The audit of this recipe and these inputs at the position that a save says, whether an audit was ever there or not. Its answer is
-    /// that of the position's continuation (`laws::resumed_audits_continue`).
+    /// The audit of this recipe and these inputs at the position that a save says, reached by an audit or not. Its answer is that of the
+    /// position's continuation (`laws::resumed_audits_continue`).
     ///
-    /// The form is judged first, then the digests, then whether it is a position.
+    /// Errors, judged in this order: the form, the digests of recipe and inputs, whether it is a position. And out of memory.
     pub fn resume(
         alloc: Global,
         recipe: Recipe,
@@ -199,20 +199,20 @@ impl Audit {
         text: &[u8],
     ) -> Result<Audit, SaveRefusal>
         requires { IsInputs recipe inputs }
-        // What is resumed is an audit of this recipe and these inputs at a position, and the text is one of its save.
+        // A resumed audit has this recipe and these inputs and stands at a position; the text is one of its saves.
         ensures found { IfOk result (λ audit. IsResumed recipe inputs text.now audit) }
-        // Each text of the save of every position of this recipe and these inputs, reached or not, is resumed there, unless memory runs out.
+        // Every save of every position of this recipe and these inputs, reached or not, is resumed there, unless memory runs out.
         ensures only { (p : Position) → IsPosition recipe p → IsTextOfSave (save_of recipe inputs p) text.now → IsResumedAt recipe inputs p result }
-        // When each refusal comes.
+        // When each error occurs.
         ensures exact { ResumesAudit recipe inputs text.now result }
     {
         let position = crate::save::read(alloc, &recipe, inputs.as_slice(), text)?;
         Ok(Audit::standing_at(alloc, recipe, inputs, position))
     }
 
-    /// The one text of the position's delta against where another audit of the same recipe and inputs stands (docs/reference/delta.md). This is a
-    /// condition on callers: in both audits the present stage has started. The text of the base is made for its digest; where the base was
-    /// saved before, `save_delta_of` takes what was saved.
+    /// The delta of the position against where another audit of the same recipe and inputs stands (docs/reference/delta.md). Error: out of
+    /// memory. Requires a started present stage in both audits. It makes the base's text for its digest; for a base that was saved before,
+    /// `save_delta_of` takes that save.
     pub fn save_delta(&self, base: &Audit) -> Result<Bytes, OutOfMemory>
         requires on { IsOn self.now.stands }
         requires base { IsOn base.now.stands }
@@ -224,8 +224,8 @@ impl Audit {
         self.save_delta_of(text.as_slice())
     }
 
-    /// The one text of the position's delta against a save, its base, which may be of either form. This is a condition on callers: the present stage
-    /// has started, and the bytes are the save of a position of this audit's recipe and inputs.
+    /// The delta of the position against a save, its base, in either form. Error: out of memory. Requires a started present stage, and a
+    /// base that is the save of a position of this audit's recipe and inputs.
     pub fn save_delta_of(&self, base: &[u8]) -> Result<Bytes, OutOfMemory>
         requires on { IsOn self.now.stands }
         requires base { (b : Position) × IsBaseAt self.now.recipe self.now.inputs b base.now }
@@ -247,11 +247,11 @@ impl Audit {
         }
     }
 
-    /// The audit of this recipe and these inputs at the position that a base and a delta say, whether an audit was ever there or not. Its answer is
+    /// The audit of this recipe and these inputs at the position that a base and a delta say, reached by an audit or not. Its answer is
     /// that of the position's continuation (`laws::resumed_audits_continue`).
     ///
-    /// The base is judged first and whole, as `resume` judges a save, then whether the delta names another base, then its form, then whether it is
-    /// a position.
+    /// Errors, judged in this order: the base, as `resume` judges a save; whether the delta names another base; its form; whether it is a
+    /// position. And out of memory.
     pub fn resume_delta(
         alloc: Global,
         recipe: Recipe,
@@ -260,20 +260,20 @@ impl Audit {
         delta: &[u8],
     ) -> Result<Audit, DeltaRefusal>
         requires { IsInputs recipe inputs }
-        // What is resumed is an audit of this recipe and these inputs at a position, and the text is its delta against the base's position.
+        // A resumed audit has this recipe and these inputs and stands at a position; the text is its delta against the base's position.
         ensures found { IfOk result (λ audit. IsResumedRelative recipe inputs base.now delta.now audit) }
-        // The delta of every position of this recipe and these inputs, reached or not, against every other one is resumed there beside each text of
-        // the save of its base, unless memory runs out.
+        // The delta of every position of this recipe and these inputs, reached or not, against every base is resumed there, with each save
+        // of the base, unless memory runs out.
         ensures only { (b : Position) (p : Position) → IsBaseAt recipe inputs b base.now → IsPosition recipe p
             → delta.now ≡ delta_text_of recipe inputs b p → IsResumedRelativeAt recipe inputs p result }
-        // When each refusal comes.
+        // When each error occurs.
         ensures exact { ResumesAuditRelative recipe inputs base.now delta.now result }
     {
         let position = crate::delta::read(alloc, &recipe, inputs.as_slice(), base, delta)?;
         Ok(Audit::standing_at(alloc, recipe, inputs, position))
     }
 
-    /// The audit that stands at a position.
+    /// The audit at a position.
     fn standing_at(alloc: Global, recipe: Recipe, inputs: Inputs, position: Resumed) -> Audit
         requires given { IsInputs recipe inputs }
         requires position { IsPosition recipe position }
@@ -291,7 +291,7 @@ impl Audit {
         }
     }
 
-    /// The recipe.
+    /// The audit's recipe.
     pub fn recipe(&self) -> &Recipe
         ensures { result.now ≡ self.now.recipe }
     {
@@ -299,7 +299,7 @@ impl Audit {
     }
 }
 
-/// The number, from 1, of the stage after so many.
+/// The number, from 1, of the stage after the first `done`.
 fn stage_after(recipe: &Recipe, done: usize) -> u32
     requires { done < length recipe.now.stages }
     ensures { result ≡ done + 1 }

@@ -1,4 +1,4 @@
-//! A whole audit at once.
+//! Running a whole audit.
 
 ghost use Rattle.recipe.specs.Kept.{IsRecipe};
 ghost use Rattle.std.specs.Prelude.{◌≡◌, IfOk};
@@ -12,9 +12,9 @@ use ddc_base::{Bytes, OutOfMemory};
 use recipe::Recipe;
 use std::alloc::Global;
 
-/// What the audit of a recipe and its inputs comes to.
+/// The answer of the audit of a recipe and its inputs. Error: out of memory.
 ///
-/// Between two stages nothing is kept but what those that are done came to: a stage's guest is given up before the next one starts.
+/// Between two stages only the results of the finished ones are kept: a stage's guest is dropped before the next one starts.
 pub fn run_bench(
     alloc: Global,
     recipe: &Recipe,

@@ -1,4 +1,4 @@
-//! How an audit is conducted.
+//! How an audit is run.
 
 ghost use Rattle.audit_rules.specs.Valid.{IsInputs};
 
@@ -6,7 +6,7 @@ use crate::standing::EndedGuest;
 use ddc_base::Bytes;
 use recipe::Recipe;
 
-/// How an audit is conducted: by a recipe, over its inputs, and with what becomes of the guest of a stage that is done.
+/// How an audit is run: its recipe, its inputs, and whether the guest of a finished stage is kept.
 #[derive(Clone, Copy)]
 pub(crate) struct Conduct<'a> {
     pub(crate) recipe: &'a Recipe,

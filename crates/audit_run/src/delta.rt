@@ -1,4 +1,4 @@
-//! The delta of an audit that stands in a stage against a save, its base, and the position that a base and a delta say.
+//! The delta of an audit in a stage against a save, its base; and the position that a base and a delta say.
 //!
 //! docs/reference/delta.md has the rules for a reader, and specs/Delta/Deltas.antt the same for the prover.
 

@@ -23,11 +23,11 @@ use std::alloc::Global;
 pub struct Unfinished {
     /// The stage's number, from 1.
     pub stage: u32,
-    /// Why it is not done.
+    /// Why the stage is not done.
     pub fault: StageFault,
 }
 
-/// Runs the first so many stages, in order: what they leave, or the first of them that is not done.
+/// Runs the first `count` stages in order, and returns what they leave or the first one that is not done. Error: out of memory.
 pub fn run_earlier(
     alloc: Global,
     recipe: &Recipe,
@@ -52,7 +52,7 @@ pub fn run_earlier(
     Ok(Ok(done))
 }
 
-/// Runs the stage that follows those that are done: what it leaves, or why it is not done.
+/// Runs the stage after those that are done. Returns what it leaves, or why it is not done.
 fn run_stage(
     alloc: Global,
     recipe: &Recipe,
@@ -80,7 +80,7 @@ fn run_stage(
     }
 }
 
-/// Takes all steps of a stage, up to the end of its run.
+/// Runs a stage to its end. Returns what it leaves, or why it is not done.
 fn run_out(
     alloc: Global,
     so_far: &SoFar<'_>,

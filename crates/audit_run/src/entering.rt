@@ -14,7 +14,7 @@ use ddc_base::{Bytes, OutOfMemory};
 use recipe::Recipe;
 use std::alloc::Global;
 
-/// Starts the stage that follows those that are done; where none does, makes the report.
+/// Starts the stage after those that are done; after the last one, makes the report. Error: out of memory.
 pub(crate) fn enter(
     alloc: Global,
     recipe: &Recipe,

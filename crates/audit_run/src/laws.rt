@@ -11,15 +11,15 @@ ghost use Rattle.audit_rules.specs.Bench.{bench};
 ghost use Rattle.audit_rules.specs.Positions.{Position, Standing, continue, finish};
 ghost use Rattle.audit_rules.specs.Valid.{IsPosition};
 
-/// An audit that was resumed comes to the answer of its position's continuation, whether any audit ever reached that position: wherever an advance
-/// leaves it, also for want of memory, going on to the end gives that answer.
+/// A resumed audit gives the answer of its position's continuation, whether an audit ever reached that position or not. After any advance,
+/// also one that runs out of memory, continuing to the end gives that answer.
 pub fn resumed_audits_continue()
     ensures { (recipe : RecipeContents) (inputs : List (List ℕ)) (p : Position) (most : ℕ) (answer : Progress) (now : Standing) → IsRecipe recipe
         → IsPosition recipe p → Advances (standing_at recipe inputs p) most answer (Some now)
         → finish recipe inputs now ≡ continue recipe inputs p }
 {}
 
-/// Earlier stages are the audit's own: what the first so many come to is what the bench comes to first, which goes on after them.
+/// The earlier stages are the audit's own: `bench` gives their result first and then continues after them.
 pub fn earlier_stages_are_the_audits()
     ensures { (recipe : RecipeContents) (inputs : List (List ℕ)) (count : ℕ) → bench recipe inputs
         ≡ goes_on_after recipe inputs (drop count recipe.stages) (done_in_order recipe inputs [] (take count recipe.stages)) }

@@ -1,5 +1,5 @@
-//! The audit: stage after stage, and the comparison, in as many advances as a caller likes, saved and resumed between them. One
-//! stage is in `stage`, its check in `check`, the saves in `save`, and what differs from a save in `delta`.
+//! The audit: its stages and the comparison, in as many advances as a caller likes, with saves between them. `stage` is one stage, `check`
+//! its check, `save` the saves, and `delta` what differs from a save.
 //!
 //! docs/reference/audit.md has the rules.
 #![tactic(auto)]

@@ -1,4 +1,4 @@
-//! The save of an audit that stands in a stage, and the position that a save says.
+//! The save of an audit in a stage, and the position that a save says.
 //!
 //! docs/reference/save.md has the rules for a reader, and specs/Save/Saves.antt the same for the prover.
 

@@ -1,4 +1,4 @@
-//! The program and the box of the present stage.
+//! The program and the execution context of the present stage.
 
 ghost use Rattle.audit_run.specs.Seen.{first_setting};
 ghost use Rattle.mem_files.specs.Outputs.{IsContent};
@@ -13,7 +13,7 @@ use guest_run::RunBox;
 use recipe::Recipe;
 use std::alloc::Global;
 
-/// The program and the box of the stage that follows those that are done.
+/// The program and the execution context of the stage after those that are done; `None` after the last one. Error: out of memory.
 pub(crate) fn setting_of<'a>(
     alloc: Global,
     recipe: &'a Recipe,

@@ -1,4 +1,4 @@
-//! One stage of an audit: what its program is given, its start, the end of its run, and the report of all stages.
+//! One stage of an audit: its execution context, its start, the end of its run, and the report of all stages.
 //!
 //! docs/reference/audit.md has the rules.
 

@@ -17,7 +17,7 @@ use guest_run::{Guest, RunEnd, RunRam};
 use recipe::Stage;
 use std::alloc::Global;
 
-/// At most `most` steps of a stage, which end with the stage's run.
+/// At most `most` steps of a stage, up to the end of its run. Returns how many were taken, and whether the run ended. Error: out of memory.
 pub(crate) fn run_slice(
     alloc: Global,
     so_far: &SoFar<'_>,
@@ -31,7 +31,7 @@ pub(crate) fn run_slice(
     requires stands { IsAt so_far.now.recipe.now (at so_far.now.done.now guest.old) stage.now (later so_far.now.recipe.now so_far.now.done.now) }
     ensures slices { Slices so_far.now.recipe.now so_far.now.inputs.now so_far.now.done.now (later so_far.now.recipe.now so_far.now.done.now)
         guest.old most result guest.new }
-    // With as many steps as the stage has left, its run ends.
+    // With at least as many steps as the stage has left, its run ends.
     ensures whole { stage.now.steps ≤ guest.old.steps + most → IfOk result (λ step. step.1 ≡ Moved.Ended
         (by_end so_far.now.recipe.now so_far.now.inputs.now so_far.now.done.now stage.now (first_end guest.old (stage.now.steps - guest.old.steps)))) }
 {

@@ -7,7 +7,7 @@ use audit_rules::source_check::CheckCause;
 use audit_rules::{AuditAnswer, RunCause, StageFault};
 use guest_run::{Guest, RunRam};
 
-/// How far an audit has come: the stages that are done, and where it stands.
+/// The finished stages of an audit, and where it stands.
 #[derive(Drop)]
 pub(crate) struct Course {
     pub(crate) done: Vec<Done>,
@@ -17,7 +17,7 @@ pub(crate) struct Course {
 /// Where an audit stands.
 #[derive(Drop)]
 pub(crate) enum AuditStanding {
-    /// No advance was made: the first stage has not started.
+    /// The first stage has not started.
     Ready,
     /// A stage runs.
     Running(Guest<RunRam>),
@@ -26,7 +26,7 @@ pub(crate) enum AuditStanding {
 }
 
 impl AuditStanding {
-    /// The audit goes on to stand there.
+    /// Replaces where the audit stands.
     pub(crate) fn set(&mut self, next: AuditStanding)
         ensures { self.new ≡ next }
     {
@@ -34,37 +34,37 @@ impl AuditStanding {
     }
 }
 
-/// What some steps come to.
+/// The result of some steps.
 #[derive(Drop)]
 pub(crate) enum Moved {
-    /// The stage goes on.
+    /// The stage continues.
     Goes,
     /// The stage's run has ended.
     Ended(Result<Done, StageFault>),
 }
 
-/// What becomes of the guest of a stage that is done.
+/// What becomes of the guest of a finished stage.
 #[derive(Clone, Copy)]
 pub(crate) enum EndedGuest {
-    /// It is kept until the next stage has started, so that want of memory leaves an audit.
+    /// It is kept until the next stage has started, so that the audit remains after out of memory.
     Kept,
-    /// It is given up before, so that one guest is in memory at a time.
+    /// It is dropped first, so that one guest is in memory at a time.
     GivenUp,
 }
 
-/// What an advance answers.
+/// What an advance returns.
 #[derive(Clone, Copy, PartialEq, Eq)]
 pub enum Progress {
     /// The audit is over: each compared artefact is the audited binary.
     Equal,
-    /// The audit is over: one of them differs from it.
+    /// The audit is over: a compared artefact differs from the audited binary.
     Differs,
     /// The audit is over: a stage's run made no artefact.
     RunFailed {
         /// The stage's number, from 1.
         stage: u32,
         cause: RunCause,
-        /// The step of the run, from 1; 0 where the program did not start.
+        /// The step of the run, from 1; 0 if the program did not start.
         step: u64,
     },
     /// The audit is over: an artefact is not what its source stands for.
@@ -73,8 +73,8 @@ pub enum Progress {
         stage: u32,
         cause: CheckCause,
     },
-    /// All steps that were asked for were taken, and the audit is not over.
+    /// All requested steps were taken, and the audit is not over.
     Paused,
-    /// Want of memory. The audit stands after the steps that were done, and may be advanced again.
+    /// Out of memory. The audit stands after the steps that were done, and may be advanced again.
     OutOfMemory,
 }

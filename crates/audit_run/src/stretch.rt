@@ -16,7 +16,7 @@ use ddc_base::OutOfMemory;
 use guest_run::{Guest, RunRam};
 use std::alloc::Global;
 
-/// A stage is done: its guest is given up where it is not to be kept.
+/// After a stage is done: drops its guest unless it is to be kept.
 fn leave(standing: &mut AuditStanding, ended: EndedGuest)
     ensures { KeepsStanding ended standing.old standing.new }
 {
@@ -26,7 +26,7 @@ fn leave(standing: &mut AuditStanding, ended: EndedGuest)
     }
 }
 
-/// A stage is done: the next one starts, or the audit is over. Want of memory leaves the stages as they were, and a guest that is kept.
+/// After a stage is done: starts the next one, or ends the audit. Error: out of memory, which leaves the stages and a guest that is kept.
 fn close(
     alloc: Global,
     conduct: &Conduct<'_>,
@@ -61,7 +61,7 @@ fn close(
     }
 }
 
-/// Steps of the present stage.
+/// At most `most` steps of the present stage.
 fn run_present(
     alloc: Global,
     so_far: &SoFar<'_>,
@@ -78,7 +78,8 @@ fn run_present(
     run_slice(alloc, so_far, stage, guest, most)
 }
 
-/// At least one step, or none left to take: up to the end of the present stage's run.
+/// Runs the present stage up to its end, by at most `most` steps. Returns how many of these are used up: at least one, and all if the audit
+/// is over. Error: out of memory.
 fn stretch(
     alloc: Global,
     conduct: &Conduct<'_>,

@@ -1,4 +1,4 @@
--- What the steps of a command do to a shelf. It serves the split of the code: no promise of a command rests on its being read.
+-- What the steps of a command do to a file store (`Shelf`). It serves the split of the code: no promise depends on its being read.
 use Rattle.std.specs.Prelude.{◌≡◌, ℕ, ◌<◌, ◌≤◌, ◌⊎◌, All, Result, Ok, Err, List, length}
 use Rattle.std.specs.Bool.{OnTrue}
 use Rattle.ddc_base.specs.declared.outside.Operation.TheVariants as operation
@@ -18,11 +18,11 @@ abbrev pub SaysBy : Plan → Result Answer Stop → Type 0
 SaysBy plan (Ok answer) = plan ≡ answers answer.status (answer.text)
 SaysBy plan (Err ending) = ending ≡ stop.OutOfMemory
 
--- the plan's answer is given with no call of a shelf, or memory was wanting
+-- the plan's answer is given without a call of the file store, or memory ran out
 pub record Says (plan : Plan) (result : Result Answer Stop) : Type 0 where
   pub by_result : SaysBy plan result
 
--- a needed name was refused: it is not held, or its content has more bytes than are allowed
+-- a needed name was refused: it does not exist, or its content is too long
 abbrev pub IsRefusal : ShelfState → List ℕ → ℕ → Answer → Type 0
 IsRefusal shelf name limit answer =
     (answer.status ≡ status.FileRefused)
@@ -41,7 +41,7 @@ FetchesBy name limit old new (Err (stop.ShelfFault text)) = (new ≡ after_fault
 FetchesBy name limit old new (Err stop.OutOfMemory) =
     (new ≡ old) ⊎ ((new ≡ after_call (Load name limit) old) ⊎ (new ≡ after_fault operation.Load name old))
 
--- a needed name was fetched, or ended the command
+-- a needed name was loaded, or ended the command
 pub record Fetches (name : List ℕ) (limit : ℕ) (old new : ShelfState) (result : Result (List ℕ) Stop) : Type 0 where
   pub by_result : FetchesBy name limit old new result
 
@@ -51,11 +51,11 @@ SavesBy name content old new (Err (stop.Answered answer)) = ⊥
 SavesBy name content old new (Err (stop.ShelfFault text)) = SaveFails name old new × (text ≡ shelf_fault_line name)
 SavesBy name content old new (Err stop.OutOfMemory) = (new ≡ old) ⊎ SaveFails name old new
 
--- a name was set, or ended the command
+-- a content was saved under a name, or ended the command
 pub record Saves (name content : List ℕ) (old new : ShelfState) (result : Result (Unit {0}) Stop) : Type 0 where
   pub by_result : SavesBy name content old new result
 
--- how a plan ends: with an answer, with a talk, at a call that failed, or for want of memory
+-- how a plan ends: with an answer, with a session, at a failed call, or out of memory
 pub data PlanEnding : Type 0 where
   concluding : Answer → PlanEnding
   talking : (List ℕ → Talk) → PlanEnding
@@ -68,11 +68,11 @@ EndsBy plan old new (talking talk) = Speaks plan old new talk
 EndsBy plan old new (faulting text) = Faults plan old new text
 EndsBy plan old new wanting = WantsMemory plan old new
 
--- the plan ended so
+-- the plan ended this way
 pub record EndsAs (plan : Plan) (old new : ShelfState) (ending : PlanEnding) : Type 0 where
   pub by_ending : EndsBy plan old new ending
 
--- from where the shelf stands now a plan goes on as the rest of it, whatever follows both
+-- from the file store's present state the plan continues as its rest, whatever follows both
 abbrev pub LeadsOn : {A : Type 0} → ((A → Plan) → Plan) → ((A → Plan) → Plan) → ShelfState → ShelfState → Type 0
 LeadsOn {A} plan rest old now = (next : A → Plan) (final : ShelfState) (ending : PlanEnding)
     → EndsAs (rest next) now final ending → EndsAs (plan next) old final ending

@@ -1,4 +1,4 @@
-//! The causes for which the run of a program fails, as every command prints them.
+//! Why the run of a program fails, as every command prints it.
 //!
 //! Their rules for people: docs/reference/command-line.md.
 
@@ -12,7 +12,7 @@ use elf_load::ElfRefusal;
 use rv64_machine::Cause;
 use std::alloc::Global;
 
-/// A trap.
+/// The text of a trap. Error: out of memory.
 #[tactic(auto, unfolding(crate::specs::Causes::Texts::trap_text))]
 pub fn trap(alloc: Global, cause: Cause) -> Result<String, OutOfMemory>
     ensures { IfOk result (λ text. string_bytes text ≡ trap_text cause) }
@@ -27,7 +27,7 @@ pub fn trap(alloc: Global, cause: Cause) -> Result<String, OutOfMemory>
     }
 }
 
-/// A trap at a word that is no instruction.
+/// The text of a trap at an illegal instruction.
 fn illegal(alloc: Global, word: u32) -> Result<String, OutOfMemory>
     ensures { IfOk result (λ text. string_bytes text ≡ spaced (codes "trap" ∷ codes "illegal" ∷ hex_word word ∷ [])) }
 {
@@ -37,7 +37,7 @@ fn illegal(alloc: Global, word: u32) -> Result<String, OutOfMemory>
     trap_with(alloc, "illegal", word.as_str())
 }
 
-/// A trap at an address.
+/// The text of a trap at an address.
 fn trap_at(alloc: Global, name: &str, address: u64) -> Result<String, OutOfMemory>
     ensures { IfOk result (λ text. string_bytes text ≡ spaced (codes "trap" ∷ name.now ∷ hex_address address ∷ [])) }
 {
@@ -47,21 +47,21 @@ fn trap_at(alloc: Global, name: &str, address: u64) -> Result<String, OutOfMemor
     trap_with(alloc, name, address.as_str())
 }
 
-/// A trap with what it holds.
+/// The text of a trap with a value.
 fn trap_with(alloc: Global, name: &str, value: &str) -> Result<String, OutOfMemory>
     ensures { IfOk result (λ text. string_bytes text ≡ spaced (codes "trap" ∷ name.now ∷ value.now ∷ [])) }
 {
     Ok(format!(in alloc; "trap {name} {value}")?)
 }
 
-/// Bytes in hexadecimal.
+/// Bytes in lower-case hexadecimal.
 fn hex_text(alloc: Global, bytes: &[u8]) -> Result<String, OutOfMemory>
     ensures { IfOk result (λ text. string_bytes text ≡ encode_lower bytes.now) }
 {
     Ok(hex::encode(alloc, bytes)?)
 }
 
-/// A call of a number that is none of the table.
+/// The text of a call with an unknown number. Error: out of memory.
 #[tactic(auto, unfolding(crate::specs::Causes::Texts::call_text))]
 pub fn call(alloc: Global, number: u64) -> Result<String, OutOfMemory>
     ensures { IfOk result (λ text. string_bytes text ≡ call_text number) }
@@ -69,7 +69,7 @@ pub fn call(alloc: Global, number: u64) -> Result<String, OutOfMemory>
     Ok(format!(in alloc; "call {number}")?)
 }
 
-/// A file that is no program, by the number of the refusal.
+/// The text of a file that is not a program, by the number of the refusal. Error: out of memory.
 #[tactic(auto, unfolding(crate::specs::Causes::Texts::elf_text))]
 pub fn elf(alloc: Global, refusal: ElfRefusal) -> Result<String, OutOfMemory>
     ensures { IfOk result (λ text. string_bytes text ≡ elf_text refusal) }
@@ -78,21 +78,21 @@ pub fn elf(alloc: Global, refusal: ElfRefusal) -> Result<String, OutOfMemory>
     Ok(format!(in alloc; "start elf {number}")?)
 }
 
-/// A start whose arguments and environment are too long.
+/// The text of a start whose arguments and environment are too long.
 pub fn args() -> &'static str
     ensures { result.now ≡ args_text }
 {
     "start args"
 }
 
-/// A start whose files are too large.
+/// The text of a start whose files are too large.
 pub fn box_files() -> &'static str
     ensures { result.now ≡ box_text }
 {
     "start box"
 }
 
-/// An exit with another status than 0.
+/// The text of an exit with a status other than 0. Error: out of memory.
 #[tactic(auto, unfolding(crate::specs::Causes::Texts::status_text))]
 pub fn status(alloc: Global, status: u8) -> Result<String, OutOfMemory>
     ensures { IfOk result (λ text. string_bytes text ≡ status_text status) }
@@ -100,7 +100,7 @@ pub fn status(alloc: Global, status: u8) -> Result<String, OutOfMemory>
     Ok(format!(in alloc; "status {status}")?)
 }
 
-/// A run that took all its steps.
+/// The text of a run whose step limit is exhausted.
 pub fn spent() -> &'static str
     ensures { result.now ≡ spent_text }
 {

@@ -1,4 +1,4 @@
-//! Words with a type: the name of a file, names of files that are not one, and a number of steps.
+//! Typed words: the name of a file, names of distinct files, and a number of steps.
 
 ghost use Rattle.std.specs.Prelude.{◌≡◌, ◌≤◌, ◌^◌, IsTrue};
 ghost use Rattle.ddc_base.specs.Outside.{IsFileName};
@@ -7,7 +7,7 @@ ghost use Rattle.command_plan.specs.Words.{as_file_name, as_four_files, as_steps
 use crate::words::{are_four_files, are_three_files, are_two_files, is_file_word, steps_of};
 use std::marker::Model;
 
-/// A word that can name a file: 1 to 255 bytes, none of them zero. Contracts see these bytes.
+/// The name of a file: 1 to 255 bytes, none of them zero. Contracts see these bytes.
 #[derive(Drop)]
 pub struct FileName<'w> {
     text: &'w str,
@@ -25,7 +25,7 @@ impl<'w> Model for FileName<'w> {
 }
 
 impl<'w> FileName<'w> {
-    /// The name that a word is, and `None` for every other word.
+    /// The word as a file name; `None` if it is not one.
     pub fn read(word: &'w str) -> Option<FileName<'w>>
         ensures { result ≡ as_file_name word.now }
     {
@@ -36,7 +36,7 @@ impl<'w> FileName<'w> {
         }
     }
 
-    /// The name that a text is which is known to be one.
+    /// A text that is known to be a file name.
     pub fn of(text: &'w str) -> FileName<'w>
         requires { IsTrue (is_file_word text.now) }
         ensures { result ≡ text.now }
@@ -44,7 +44,7 @@ impl<'w> FileName<'w> {
         FileName { text }
     }
 
-    /// The word, by which a shelf loads and saves.
+    /// The word by which a file store (`Shelf`) loads and saves.
     pub fn text(&self) -> &'w str
         ensures value { result.now ≡ self.now }
         ensures word { IsTrue (is_file_word self.now) }
@@ -54,7 +54,7 @@ impl<'w> FileName<'w> {
     }
 }
 
-/// The names that two words are, if they can name two files that are not one.
+/// Both words as file names; `None` if either is invalid or both name one file.
 pub fn two_files<'w>(first: &'w str, second: &'w str) -> Option<(FileName<'w>, FileName<'w>)>
     ensures { result ≡ as_two_files first.now second.now }
 {
@@ -65,7 +65,7 @@ pub fn two_files<'w>(first: &'w str, second: &'w str) -> Option<(FileName<'w>, F
     }
 }
 
-/// The names that three words are, if they can name three files.
+/// Three words as file names; `None` if one is invalid or two name one file.
 pub fn three_files<'w>(
     first: &'w str,
     second: &'w str,
@@ -84,7 +84,7 @@ pub fn three_files<'w>(
     }
 }
 
-/// The names that four words are, if they can name four files.
+/// Four words as file names; `None` if one is invalid or two name one file.
 #[tactic(auto, unfolding(crate::specs::Words::are_four_files))]
 pub fn four_files<'w>(
     first: &'w str,
@@ -106,7 +106,7 @@ pub fn four_files<'w>(
     }
 }
 
-/// A number of steps, from 1 to 2^48, which contracts see as this number.
+/// A number of steps, from 1 to 2^48, both included. Contracts see this number.
 #[derive(Clone, Copy)]
 pub struct StepCount {
     count: u64,
@@ -125,7 +125,7 @@ impl Model for StepCount {
 }
 
 impl StepCount {
-    /// The number of steps that a word is, and `None` for every other word.
+    /// The word as a number of steps; `None` if it is not one.
     pub fn read(word: &str) -> Option<StepCount>
         ensures { result ≡ as_steps word.now }
     {
@@ -133,7 +133,7 @@ impl StepCount {
         Some(StepCount { count })
     }
 
-    /// The number.
+    /// The number of steps.
     pub fn count(self) -> u64
         ensures value { result ≡ self }
         ensures some { 1 ≤ self }

@@ -8,7 +8,7 @@ use std::alloc::Global;
 use std::marker::Model;
 use std::str;
 
-/// A word of a list: 1 to 255 bytes from `!` to `~`, which contracts see as these bytes.
+/// A word of a list: 1 to 255 bytes, each from `!` to `~`. Contracts see these bytes.
 #[derive(Drop)]
 pub struct ListedWord {
     text: String,
@@ -26,7 +26,7 @@ impl Model for ListedWord {
 }
 
 impl ListedWord {
-    /// The word that a text is, and `None` for every other text.
+    /// The text as a listed word; `None` if it is not one. Error: out of memory.
     pub fn read(alloc: Global, text: &[u8]) -> Result<Option<ListedWord>, OutOfMemory>
         ensures { IfOk result (λ word. word ≡ listed_word text.now) }
     {
@@ -40,7 +40,7 @@ impl ListedWord {
         }
     }
 
-    /// A word's text, kept.
+    /// A copy of a listed word's text.
     fn keep(alloc: Global, text: &str) -> Result<ListedWord, OutOfMemory>
         requires { IsTrue (is_listed_word text.now) }
         ensures { IfOk result (λ word. word ≡ text.now) }
@@ -58,7 +58,7 @@ impl ListedWord {
         self.text.as_str()
     }
 
-    /// Shows that the word is one of a list.
+    /// Proves that the word is a listed word; does nothing else.
     pub fn show_listed(&self)
         ensures { IsTrue (is_listed_word self.now) }
     {
@@ -82,7 +82,7 @@ fn is_listed_word(text: &[u8]) -> bool
     !text.is_empty() && text.len() <= 255 && are_word_bytes(text)
 }
 
-/// Whether every byte may stand in a listed word.
+/// Whether every byte is allowed in a listed word.
 fn are_word_bytes(text: &[u8]) -> bool
     ensures { result ≡ list_all is_listed_byte text.now }
 {

@@ -1,4 +1,4 @@
-//! Files that list things, one a line.
+//! Files that are lists, one item a line.
 //!
 //! Their rules for people: docs/reference/command-line.md.
 
@@ -23,17 +23,17 @@ use std::alloc::Global;
 /// The most bytes of a list that is loaded.
 const LIST_LIMIT: u64 = 1_048_576;
 
-/// What a line of a list stands for.
+/// An item of a list, read from a line.
 pub trait Listed: Sized + Drop {
-    // What a line stands for, in the light of what the lines before it stand for.
+    // The item of a line, given the items of the lines before it.
     ghost form: { List Self → List ℕ → Option Self };
 
-    /// What a line stands for, after the earlier lines. None where it is not of the form.
+    /// The item of a line, after the earlier items; `None` if the line is invalid. Error: out of memory.
     fn read(alloc: Global, earlier: &[Self], line: &[u8]) -> Result<Option<Self>, OutOfMemory>
         ensures { IfOk result (λ item. item ≡ form earlier.now line.now) };
 }
 
-/// Fetches a list of at most so many lines, each ended by LF, and reads it. It is refused at the first line that is not of the form.
+/// Loads and reads a list of at most `most` lines, each ended by LF. Errors: the first invalid line, those of `fetch`, out of memory.
 pub fn fetch_list<T: Listed, S: Shelf>(
     alloc: Global,
     shelf: &mut S,
@@ -48,7 +48,7 @@ pub fn fetch_list<T: Listed, S: Shelf>(
     read(alloc, text, most)
 }
 
-/// Reads a list, and lets its text go.
+/// Reads a list and drops its text.
 fn read<T: Listed>(alloc: Global, text: Bytes, most: u32) -> Result<ListOf<T>, Stop>
     ensures obtained { (shelf : ShelfState) → Obtains (unless_refused (list_of T.form most text) (λ number. answers ListRefused (list_line number)))
         shelf shelf result }
@@ -61,7 +61,7 @@ fn read<T: Listed>(alloc: Global, text: Bytes, most: u32) -> Result<ListOf<T>, S
     }
 }
 
-/// The answer to a file that is no list, from this line on.
+/// The answer to a file that is not a list: its first invalid line. Error: out of memory.
 pub fn refused(alloc: Global, number: u64) -> Result<Answer, Stop>
     ensures { Says (answers ListRefused (list_line number)) result }
 {
@@ -71,7 +71,7 @@ pub fn refused(alloc: Global, number: u64) -> Result<Answer, Stop>
     })
 }
 
-/// What a text lists, or the number of the first line, from 1, that lists nothing.
+/// The items of a text, or the number of the first invalid line, from 1. Error: out of memory.
 #[tactic(auto, unfolding(crate::specs::Lists::list_of))]
 pub fn read_lines<T: Listed>(
     alloc: Global,
@@ -101,7 +101,7 @@ pub fn read_lines<T: Listed>(
     }
 }
 
-/// The line at the front of a text, and what follows its LF. None where no LF is left.
+/// The first line of a text, and what follows its LF; `None` if there is no LF.
 fn next_line(text: &[u8]) -> Option<(&[u8], &[u8])>
     ensures lines { MatchOption result (slice_split is_line_feed text.now ≡ text.now ∷ [])
         (λ cut. slice_split is_line_feed text.now ≡ cut.0.now ∷ slice_split is_line_feed cut.1.now) }

@@ -1,2 +1,2 @@
--- What serves the split of the code. No promise rests on its being read.
+-- What serves the split of the code. No promise depends on its being read.
 pub mod Words

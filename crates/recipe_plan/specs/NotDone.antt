@@ -17,7 +17,7 @@ use Rattle.audit_rules.specs.declared.cause.RunCause.TheVariants as run
 use Rattle.audit_rules.specs.declared.cause.StartCause.{StartCause}
 use Rattle.audit_rules.specs.declared.cause.StartCause.TheVariants as start
 
--- a start that is refused, and a run that made no artefact
+-- the text of a start that failed, and of a run that made no artefact
 abbrev pub start_cause_text : StartCause → List ℕ
 start_cause_text (start.Elf refusal) = elf_text refusal
 start_cause_text start.ArgsTooLong = args_text
@@ -32,7 +32,7 @@ run_cause_text run.NoOutput = codes "no-output"
 run_cause_text run.Spent = spent_text
 run_cause_text run.Crowded = codes "crowded"
 
--- an artefact that is not what its source stands for
+-- the text of an artefact that is not what its source stands for
 abbrev pub check_cause_text : CheckCause → List ℕ
 check_cause_text (check.Hex cause) = spaced (codes "hex" ∷ decimal (hex_cause_number cause) ∷ decimal (hex_cause_place cause) ∷ [])
 check_cause_text (check.M1 cause) = spaced (codes "m1" ∷ decimal (m1_cause_number cause) ∷ decimal (m1_cause_place cause) ∷ [])
@@ -43,7 +43,7 @@ check_cause_text (check.Differs place) = spaced (codes "differs" ∷ decimal pla
 unfoldable pub stage_name : List Stage → ℕ → List ℕ
 stage_name stages number = unwrap_or (option_map (λ (stage : Stage). stage.name) (slice_get stages (number - 1))) []
 
--- a stage made no artefact, or one that is not what its source stands for
+-- the line about a stage that made no artefact, and about one whose artefact is not what its source stands for
 unfoldable pub run_failed_line : List ℕ → RunCause → ℕ → List ℕ
 run_failed_line stage cause step =
     line (codes "run" ∷ codes "failed" ∷ stage ∷ run_cause_text cause ∷ codes "step" ∷ decimal step ∷ [])
@@ -51,7 +51,7 @@ run_failed_line stage cause step =
 unfoldable pub check_failed_line : List ℕ → CheckCause → List ℕ
 check_failed_line stage cause = line (codes "check" ∷ codes "failed" ∷ stage ∷ check_cause_text cause ∷ [])
 
--- a stage that is not done is said by its name, and nothing is saved
+-- the answer about a stage that is not done, by its name; nothing is saved
 abbrev pub unfinished : RecipeContents → ℕ → StageFault → Plan
 unfinished recipe number (Runs cause step) = answers RunFailed (run_failed_line (stage_name recipe.stages number) cause step)
 unfinished recipe number (Checks cause) = answers CheckFailed (check_failed_line (stage_name recipe.stages number) cause)

@@ -1,5 +1,5 @@
--- What the commands of a recipe begin with: the recipe, the files that are to be none of its inputs, and the inputs.
--- docs/reference/command-line.md and docs/reference/audit.md say the same for people.
+-- What commands on a recipe share: the recipe, its inputs, and the rule that other files are not inputs. docs/reference/command-line.md and
+-- docs/reference/audit.md say the same for people.
 use Rattle.std.specs.Prelude.{ℕ, Bool, List, ◌++◌, map, if◌then◌else◌}
 use Rattle.std.specs.List.{list_any}
 use Rattle.recipe.specs.Reading.{recipe_of}
@@ -10,14 +10,14 @@ use Rattle.command_plan.specs.Words.{is_one_file, usage}
 use Rattle.command_plan.specs.Plan.{Plan, answers, needs, needs_all, unless_refused}
 use Rattle.recipe_plan.specs.Texts.{recipe_line}
 
--- a text is read as a recipe; what is said of one that is none stands after `front`
+-- a text is read as a recipe; the answer to any other text stands after `front`
 abbrev pub reads_recipe_after : List ℕ → List ℕ → (RecipeContents → Plan) → Plan
 reads_recipe_after front text next = unless_refused (recipe_of text) (λ refusal. answers RecipeRefused (front ++ recipe_line refusal)) next
 
 abbrev pub reads_recipe : List ℕ → (RecipeContents → Plan) → Plan
 reads_recipe text next = unless_refused (recipe_of text) (λ refusal. answers RecipeRefused (recipe_line refusal)) next
 
--- the recipe is needed, of at most 1,048,576 bytes, and read
+-- the plan needs a recipe of at most 1,048,576 bytes, and reads it
 abbrev pub needs_recipe_after : List ℕ → List ℕ → (RecipeContents → Plan) → Plan
 needs_recipe_after front file next = needs file 1_048_576 (λ bytes. reads_recipe_after front bytes next)
 
@@ -32,14 +32,14 @@ paths recipe = map (λ (input : Input). input.path) recipe.inputs
 abbrev pub is_input : RecipeContents → List ℕ → Bool
 is_input recipe file = list_any (λ (input : Input). is_one_file input.path file) recipe.inputs
 
--- the file is to be none of the inputs
+-- the file must not be an input
 unfoldable pub needs_apart : RecipeContents → List ℕ → (Unit {0} → Plan) → Plan
 needs_apart recipe file next = if is_input recipe file then usage else next tt
 
--- the inputs are needed, each of at most 268,435,456 bytes and all of at most `room`
+-- the plan needs the inputs, each of at most 268,435,456 bytes and all of at most `room` together
 abbrev pub needs_inputs_within : ℕ → RecipeContents → (List (List ℕ) → Plan) → Plan
 needs_inputs_within room recipe next = needs_all 268_435_456 room (paths recipe) next
 
--- the same of at most 1,073,741,824
+-- the plan needs the inputs, all of at most 1,073,741,824 bytes together
 abbrev pub needs_inputs : RecipeContents → (List (List ℕ) → Plan) → Plan
 needs_inputs recipe next = needs_inputs_within 1_073_741_824 recipe next

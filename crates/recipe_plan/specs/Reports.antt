@@ -1,4 +1,4 @@
--- A report that is read, and the status of its comparisons. docs/reference/command-line.md says the same for people.
+-- Reading a report, and the status of its comparisons. docs/reference/command-line.md says the same for people.
 use Rattle.std.specs.Prelude.{ℕ, List, ◌++◌, if◌then◌else◌}
 use Rattle.report.specs.Reading.{report_of}
 use Rattle.report.specs.declared.types.CompareLine.{CompareLine}
@@ -9,7 +9,7 @@ use Rattle.command_plan.specs.declared.status.Status.TheVariants as status
 use Rattle.command_plan.specs.Plan.{Plan, answers, needs, unless_refused}
 use Rattle.command_plan.specs.Texts.{report_line}
 
--- the report is needed, of at most 1,073,741,824 bytes, and read; what is said of a file that is none stands after `front`
+-- the plan needs a report of at most 1,073,741,824 bytes, and reads it; the answer to any other file stands after `front`
 abbrev pub needs_report_after : List ℕ → List ℕ → (Report → Plan) → Plan
 needs_report_after front file next =
     needs file 1_073_741_824 (λ bytes. unless_refused (report_of bytes) (λ number. answers status.ReportRefused (front ++ report_line number)) next)
@@ -18,6 +18,6 @@ abbrev pub needs_report : List ℕ → (Report → Plan) → Plan
 needs_report file next =
     needs file 1_073_741_824 (λ bytes. unless_refused (report_of bytes) (λ number. answers status.ReportRefused (report_line number)) next)
 
--- the status of comparisons: each says equal, or one says differs
+-- the status of comparisons: `Yes` if each is equal, else `Differs`
 abbrev pub compared_status : List CompareLine → Status
 compared_status lines = if all_equal lines then status.Yes else status.Differs

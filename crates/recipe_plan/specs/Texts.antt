@@ -1,4 +1,4 @@
--- The printed lines on recipes and comparisons. docs/reference/command-line.md says the same for people.
+-- The printed lines about recipes and comparisons. docs/reference/command-line.md says the same for people.
 use Rattle.std.specs.Prelude.{ℕ, List, [], ◌∷◌, Option, Some, None, codes, decimal}
 use Rattle.std.specs.List.{flat_map}
 use Rattle.ddc_base.specs.Lines.{line}
@@ -11,13 +11,13 @@ use Rattle.report.specs.declared.types.CompareLine.{CompareLine}
 use Rattle.report.specs.declared.types.Compared.{Compared}
 use Rattle.report.specs.declared.types.Compared.TheVariants.{Equal, Differs}
 
--- where a recipe is refused: the table and its number, and the key
+-- where a recipe is refused: the table, its number, and the key, as far as the refusal has them
 abbrev pub place_words : Option Place → Option Key → List (List ℕ)
 place_words None key = []
 place_words (Some place) None = table_word place.table ∷ decimal place.number ∷ []
 place_words (Some place) (Some key) = table_word place.table ∷ decimal place.number ∷ key_word key ∷ []
 
--- a file is no recipe
+-- the line about a file that is not a recipe
 unfoldable pub recipe_line : RecipeRefusal → List ℕ
 recipe_line refusal =
     line (codes "recipe" ∷ codes "refused" ∷ decimal (recipe_refusal_number refusal) ∷ place_words (recipe_refusal_place refusal) (refusal_key refusal))

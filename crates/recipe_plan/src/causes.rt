@@ -9,7 +9,7 @@ use audit_rules::{RunCause, StartCause};
 use ddc_base::OutOfMemory;
 use std::alloc::Global;
 
-/// A run that made no artefact.
+/// The text of a run that made no artefact. Error: out of memory.
 pub fn run_cause(alloc: Global, cause: RunCause) -> Result<String, OutOfMemory>
     ensures { IfOk result (λ text. string_bytes text ≡ run_cause_text cause) }
 {
@@ -24,7 +24,7 @@ pub fn run_cause(alloc: Global, cause: RunCause) -> Result<String, OutOfMemory>
     }
 }
 
-/// A start that is refused.
+/// The text of a start that failed.
 fn start_cause(alloc: Global, cause: StartCause) -> Result<String, OutOfMemory>
     ensures { IfOk result (λ text. string_bytes text ≡ start_cause_text cause) }
 {
@@ -35,7 +35,7 @@ fn start_cause(alloc: Global, cause: StartCause) -> Result<String, OutOfMemory>
     }
 }
 
-/// An artefact that is not what its source stands for.
+/// The text of an artefact that is not what its source stands for. Error: out of memory.
 pub fn check_cause(alloc: Global, cause: CheckCause) -> Result<String, OutOfMemory>
     ensures { IfOk result (λ text. string_bytes text ≡ check_cause_text cause) }
 {
@@ -47,7 +47,7 @@ pub fn check_cause(alloc: Global, cause: CheckCause) -> Result<String, OutOfMemo
     }
 }
 
-/// A cause that has a number in its language, and a place.
+/// The text of a refusal of a language, with its number and its place.
 fn numbered(alloc: Global, language: &str, number: u8, place: u64) -> Result<String, OutOfMemory>
     ensures { IfOk result (λ text. string_bytes text ≡ spaced (language.now ∷ decimal number ∷ decimal place ∷ [])) }
 {

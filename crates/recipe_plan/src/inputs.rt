@@ -1,4 +1,4 @@
-//! The inputs of a recipe that are fetched.
+//! Loading the inputs of a recipe.
 
 ghost use Rattle.std.specs.Prelude.{◌≡◌, ◌≤◌, IfOk, All, length, map};
 ghost use Rattle.mem_files.specs.Outputs.{IsContent};
@@ -14,7 +14,7 @@ use ddc_base::Shelf;
 use recipe::{Input, Inputs, Path, Recipe};
 use std::alloc::Global;
 
-/// The most bytes of all inputs together that a command takes.
+/// The most bytes of all inputs together that a command loads.
 pub const INPUTS_LIMIT: u64 = 1_073_741_824;
 
 /// A recipe, and a content for each of its inputs.
@@ -25,7 +25,7 @@ pub struct Supplied {
     pub ghost given: { IsInputs recipe inputs },
 }
 
-/// Fetches the inputs of a recipe, in order.
+/// Loads the inputs of a recipe, in order, at most 1,073,741,824 bytes together. Errors: those of `command_plan::fetch`.
 pub fn fetch_inputs<S: Shelf>(alloc: Global, shelf: &mut S, recipe: &Recipe) -> Result<Inputs, Stop>
     ensures obtained { Obtains (needs_inputs recipe.now) (S.state shelf.old) (S.state shelf.new) result }
     ensures inputs { IfOk result (IsInputs recipe.now) }
@@ -34,7 +34,7 @@ pub fn fetch_inputs<S: Shelf>(alloc: Global, shelf: &mut S, recipe: &Recipe) -> 
     fetch_inputs_within(alloc, shelf, recipe, INPUTS_LIMIT)
 }
 
-/// The same where all of them may have at most `room` bytes together.
+/// Loads the inputs of a recipe, in order, at most `room` bytes together. Errors: those of `command_plan::fetch`.
 pub fn fetch_inputs_within<S: Shelf>(
     alloc: Global,
     shelf: &mut S,
@@ -48,7 +48,7 @@ pub fn fetch_inputs_within<S: Shelf>(
     fetch_each(alloc, shelf, recipe.inputs().as_slice(), room)
 }
 
-/// Fetches these inputs, in order.
+/// Loads these inputs, in order.
 fn fetch_each<S: Shelf>(
     alloc: Global,
     shelf: &mut S,
@@ -77,7 +77,7 @@ fn name_of(path: &Path) -> FileName<'_>
     FileName::of(path.as_str())
 }
 
-/// How many bytes an input has.
+/// The length of an input in bytes.
 fn size_of(content: &[u8]) -> u64
     requires { length content.now ≤ 268_435_456 }
     ensures size { result ≡ length content.now }

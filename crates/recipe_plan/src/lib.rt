@@ -1,5 +1,5 @@
-//! What the commands of a recipe begin with: the recipe, the files that are to be none of its inputs, the inputs, and a report; the lines on
-//! these that several commands print; and what they say of a stage that is not done.
+//! What commands on a recipe share: loading the recipe, its inputs and a report, and the rule that other files are not inputs. Also the
+//! lines that several commands print about these and about a stage that is not done.
 //!
 //! Its rules for people: docs/reference/command-line.md and docs/reference/audit.md.
 #![tactic(auto)]

@@ -1,4 +1,4 @@
-//! What is said of a stage that is not done.
+//! Answers about a stage that is not done.
 
 ghost use Rattle.std.specs.Prelude.{◌≡◌, ◌++◌, IfOk, OnOk};
 ghost use Rattle.command_plan.specs.declared.status.Status.TheVariants.{CheckFailed, RunFailed};
@@ -14,7 +14,7 @@ use ddc_base::{Bytes, OutOfMemory};
 use recipe::Recipe;
 use std::alloc::Global;
 
-/// The answer of a stage that is not done.
+/// The answer about a stage that is not done, by its number from 1. Error: out of memory.
 pub fn unfinished(
     alloc: Global,
     recipe: &Recipe,
@@ -30,7 +30,7 @@ pub fn unfinished(
     }
 }
 
-/// The answer of a stage of this name that made no artefact.
+/// The answer about a stage of this name that made no artefact. Error: out of memory.
 pub fn run_failed(alloc: Global, stage: &[u8], cause: RunCause, step: u64) -> Result<Answer, Stop>
     ensures { Says (answers RunFailed (run_failed_line stage.now cause step)) result }
 {
@@ -40,7 +40,7 @@ pub fn run_failed(alloc: Global, stage: &[u8], cause: RunCause, step: u64) -> Re
     })
 }
 
-/// The answer of a stage of this name whose artefact is not what its source stands for.
+/// The answer about a stage of this name whose artefact is not what its source stands for.
 fn check_failed(alloc: Global, stage: &[u8], cause: CheckCause) -> Result<Answer, Stop>
     ensures { Says (answers CheckFailed (check_failed_line stage.now cause)) result }
 {
@@ -61,7 +61,7 @@ pub fn stage_name(recipe: &Recipe, number: u32) -> &[u8]
     }
 }
 
-/// A line about a stage: what stands in front of its name, the name, and what stands after it.
+/// A line about a stage: `front`, the stage's name, and `after`. Error: out of memory.
 pub fn about_stage(
     alloc: Global,
     front: &[u8],
@@ -75,7 +75,7 @@ pub fn about_stage(
     Ok(text)
 }
 
-/// Adds both to a text.
+/// Adds two texts to a text.
 fn put_two(text: &mut Bytes, first: &[u8], second: &[u8]) -> Result<(), OutOfMemory>
     ensures { OnOk result (text.new ≡ text.old ++ (first.now ++ second.now)) }
 {
@@ -84,7 +84,7 @@ fn put_two(text: &mut Bytes, first: &[u8], second: &[u8]) -> Result<(), OutOfMem
     Ok(())
 }
 
-/// A stage made no artefact.
+/// The line about a stage that made no artefact.
 #[tactic(auto, using(crate::proofs::Written::written), unfolding(crate::specs::NotDone::run_failed_line))]
 fn run_failed_line(
     alloc: Global,
@@ -99,7 +99,7 @@ fn run_failed_line(
     about_stage(alloc, b"run failed ", stage, &after)
 }
 
-/// A stage made an artefact that is not what its source stands for.
+/// The line about a stage whose artefact is not what its source stands for.
 #[tactic(auto, using(crate::proofs::Written::written), unfolding(crate::specs::NotDone::check_failed_line))]
 fn check_failed_line(alloc: Global, stage: &[u8], cause: CheckCause) -> Result<Bytes, OutOfMemory>
     ensures { IfOk result (λ text. text ≡ check_failed_line stage.now cause) }

@@ -1,4 +1,4 @@
-//! A recipe that is fetched and read, and files that are to be none of its inputs.
+//! Loading and reading a recipe, and the rule that other files are not its inputs.
 
 ghost use Rattle.std.specs.Prelude.{◌≡◌, ◌++◌};
 ghost use Rattle.ddc_base.specs.Outside.{ShelfState};
@@ -18,7 +18,7 @@ use std::alloc::Global;
 /// The most bytes of a recipe that is loaded.
 const RECIPE_LIMIT: u64 = 1_048_576;
 
-/// Fetches a recipe and reads it.
+/// Loads and reads a recipe. Errors: not a recipe, and those of `command_plan::fetch`.
 pub fn fetch_recipe<S: Shelf>(
     alloc: Global,
     shelf: &mut S,
@@ -29,7 +29,7 @@ pub fn fetch_recipe<S: Shelf>(
     fetch_recipe_after(alloc, shelf, file, &[])
 }
 
-/// The same, where what is said of a file that is no recipe stands after `front`.
+/// Loads and reads a recipe; the answer to any other file stands after `front`. Errors: that answer, and those of `command_plan::fetch`.
 pub fn fetch_recipe_after<S: Shelf>(
     alloc: Global,
     shelf: &mut S,
@@ -42,14 +42,14 @@ pub fn fetch_recipe_after<S: Shelf>(
     read(alloc, bytes, front)
 }
 
-/// Reads a recipe, and lets its text go.
+/// Reads a recipe and drops its text.
 fn read(alloc: Global, bytes: Bytes, front: &[u8]) -> Result<Recipe, Stop>
     ensures { (shelf : ShelfState) → Obtains (reads_recipe_after front.now bytes) shelf shelf result }
 {
     read_recipe(alloc, bytes.as_slice(), front)
 }
 
-/// Reads a text as a recipe. What is said of one that is none stands after `front`.
+/// Reads a text as a recipe; the answer to any other text stands after `front`. Errors: that answer, and out of memory.
 pub fn read_recipe(alloc: Global, text: &[u8], front: &[u8]) -> Result<Recipe, Stop>
     ensures { (shelf : ShelfState) → Obtains (reads_recipe_after front.now text.now) shelf shelf result }
 {
@@ -60,7 +60,7 @@ pub fn read_recipe(alloc: Global, text: &[u8], front: &[u8]) -> Result<Recipe, S
     }
 }
 
-/// The answer to a file that is no recipe, after `front`.
+/// The answer to a file that is not a recipe, after `front`.
 fn refused(alloc: Global, refusal: RecipeRefusal, front: &[u8]) -> Result<Answer, Stop>
     ensures { Says (answers RecipeRefused (front.now ++ recipe_line refusal)) result }
 {
@@ -71,7 +71,7 @@ fn refused(alloc: Global, refusal: RecipeRefusal, front: &[u8]) -> Result<Answer
     })
 }
 
-/// Ends the command where a file is one of the recipe's inputs.
+/// Ends the command with `usage` if a file is one of the recipe's inputs. Error: out of memory.
 #[tactic(auto, unfolding(crate::specs::Recipes::needs_apart))]
 pub fn apart(alloc: Global, recipe: &Recipe, file: &FileName<'_>) -> Result<(), Stop>
     ensures { (shelf : ShelfState) → Obtains (needs_apart recipe.now file.now) shelf shelf result }

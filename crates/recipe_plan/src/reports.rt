@@ -1,4 +1,4 @@
-//! A report that is fetched and read, and the status of its comparisons.
+//! Loading and reading a report, and the status of its comparisons.
 
 ghost use Rattle.std.specs.Prelude.{◌≡◌, ◌++◌, IfOk};
 ghost use Rattle.ddc_base.specs.Outside.{ShelfState};
@@ -17,10 +17,10 @@ use ddc_base::{Bytes, Shelf};
 use report::{CompareLine, Report, ReportRefusal};
 use std::alloc::Global;
 
-/// The most bytes of a report that is loaded. The text of every report has fewer.
+/// The most bytes of a report that is loaded. Every report has fewer.
 const REPORT_LIMIT: u64 = 1_073_741_824;
 
-/// Fetches a report and reads it.
+/// Loads and reads a report. Errors: not a report, and those of `command_plan::fetch`.
 pub fn fetch_report<S: Shelf>(
     alloc: Global,
     shelf: &mut S,
@@ -32,7 +32,7 @@ pub fn fetch_report<S: Shelf>(
     fetch_report_after(alloc, shelf, file, &[])
 }
 
-/// The same, where what is said of a file that is no report stands after `front`.
+/// Loads and reads a report; the answer to any other file stands after `front`. Errors: that answer, and those of `command_plan::fetch`.
 pub fn fetch_report_after<S: Shelf>(
     alloc: Global,
     shelf: &mut S,
@@ -46,7 +46,7 @@ pub fn fetch_report_after<S: Shelf>(
     read(alloc, bytes, front)
 }
 
-/// Reads a report, and lets its text go.
+/// Reads a report and drops its text.
 fn read(alloc: Global, bytes: Bytes, front: &[u8]) -> Result<Report, Stop>
     ensures obtained { (shelf : ShelfState) → Obtains (unless_refused (report_of bytes) (λ number. answers ReportRefused (front.now ++ report_line number)))
         shelf shelf result }
@@ -59,7 +59,7 @@ fn read(alloc: Global, bytes: Bytes, front: &[u8]) -> Result<Report, Stop>
     }
 }
 
-/// The answer to a file that is no report, from this line on, after `front`.
+/// The answer to a file that is not a report, with its first invalid line, after `front`.
 fn refused(alloc: Global, number: u64, front: &[u8]) -> Result<Answer, Stop>
     ensures { Says (answers ReportRefused (front.now ++ report_line number)) result }
 {
@@ -70,7 +70,7 @@ fn refused(alloc: Global, number: u64, front: &[u8]) -> Result<Answer, Stop>
     })
 }
 
-/// The status of comparisons: whether each of them found no difference.
+/// The status of comparisons: `Yes` if each is equal, else `Differs`.
 pub fn compared_status(lines: &[CompareLine]) -> Status
     ensures { result ≡ compared_status lines.now }
 {

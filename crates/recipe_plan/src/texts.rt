@@ -1,4 +1,4 @@
-//! The lines on recipes and comparisons.
+//! The lines about recipes and comparisons.
 
 ghost use Rattle.std.specs.Prelude.{◌≡◌, ◌∷◌, ◌++◌, [], codes, decimal, IfOk, OnOk};
 ghost use Rattle.ddc_base.specs.Lines.{line};
@@ -10,7 +10,7 @@ use recipe::{Key, Place, RecipeRefusal};
 use report::{CompareLine, Compared};
 use std::alloc::Global;
 
-/// A text after what stands in front of it.
+/// A copy of `front` and then `text`. Error: out of memory.
 pub fn after(alloc: Global, front: &[u8], text: &[u8]) -> Result<Bytes, OutOfMemory>
     ensures { IfOk result (λ whole. whole ≡ front.now ++ text.now) }
 {
@@ -19,7 +19,7 @@ pub fn after(alloc: Global, front: &[u8], text: &[u8]) -> Result<Bytes, OutOfMem
     Ok(whole)
 }
 
-/// A file is no recipe.
+/// The line about a file that is not a recipe. Error: out of memory.
 #[tactic(auto, unfolding(crate::specs::Texts::recipe_line))]
 pub fn recipe_line(alloc: Global, refusal: RecipeRefusal) -> Result<Bytes, OutOfMemory>
     ensures { IfOk result (λ text. text ≡ recipe_line refusal) }
@@ -32,14 +32,14 @@ pub fn recipe_line(alloc: Global, refusal: RecipeRefusal) -> Result<Bytes, OutOf
     }
 }
 
-/// A refusal of the whole text.
+/// The line of a refusal of the whole text.
 fn refused(alloc: Global, number: u8) -> Result<Bytes, OutOfMemory>
     ensures { IfOk result (λ text. text ≡ line (codes "recipe" ∷ codes "refused" ∷ decimal number ∷ [])) }
 {
     Ok(Bytes::from_vec(format!(in alloc; "recipe refused {number}\n")?.into_bytes()))
 }
 
-/// A refusal of a table.
+/// The line of a refusal of a table.
 fn refused_at(alloc: Global, number: u8, place: Place) -> Result<Bytes, OutOfMemory>
     ensures { IfOk result (λ text. text ≡ line (codes "recipe" ∷ codes "refused" ∷ decimal number ∷ table_word place.table ∷ decimal place.number ∷ [])) }
 {
@@ -48,7 +48,7 @@ fn refused_at(alloc: Global, number: u8, place: Place) -> Result<Bytes, OutOfMem
     Ok(Bytes::from_vec(format!(in alloc; "recipe refused {number} {table} {item}\n")?.into_bytes()))
 }
 
-/// A refusal of a key.
+/// The line of a refusal of a key.
 fn refused_key(alloc: Global, number: u8, place: Place, key: Key) -> Result<Bytes, OutOfMemory>
     ensures { IfOk result (λ text. text ≡ line (codes "recipe" ∷ codes "refused" ∷ decimal number ∷ table_word place.table ∷ decimal place.number
         ∷ key_word key ∷ [])) }
@@ -61,7 +61,7 @@ fn refused_key(alloc: Global, number: u8, place: Place, key: Key) -> Result<Byte
     )?.into_bytes()))
 }
 
-/// A line for each comparison, in order.
+/// One line for each comparison, in order. Error: out of memory.
 #[tactic(auto, unfolding(crate::specs::Texts::compared_lines))]
 pub fn compared_lines(alloc: Global, lines: &[CompareLine]) -> Result<Bytes, OutOfMemory>
     ensures { IfOk result (λ text. text ≡ compared_lines lines.now) }
@@ -73,7 +73,7 @@ pub fn compared_lines(alloc: Global, lines: &[CompareLine]) -> Result<Bytes, Out
     Ok(text)
 }
 
-/// Adds how a compared artefact and the binary compare: of an equal one its length, else the first offset and both lengths.
+/// Adds how a compared artefact and the binary compare: if equal the length, else the first offset that differs and both lengths.
 #[tactic(auto, using(crate::proofs::Written::written), unfolding(crate::specs::Texts::compared_line))]
 fn put_compared(alloc: Global, text: &mut Bytes, line: &CompareLine) -> Result<(), OutOfMemory>
     ensures { OnOk result (text.new ≡ text.old ++ compared_line line.now) }
@@ -92,7 +92,7 @@ fn put_compared(alloc: Global, text: &mut Bytes, line: &CompareLine) -> Result<(
     }
 }
 
-/// Adds the names of the stage and of the binary, with a blank after each.
+/// Adds the names of the stage and of the binary, each with a blank after it.
 #[tactic(auto, using(crate::proofs::Written::written))]
 fn put_names(text: &mut Bytes, names: &CompareLine) -> Result<(), OutOfMemory>
     ensures { OnOk result (text.new ≡ text.old ++ names.now.stage ++ 32 ∷ names.now.binary ++ 32 ∷ []) }

@@ -5,7 +5,7 @@ ghost use Rattle.recipe_plan.specs.Inside.Words.{as_audit_words};
 
 use command_plan::{FileName, two_files};
 
-/// A recipe, and the report of its audit.
+/// The names of a recipe and of the report of its audit.
 #[derive(Drop)]
 pub struct AuditWords<'w> {
     pub recipe: FileName<'w>,
@@ -13,7 +13,7 @@ pub struct AuditWords<'w> {
 }
 
 impl<'w> AuditWords<'w> {
-    /// The words `RECIPE REPORT`, and `None` for every other.
+    /// The words `RECIPE REPORT`; `None` for any others.
     pub fn read(words: &[&'w str]) -> Option<AuditWords<'w>>
         ensures { result ≡ as_audit_words (map (λ w. w.now) words.now) }
     {

@@ -1,22 +1,22 @@
-/// What a line of a session asks for.
+/// A command of a session, read from a line.
 #[derive(Clone, Copy)]
 pub enum SessionCommand {
-    /// Where the program stands.
+    /// Print where the program stands.
     Where,
-    /// So many steps, from 1 to 2^48.
+    /// Take this many steps, from 1 to 2^48, both included.
     Step(u64),
-    /// Steps up to the break or to the end.
+    /// Run to the break or to the end.
     Go,
-    /// So many steps fewer, from 1 to 2^48.
+    /// Go back by this many steps, from 1 to 2^48, both included.
     Back(u64),
-    /// A break at an address, in place of the earlier one.
+    /// Set the break to an address; it replaces the earlier one.
     Break(u64),
-    /// The pc and the registers.
+    /// Print the pc and the registers.
     Regs,
-    /// So many bytes, from 1 to 64, at an address.
+    /// Print this many bytes, from 1 to 64, at an address.
     Mem(u64, u8),
-    /// The end of the session.
+    /// End the session.
     Quit,
-    /// A line that is none of the others.
+    /// Any other line.
     Unknown,
 }

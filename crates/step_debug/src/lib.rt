@@ -1,4 +1,4 @@
-//! Stepping sessions: a program's run, looked at line by line. Lines are commands (`lines`), and each reply is one line (`replies`).
+//! Stepping sessions: a program's run, line by line. Each line is a command (`lines`), and each reply is one line (`replies`).
 //!
 //! The rules for people: docs/reference/step.md.
 #![tactic(auto)]

@@ -1,4 +1,4 @@
-//! The lines of a session, as commands.
+//! Reading the lines of a session as commands.
 
 ghost use Rattle.std.specs.Prelude.{◌≡◌, ◌==◌, ◌+◌, ◌<◌, ◌^◌, ◌≤◌, IfSome, length, drop, option_map};
 ghost use Rattle.std.specs.List.{position};
@@ -7,9 +7,9 @@ ghost use Rattle.step_debug.specs.Lines.{as_address, as_count, command_of, cut, 
 use crate::command::SessionCommand;
 use ddc_base::read_decimal;
 
-/// The most steps that a line can name: 2^48.
+/// The most steps that a line can request: 2^48.
 const MOST_STEPS: u64 = 281_474_976_710_656;
-/// The most bytes that a line can ask for.
+/// The most bytes of memory that a line can request.
 const MOST_BYTES: u64 = 64;
 
 /// The command of a line.
@@ -32,7 +32,7 @@ pub fn read_command(line: &[u8]) -> SessionCommand
     }
 }
 
-/// The command of a word and what stands after the blank after it.
+/// The command of a word and the rest of the line after the blank.
 fn worded(word: &[u8], rest: &[u8]) -> SessionCommand
     ensures { result ≡ worded word.now rest.now }
 {
@@ -61,7 +61,7 @@ fn worded(word: &[u8], rest: &[u8]) -> SessionCommand
     }
 }
 
-/// The command for bytes, where their address and their number are right.
+/// The command `mem`; unknown if the address or the number is invalid.
 fn ranged(at: Option<u64>, count: Option<u64>) -> SessionCommand
     requires { IfSome count (λ count. count ≤ 64) }
     ensures { result ≡ ranged at count }
@@ -72,7 +72,7 @@ fn ranged(at: Option<u64>, count: Option<u64>) -> SessionCommand
     }
 }
 
-/// What stands before the first blank, and what after it.
+/// What is before the first blank and what is after it; `None` without a blank.
 #[tactic(auto, unfolding(crate::specs::Lines::cut))]
 fn cut(text: &[u8]) -> Option<(&[u8], &[u8])>
     ensures { option_map (λ cut. (cut.0.now, cut.1.now)) result ≡ cut text.now }
@@ -83,7 +83,7 @@ fn cut(text: &[u8]) -> Option<(&[u8], &[u8])>
     }
 }
 
-/// Where the first blank is.
+/// The index of the first blank.
 fn place_of_blank(text: &[u8]) -> Option<usize>
     ensures value { result ≡ position (λ b. b == 32) text.now }
     ensures within { IfSome result (λ at. at < length text.now) }
@@ -91,7 +91,7 @@ fn place_of_blank(text: &[u8]) -> Option<usize>
     text.iter().position(|byte| *byte == b' ')
 }
 
-/// What stands after a place.
+/// What is after an index.
 fn after(text: &[u8], at: usize) -> &[u8]
     requires { at < length text.now }
     ensures { result.now ≡ drop (at + 1) text.now }
@@ -99,7 +99,7 @@ fn after(text: &[u8], at: usize) -> &[u8]
     &text[at + 1..]
 }
 
-/// A decimal number from 1 to `most`.
+/// A decimal number from 1 to `most`, both included; `None` for any other text.
 #[tactic(auto, unfolding(crate::specs::Lines::as_count))]
 fn read_count(most: u64, text: &[u8]) -> Option<u64>
     ensures value { result ≡ as_count most text.now }
@@ -111,7 +111,7 @@ fn read_count(most: u64, text: &[u8]) -> Option<u64>
     }
 }
 
-/// An address in 1 to 16 hexadecimal digits.
+/// An address in 1 to 16 hexadecimal digits; `None` for any other text.
 #[tactic(auto, unfolding(crate::specs::Lines::as_address))]
 fn read_address(text: &[u8]) -> Option<u64>
     ensures { result ≡ as_address text.now }
@@ -123,7 +123,7 @@ fn read_address(text: &[u8]) -> Option<u64>
     }
 }
 
-/// The number below 2^64 that hexadecimal digits write.
+/// The number below 2^64 that hexadecimal digits write; `None` for any other text.
 #[tactic(auto, using(crate::proofs::Digits::digits))]
 fn number_of(text: &[u8]) -> Option<u64>
     ensures { result ≡ number_from 0 text.now }
@@ -138,7 +138,7 @@ fn number_of(text: &[u8]) -> Option<u64>
     Some(value)
 }
 
-/// A number with one more digit, where that is one, and the number is below 2^64.
+/// A number with one more hexadecimal digit; `None` if it is not a digit or the result is not below 2^64.
 fn with_digit(value: u64, byte: u8) -> Option<u64>
     ensures { result ≡ with_digit value (λ number. Some number) (digit_of byte) }
 {
@@ -146,7 +146,7 @@ fn with_digit(value: u64, byte: u8) -> Option<u64>
     value.checked_mul(16)?.checked_add(digit)
 }
 
-/// The value of a hexadecimal digit in lower case.
+/// The value of a lower-case hexadecimal digit.
 fn digit_of(byte: u8) -> Option<u64>
     ensures { result ≡ digit_of byte }
 {

@@ -1,4 +1,4 @@
-//! The replies of a session, a line each.
+//! The replies of a session, one line each.
 
 ghost use Rattle.std.specs.Prelude.{◌≡◌, ◌++◌, ◌∷◌, ◌<◌, IfOk, OnOk, Some};
 ghost use Rattle.std.specs.List.{flat_map};
@@ -26,7 +26,7 @@ fn put_address(text: &mut Bytes, address: u64) -> Result<(), OutOfMemory>
     put_hex(text, &bytes)
 }
 
-/// Adds the instruction of a word, or `?` for a word that is none.
+/// Adds the instruction of a word; `?` for an illegal word.
 fn put_instruction(text: &mut Bytes, at: u64, word: u32) -> Result<(), OutOfMemory>
     ensures { OnOk result (text.new ≡ text.old ++ shown_instruction at (decoded word)) }
 {
@@ -36,7 +36,7 @@ fn put_instruction(text: &mut Bytes, at: u64, word: u32) -> Result<(), OutOfMemo
     }
 }
 
-/// Adds the instruction at the pc, or `?` where none is.
+/// Adds the instruction at the pc; `?` if no instruction is there.
 fn put_fetched(text: &mut Bytes, guest: &Guest<RunRam>) -> Result<(), OutOfMemory>
     ensures { OnOk result (text.new ≡ text.old ++ fetched_text guest.now.hart.pc (reads guest.now.hart.memory guest.now.hart.pc 4)) }
 {
@@ -47,7 +47,7 @@ fn put_fetched(text: &mut Bytes, guest: &Guest<RunRam>) -> Result<(), OutOfMemor
     }
 }
 
-/// The steps that were taken, the pc, and the instruction there.
+/// The line with the steps taken, the pc and the instruction there. Error of each line: out of memory.
 #[tactic(auto, using(crate::proofs::Written::written), unfolding(crate::specs::Replies::where_line))]
 pub(crate) fn where_line(alloc: Global, guest: &Guest<RunRam>) -> Result<Bytes, OutOfMemory>
     ensures { IfOk result (λ text. text ≡ where_line guest.now) }
@@ -62,7 +62,7 @@ pub(crate) fn where_line(alloc: Global, guest: &Guest<RunRam>) -> Result<Bytes, 
     Ok(text)
 }
 
-/// A run ended for a cause, at a step.
+/// The line of the end of a run, with its cause and step.
 #[tactic(auto, unfolding(crate::specs::Replies::end_line))]
 fn end_line(alloc: Global, cause: &str, step: u64) -> Result<Bytes, OutOfMemory>
     ensures { IfOk result (λ text. text ≡ end_line cause.now step) }
@@ -70,7 +70,7 @@ fn end_line(alloc: Global, cause: &str, step: u64) -> Result<Bytes, OutOfMemory>
     Ok(Bytes::from_vec(format!(in alloc; "end {cause} step {step}\n")?.into_bytes()))
 }
 
-/// The program exited.
+/// The line of an exit.
 pub(crate) fn exited_line(alloc: Global, status: u8, step: u64) -> Result<Bytes, OutOfMemory>
     ensures { IfOk result (λ text. text ≡ end_line (end_text (Exited status)) step) }
 {
@@ -78,7 +78,7 @@ pub(crate) fn exited_line(alloc: Global, status: u8, step: u64) -> Result<Bytes,
     end_line(alloc, cause.as_str(), step)
 }
 
-/// The program trapped.
+/// The line of a trap.
 pub(crate) fn trapped_line(alloc: Global, cause: Cause, step: u64) -> Result<Bytes, OutOfMemory>
     ensures { IfOk result (λ text. text ≡ end_line (end_text (Trapped cause)) step) }
 {
@@ -86,7 +86,7 @@ pub(crate) fn trapped_line(alloc: Global, cause: Cause, step: u64) -> Result<Byt
     end_line(alloc, cause.as_str(), step)
 }
 
-/// The program made a call of a number that is none of the table.
+/// The line of a call with an unknown number.
 pub(crate) fn call_line(alloc: Global, number: u64, step: u64) -> Result<Bytes, OutOfMemory>
     ensures { IfOk result (λ text. text ≡ end_line (end_text (UnknownCall number)) step) }
 {
@@ -94,14 +94,14 @@ pub(crate) fn call_line(alloc: Global, number: u64, step: u64) -> Result<Bytes, 
     end_line(alloc, cause.as_str(), step)
 }
 
-/// All steps that the stage may take were taken.
+/// The line of an exhausted step limit.
 pub(crate) fn spent_line(alloc: Global, limit: u64) -> Result<Bytes, OutOfMemory>
     ensures { IfOk result (λ text. text ≡ end_line spent_text limit) }
 {
     end_line(alloc, causes::spent(), limit)
 }
 
-/// The pc and the registers.
+/// The line of the pc and the registers.
 pub(crate) fn regs_line(alloc: Global, guest: &Guest<RunRam>) -> Result<Bytes, OutOfMemory>
     ensures { IfOk result (λ text. text ≡ regs_line guest.now.hart) }
 {
@@ -113,7 +113,7 @@ pub(crate) fn regs_line(alloc: Global, guest: &Guest<RunRam>) -> Result<Bytes, O
     Ok(text)
 }
 
-/// Adds values, a blank before each.
+/// Adds values, with a blank before each.
 fn put_values(text: &mut Bytes, values: &[u64]) -> Result<(), OutOfMemory>
     ensures { OnOk result (text.new ≡ text.old ++ flat_map (λ value. 32 ∷ hex_address value) values.now) }
 {
@@ -132,7 +132,7 @@ fn put_value(text: &mut Bytes, value: u64) -> Result<(), OutOfMemory>
     put_address(text, value)
 }
 
-/// Bytes of memory, or that they are not all mapped.
+/// The line of bytes of memory; `unmapped` if some of them are not mapped.
 #[tactic(auto, using(crate::proofs::Written::written))]
 pub(crate) fn mem_line(
     alloc: Global,
@@ -153,7 +153,7 @@ pub(crate) fn mem_line(
     Ok(text)
 }
 
-/// The break is set.
+/// The line of a new break.
 #[tactic(auto, using(crate::proofs::Written::written), unfolding(crate::specs::Replies::break_line))]
 pub(crate) fn break_line(alloc: Global, address: u64) -> Result<Bytes, OutOfMemory>
     ensures { IfOk result (λ text. text ≡ break_line address) }
@@ -164,14 +164,14 @@ pub(crate) fn break_line(alloc: Global, address: u64) -> Result<Bytes, OutOfMemo
     Ok(text)
 }
 
-/// Fewer steps were taken than it was to go back.
+/// The line of going back by more steps than were taken.
 pub(crate) fn no_step_line(alloc: Global) -> Result<Bytes, OutOfMemory>
     ensures { IfOk result (λ text. text ≡ no_step_line) }
 {
     Bytes::from_slice(alloc, b"no such step\n")
 }
 
-/// The line is no command.
+/// The line of an unknown command.
 pub(crate) fn unknown_line(alloc: Global) -> Result<Bytes, OutOfMemory>
     ensures { IfOk result (λ text. text ≡ unknown_line) }
 {

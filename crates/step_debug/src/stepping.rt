@@ -17,9 +17,9 @@ use prompt::Respond;
 use std::alloc::Global;
 use std::marker::Model;
 
-/// A program's run that is looked at line by line, from its start on, up to so many steps.
+/// A stepping session of a program's run, from its start up to `limit` steps.
 ///
-/// It borrows program and box: to go back, the program is started again. It keeps the allocator that its constructor took.
+/// It borrows the program and its execution context (`RunBox`): to go back, the program is started again. It keeps its allocator.
 #[derive(Drop)]
 pub struct Session<'a> {
     program: &'a [u8],
@@ -44,7 +44,7 @@ impl<'a> Model for Session<'a> {
 }
 
 impl<'a> Session<'a> {
-    /// Starts the program with its box. The refusals are those of the start, in its order.
+    /// Starts the program in its execution context. Errors: those of the start, in its order.
     pub fn new(
         alloc: Global,
         program: &'a [u8],
@@ -67,7 +67,7 @@ impl<'a> Session<'a> {
         }
     }
 
-    /// The reply to a command.
+    /// The reply to a command. Error: out of memory; the steps that were done remain, and other commands leave the session as it was.
     fn obey(&mut self, command: SessionCommand) -> Result<Bytes, OutOfMemory>
         ensures ok { IfOk result (λ reply. obeyed self.old command ≡ (reply, self.new)) }
         ensures err { OnErr result (KeepsSession self.old command self.new) }
@@ -87,7 +87,7 @@ impl<'a> Session<'a> {
         }
     }
 
-    /// Goes on by at most so many steps, and by no more than the limit leaves.
+    /// Runs on by at most `most` steps, within the limit.
     fn go_on(&mut self, stop: Option<u64>, most: u64) -> Result<Bytes, OutOfMemory>
         ensures ok { IfOk result (λ reply. gone self.old stop most ≡ (reply, self.new)) }
         ensures err { OnErr result (IsFurther self.old stop most self.new) }
@@ -97,7 +97,7 @@ impl<'a> Session<'a> {
         self.tell(end)
     }
 
-    /// The line of where it came.
+    /// The line of where the run stands now.
     fn tell(&self, end: RunEnd) -> Result<Bytes, OutOfMemory>
         ensures { Reports self.now end result }
     {
@@ -117,7 +117,7 @@ impl<'a> Session<'a> {
         }
     }
 
-    /// Goes back by so many steps. Want of memory leaves the session as it was.
+    /// Goes back by `count` steps. Error: out of memory, which leaves the session as it was.
     fn go_back(&mut self, count: u64) -> Result<Bytes, OutOfMemory>
         ensures ok { IfOk result (λ reply. obeyed self.old (Back count) ≡ (reply, self.new)) }
         ensures err { OnErr result (self.new ≡ self.old) }
@@ -132,7 +132,7 @@ impl<'a> Session<'a> {
         Ok(line)
     }
 
-    /// The guest after so many steps from the start, no more than were taken.
+    /// The guest `count` steps after the start, at most as many as were taken.
     fn run_again(&self, count: u64) -> Result<Guest<RunRam>, OutOfMemory>
         requires { count ≤ self.now.at.steps }
         ensures state { IfOk result (λ guest. state_of_step self.now count ≡ Some guest) }
@@ -147,7 +147,7 @@ impl<'a> Session<'a> {
         }
     }
 
-    /// Sets the break. Want of memory leaves the session as it was.
+    /// Sets the break. Error: out of memory, which leaves the session as it was.
     fn set_break(&mut self, address: u64) -> Result<Bytes, OutOfMemory>
         ensures ok { IfOk result (λ reply. obeyed self.old (SessionCommand.Break address) ≡ (reply, self.new)) }
         ensures err { OnErr result (self.new ≡ self.old) }
@@ -158,7 +158,7 @@ impl<'a> Session<'a> {
     }
 }
 
-/// The guest after so many steps, which are known to go on.
+/// The guest after `count` more steps, which are known not to end the run.
 fn repeated(mut guest: Guest<RunRam>, count: u64) -> Result<Guest<RunRam>, OutOfMemory>
     requires few { guest.steps + count ≤ 2 ^ 48 }
     requires goes { (last : GuestState) × (after guest count ≡ Some last) }

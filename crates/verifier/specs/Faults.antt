@@ -1,5 +1,5 @@
--- The first fault of a report, part by part in the order of docs/reference/verify.md, which says the same for people.
--- A stage's recorded step is judged and not searched for, and programs and files are the bytes that the earlier runs left. Digests are SHA-256 (FIPS 180-4).
+-- The first fault of a report, part by part in the order of docs/reference/verify.md, which says the same for people. A stage's recorded
+-- step is judged, not searched for. Programs and files are the bytes that the earlier runs left. Digests are SHA-256 (FIPS 180-4).
 use Rattle.std.specs.Prelude.{ℕ, ◌+◌, ◌==◌, Bool, true, false, ◌&&◌, if◌then◌else◌, nat_le, bytes_eq, Option, None, Some, Result, Ok, Err, List, [], ◌∷◌, ◌++◌, length, option_map, sum_by}
 use Rattle.ddc_base.specs.Difference.{first_difference}
 use Rattle.ddc_base.specs.Results.{◌>>=◌, or_error}
@@ -29,7 +29,7 @@ use Rattle.verifier.specs.declared.part.Part.TheVariants as part
 
 -- ---- header: what the report says of the recipe is what the recipe says
 
--- both are no language, or the same one
+-- both are the same language, or both None
 abbrev pub same_language : Option Language → Option Language → Bool
 same_language None None = true
 same_language (Some Hex0) (Some Hex0) = true
@@ -63,23 +63,23 @@ is_header recipe report =
     recipe.format == report.form && bytes_eq recipe.digest.0 report.recipe.0 && names_inputs recipe.inputs report.inputs
     && names_stages recipe recipe.stages report.stages && names_compared recipe.compare.binary recipe.compare.stages report.compare
 
--- ---- inputs: each has the length and the digest of its line
+-- ---- inputs: each has the length and the digest in its line
 
--- the first that has not, of those from this number on; a header says that there are as many lines
+-- the first wrong input; `number` is that of the first of these inputs. The header is right, so there are as many lines
 abbrev pub inputs_fault : ℕ → List (List ℕ) → List InputLine → Option (Part × ℕ)
 inputs_fault number (bytes ∷ inputs) (line ∷ lines) =
     if is_mark_of line.mark bytes then inputs_fault (number + 1) inputs lines else Some (part.Input, number)
 inputs_fault number _ _ = None
 
--- ---- stages, each after those whose artefacts are there
+-- ---- stages, each with the artefacts of those before it
 
--- the files that an exit with 0 leaves; none where the run ends otherwise
+-- the files that an exit with 0 leaves; None for any other end
 abbrev pub exit_of : Option (End × GuestState) → Option World
 exit_of (Some (Exited status, last)) = if status == 0 then Some last.world else None
 exit_of _ = None
 
--- the files that are left by a run whose first end is an exit with 0 at exactly this step, which is from 1 to the limit. An end at a
--- step is the first one, since a run goes no further
+-- the files left by a run that exits with 0 at exactly this step, from 1 to the limit, both included. A run goes no further than its end,
+-- so an end at a step is the only one
 abbrev pub left_at : Result GuestState Refusal → ℕ → ℕ → Option World
 left_at (Err why) limit step = None
 left_at (Ok start) limit step = if nat_le 1 step && nat_le step limit then exit_of (end_at start step) else None
@@ -90,16 +90,16 @@ names_left [] [] = true
 names_left (line ∷ lines) (file ∷ files) = bytes_eq line.name file.0 && is_mark_of line.mark file.1 && names_left lines files
 names_left _ _ = false
 
--- what a run left is what the stage's line says: both streams, and all files
+-- what a run left is what the stage's line says: both streams and all files
 unfoldable pub has_left : StageLine → World → Bool
 has_left line world =
     is_mark_of line.stream1 world.stream1 && is_mark_of line.stream2 world.stream2 && names_left line.left (left world)
 
--- the bytes of the artefacts so far
+-- the number of bytes of the artefacts so far
 abbrev pub size_of : Contents → ℕ
 size_of so_far = sum_by length so_far.artefacts
 
--- the artefact, where it is there, has the mark of the stage's line, and with the earlier ones has at most 1,073,741,824 bytes
+-- the artefact, if it exists, has the mark of the stage's line, and has at most 1,073,741,824 bytes together with the earlier ones
 abbrev pub made_as : Contents → StageLine → Option (List ℕ) → Option (List ℕ)
 made_as so_far line None = None
 made_as so_far line (Some made) =
@@ -108,38 +108,38 @@ made_as so_far line (Some made) =
 abbrev pub recorded : Contents → Stage → StageLine → World → Option (List ℕ)
 recorded so_far stage line world = if has_left line world then made_as so_far line (out world (output_of stage.output)) else None
 
--- an artefact in which its check found nothing wrong
+-- an artefact whose check found nothing wrong
 abbrev pub checked_artefact : List ℕ → Option CheckCause → Result (List ℕ) Part
 checked_artefact made None = Ok made
 checked_artefact made (Some why) = Err part.Assembled
 
--- a stage's line, judged by a replay: the artefact, or the part that fails
+-- the result of replaying a stage's line: the artefact, or the part that fails
 unfoldable pub replayed : RecipeContents → Contents → Stage → StageLine → Result (List ℕ) Part
 replayed recipe so_far stage line = do
   world ← or_error part.Run (left_at (start_of (program_of recipe so_far stage) (box_of recipe so_far stage)) stage.steps line.steps)
   made ← or_error part.Files (recorded so_far stage line world)
   checked_artefact made (check_of recipe so_far stage made)
 
--- ---- comparisons: each line says what the bytes say
+-- ---- comparisons: each line is true of the bytes
 
 abbrev pub is_at : ℕ → Option ℕ → Bool
 is_at offset None = false
 is_at offset (Some found) = offset == found
 
--- equal bytes, so many; or different ones with their lengths, and the first offset at which they differ or one has ended
+-- equal bytes of this length; or bytes of these lengths that first differ at this offset, or of which one ends there
 abbrev pub says : Compared → List ℕ → List ℕ → Bool
 says (Equal count) made binary = bytes_eq made binary && count == length made
 says (Differs offset ours theirs) made binary =
     is_at offset (first_difference made binary) && ours == length made && theirs == length binary
 
--- the number of the first line that does not, of those from this number on
+-- the number of the first line that is not true; `number` is that of the first of these lines
 abbrev pub wrong_line : RecipeContents → Contents → ℕ → List CompareLine → Option ℕ
 wrong_line recipe all number [] = None
 wrong_line recipe all number (line ∷ lines) =
     if says line.result (content recipe all line.stage) (content recipe all line.binary) then wrong_line recipe all (number + 1) lines
     else Some number
 
--- its place: that number in a report of form 2; a report of form 1 has one line, and its place is 0
+-- its place: the number in a report of form 2; 0 in form 1, which has one line
 abbrev pub line_place : ℕ → ℕ → ℕ
 line_place form number = if form == 1 then 0 else number
 
@@ -151,24 +151,25 @@ compare_fault recipe form lines all = option_map (λ number. (part.Compare, line
 abbrev pub with_artefact : Contents → List ℕ → Contents
 with_artefact so_far made = record { inputs = so_far.inputs; artefacts = so_far.artefacts ++ made ∷ [] }
 
--- the stage of this number is right and what follows is judged, or it has the first fault
+-- the first fault: that of the stage of this number, or else that of the rest
 abbrev pub fault_after_stage : ℕ → Result (List ℕ) Part → (List ℕ → Option (Part × ℕ)) → Option (Part × ℕ)
 fault_after_stage number (Err part) rest = Some (part, number)
 fault_after_stage number (Ok made) rest = rest made
 
--- the first fault of the stages that are left, and then what is judged over all contents; a header says that there are as many lines
+-- the first fault of the stages that are left, and then of the last part, given all contents. The header is right, so there are as many
+-- lines
 abbrev pub stages_fault : RecipeContents → (Contents → Option (Part × ℕ)) → Contents → List Stage → List StageLine → Option (Part × ℕ)
 stages_fault recipe last so_far (stage ∷ stages) (line ∷ lines) =
     fault_after_stage (length so_far.artefacts + 1) (replayed recipe so_far stage line) (λ made. stages_fault recipe last (with_artefact so_far made) stages lines)
 stages_fault recipe last so_far _ _ = last so_far
 
--- the former fault, where there is one, else the latter
+-- the former fault, if there is one, else the latter
 abbrev pub first_of_both : Option (Part × ℕ) → Option (Part × ℕ) → Option (Part × ℕ)
 first_of_both (Some fault) later = Some fault
 first_of_both None later = later
 
--- the first part of a report that fails, with its place: the number of the input or of the stage from 1, 0 for the header, and that of a
--- comparison as above; none where every word of the report is true
+-- the first part of a report that fails, and its place: the number, from 1, of the input or the stage; 0 for the header; `line_place` for a
+-- comparison. None if the report is true
 unfoldable pub first_fault : RecipeContents → List (List ℕ) → Report → Option (Part × ℕ)
 first_fault recipe inputs report =
     if is_header recipe report

@@ -1,4 +1,4 @@
--- Words of the contracts of private functions. No promise rests on their being read.
+-- What the contracts of private functions mention. No promise depends on these files being read.
 pub mod Holdings
 pub mod Refusing
 pub mod Replays

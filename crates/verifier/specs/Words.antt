@@ -1,4 +1,4 @@
--- The words of the parts. docs/reference/verify.md says the same for people.
+-- The words that commands print for the parts. docs/reference/verify.md says the same for people.
 use Rattle.std.specs.Prelude.{ℕ, List, codes}
 use Rattle.verifier.specs.declared.part.Part.{Part}
 use Rattle.verifier.specs.declared.part.Part.TheVariants.{Header, Input, Run, Files, Assembled, Compare}

@@ -23,7 +23,7 @@ use m1_lang::{M1Refusal, expand};
 use recipe::{Source, SourceLanguage, Stage};
 use std::alloc::Global;
 
-/// Whether an artefact is right by its stage's check, or unchecked.
+/// Whether an artefact is right by its stage's check; true for an unchecked stage. Error: out of memory.
 #[tactic(auto, unfolding(audit_rules::specs::Contents::check_of))]
 pub(crate) fn is_right(
     alloc: Global,
@@ -46,7 +46,7 @@ pub(crate) fn is_right(
     }
 }
 
-/// Whether a source's language accepts its text and gives an artefact. A text of one file is that file, and isn't copied.
+/// Whether a source's text has this artefact as its value in its language. A source of one file is not copied.
 #[tactic(auto, unfolding(audit_rules::specs::Contents::text_of))]
 fn gives_text(
     alloc: Global,
@@ -81,7 +81,7 @@ fn joined(alloc: Global, held: &Held<'_>, source: &Source) -> Result<Bytes, OutO
     Ok(text)
 }
 
-/// Whether a language accepts a source and gives an artefact.
+/// Whether a source has this artefact as its value in a language.
 #[tactic(auto, unfolding(audit_rules::specs::SourceCheck::Checks::check))]
 fn gives(
     alloc: Global,
@@ -104,7 +104,7 @@ fn gives(
     }
 }
 
-/// Whether items, if there are any, are the bytes of an artefact when they are linked at a base.
+/// Whether items, if they were read, link at a base to an artefact.
 fn links_to(
     alloc: Global,
     items: Result<Items<'_>, HexRefusal>,
@@ -120,7 +120,7 @@ fn links_to(
     }
 }
 
-/// Whether a linked value, if there is one, is an artefact.
+/// Whether a linked value, if linking succeeded, is an artefact.
 fn is_value(value: Result<Bytes, HexRefusal>, made: &[u8]) -> Result<bool, OutOfMemory>
     ensures { (meant : Result (List ℕ) Refusal) → Links value meant → IfOk result (λ right. right ≡ is_none (checked (hex_value meant) made.now)) }
 {
@@ -130,7 +130,7 @@ fn is_value(value: Result<Bytes, HexRefusal>, made: &[u8]) -> Result<bool, OutOf
     }
 }
 
-/// Whether an artefact is a hex2 text of these items.
+/// Whether an artefact is a hex2 text with these items.
 fn reads_as(alloc: Global, items: &Items<'_>, made: &[u8]) -> Result<bool, OutOfMemory>
     ensures { IfOk result (λ right. right ≡ is_none (items_against items.now (items_of dialect.Hex2 made.now))) }
 {
@@ -140,7 +140,7 @@ fn reads_as(alloc: Global, items: &Items<'_>, made: &[u8]) -> Result<bool, OutOf
     }
 }
 
-/// No, unless the refusal is want of memory.
+/// False for a refusal of a language. Error: out of memory, if the refusal is that.
 fn hex_refused(refusal: HexRefusal) -> Result<bool, OutOfMemory>
     ensures { RefusesHex refusal result }
 {
@@ -156,7 +156,7 @@ fn hex_refused(refusal: HexRefusal) -> Result<bool, OutOfMemory>
     }
 }
 
-/// No, unless the refusal is want of memory.
+/// False for a refusal of a language. Error: out of memory, if the refusal is that.
 fn m1_refused(refusal: M1Refusal) -> Result<bool, OutOfMemory>
     ensures { RefusesM1 refusal result }
 {
@@ -172,7 +172,7 @@ fn m1_refused(refusal: M1Refusal) -> Result<bool, OutOfMemory>
     }
 }
 
-/// Whether both are the same items in the same order.
+/// Whether two lists have the same items in the same order.
 fn same_items(ours: &Items<'_>, theirs: &Items<'_>) -> bool
     ensures { result ≡ is_none (first_other_item ours.now theirs.now) }
 {
@@ -193,7 +193,7 @@ fn same_items(ours: &Items<'_>, theirs: &Items<'_>) -> bool
     true
 }
 
-/// Whether both are the same item.
+/// Whether two items are the same.
 #[tactic(auto, unfolding(audit_rules::specs::SourceCheck::Checks::same_item))]
 fn same_item(ours: &Item<'_>, theirs: &Item<'_>) -> bool
     ensures { result ≡ same_item ours.now theirs.now }

@@ -1,4 +1,4 @@
-//! The verifier's verdict with what it shows: Wheeler's argument, both ways, on its own yes.
+//! The verifier's verdict with what it shows: Wheeler's argument in both directions, from the verifier's own yes.
 //!
 //! Its rules for people: docs/reference/argument.md.
 

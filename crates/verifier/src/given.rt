@@ -1,4 +1,4 @@
-//! What a stage's program is given.
+//! The execution context of a stage's program.
 
 ghost use Rattle.mem_files.specs.Limits.{most_content, most_names};
 ghost use Rattle.mem_files.specs.Names.{is_stripped_name};
@@ -15,7 +15,7 @@ use mem_files::PlaceRefusal;
 use recipe::{Stage, StageFile};
 use std::alloc::Global;
 
-/// The arguments, the environment and the files of a stage, all borrowed.
+/// The execution context of a stage's program, with everything borrowed. Error: out of memory.
 #[tactic(auto, unfolding(audit_rules::specs::Contents::box_of))]
 pub(crate) fn box_of<'a>(
     alloc: Global,

@@ -1,4 +1,4 @@
-//! What a report says of its recipe, beside the recipe.
+//! What a report says of its recipe, compared with the recipe.
 
 ghost use Rattle.std.specs.Prelude.{◌≡◌};
 ghost use Rattle.verifier.specs.Faults.{is_header, names_compared, names_inputs, names_stages, same_language};
@@ -9,8 +9,7 @@ use ddc_base::languages::Language;
 use recipe::{Input, Recipe, SourceLanguage, Stage};
 use report::{CompareLine, InputLine, Report, StageLine};
 
-/// Whether a report is of the form of the recipe's format and has the recipe's digest, its names in order, and the languages of its
-/// checks.
+/// Whether a report has the recipe's format, digest and names, in order, and the languages of its checks.
 #[tactic(auto, unfolding(crate::specs::Faults::is_header))]
 pub(crate) fn is_header(recipe: &Recipe, report: &Report) -> bool
     ensures { result ≡ is_header recipe.now report.now }
@@ -74,7 +73,7 @@ fn names_compared(binary: &Name, stages: &[Name], lines: &[CompareLine]) -> bool
     }
 }
 
-/// The language in which a stage is checked, if it is.
+/// The language in which a stage is checked; `None` for an unchecked stage.
 #[tactic(auto, unfolding(audit_rules::specs::Contents::check_language))]
 fn check_language(recipe: &Recipe, stage: &Stage) -> Option<Language>
     ensures { result ≡ check_language recipe.now stage.now }
@@ -87,7 +86,7 @@ fn check_language(recipe: &Recipe, stage: &Stage) -> Option<Language>
     }
 }
 
-/// Whether both are the same language, or none.
+/// Whether both are the same language, or both `None`.
 fn same_language(ours: Option<Language>, theirs: Option<Language>) -> bool
     ensures { result ≡ same_language ours theirs }
 {

@@ -7,7 +7,7 @@ ghost use Rattle.audit_rules.specs.Contents.{content};
 use ddc_base::{Bytes, Name};
 use recipe::{Content, Recipe};
 
-/// The recipe, the inputs, and the artefacts of the stages so far. All are borrowed.
+/// The recipe, the inputs, and the artefacts of the stages so far, all borrowed.
 #[derive(Drop)]
 pub(crate) struct Held<'a> {
     pub(crate) recipe: &'a Recipe,
@@ -16,7 +16,7 @@ pub(crate) struct Held<'a> {
 }
 
 impl<'a> Held<'a> {
-    /// The bytes that a name stands for: of the input, or of the artefact.
+    /// The bytes that a name stands for: an input or an artefact.
     #[tactic(auto, unfolding(audit_rules::specs::Contents::content))]
     pub(crate) fn bytes(&self, name: &Name) -> &'a [u8]
         ensures { result.now ≡ content self.now.recipe.now (so_far self.now) name.now }
@@ -31,7 +31,7 @@ impl<'a> Held<'a> {
     }
 }
 
-/// The bytes at an index; none past the end.
+/// The bytes at an index; empty past the end.
 fn bytes_at(all: &[Bytes], index: usize) -> &[u8]
     ensures { result.now ≡ get_or all.now index [] }
 {

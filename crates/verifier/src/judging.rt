@@ -22,14 +22,15 @@ use recipe::{Inputs, Recipe, Stage};
 use report::{CompareLine, Compared, InputLine, Report, StageLine};
 use std::alloc::Global;
 
-/// Replays a report, which it doesn't believe.
+/// Replays a report and returns the verdict on it. Nothing in the report is trusted.
 ///
-/// `Refuted` names the first part that is not true, judged on the bytes that the earlier runs left. Otherwise it is `Yes` where each of the
-/// report's comparisons says that the artefact and the binary are equal, and `TrueButDiffers` where one says that they differ. Want of memory comes only at a
-/// stage, where the header, the inputs and all stages before it are right: for its run, where its recorded step is from 1 to the limit and its
-/// program can be loaded, or for its check, where its run and what that left are as its line says.
+/// `Refuted` names the first part that is not true, judged on the bytes that the earlier runs left. `Yes`: the report is true and each
+/// comparison is equal. `TrueButDiffers`: the report is true and some comparison differs.
 ///
-/// The inputs are as many as the recipe's, each with at most 268,435,456 bytes. docs/reference/verify.md has the rules.
+/// `OutOfMemory` occurs only at a stage, and the header, the inputs and all stages before it are right. For its run, the recorded step is
+/// from 1 to the limit and the program can be loaded. For its check, the run and what it left are as recorded.
+///
+/// Requires as many inputs as the recipe has, each at most 268,435,456 bytes. docs/reference/verify.md has the rules.
 pub fn verify(alloc: Global, recipe: &Recipe, inputs: &Inputs, report: &Report) -> Verdict
     requires { IsInputs recipe.now inputs.now }
     ensures value { Judges (first_fault recipe.now inputs.now report.now) report.now.compare result }
@@ -38,7 +39,7 @@ pub fn verify(alloc: Global, recipe: &Recipe, inputs: &Inputs, report: &Report) 
     judge(alloc, recipe, inputs.as_slice(), report)
 }
 
-/// The same, of inputs that are borrowed.
+/// The verdict on a report, with borrowed inputs.
 #[tactic(auto, unfolding(crate::specs::Faults::first_fault))]
 fn judge(alloc: Global, recipe: &Recipe, inputs: &[Bytes], report: &Report) -> Verdict
     requires { IsInputs recipe.now inputs.now }
@@ -71,7 +72,7 @@ fn judge(alloc: Global, recipe: &Recipe, inputs: &[Bytes], report: &Report) -> V
     }
 }
 
-/// The number of the first input that is not as its line says, of those from a number on.
+/// The number of the first input that is not as its line says. `number` is that of the first of these inputs.
 fn wrong_input(number: u32, inputs: &[Bytes], lines: &[InputLine]) -> Option<u32>
     requires { number + length inputs.now < 2 ^ 32 }
     ensures { inputs_fault number inputs.now lines.now ≡ option_map (λ place. (part.Input, place)) result }
@@ -91,7 +92,7 @@ fn wrong_input(number: u32, inputs: &[Bytes], lines: &[InputLine]) -> Option<u32
     }
 }
 
-/// The artefacts of all stages, each of which is replayed over those before it; or the verdict that ends the replay.
+/// The artefacts of all stages, each replayed with those before it; or the verdict that ends the replay.
 fn replay_all(
     alloc: Global,
     recipe: &Recipe,
@@ -147,7 +148,7 @@ fn replay_all(
     Ok(artefacts)
 }
 
-/// The verdict on a report of which all but the comparisons is true.
+/// The verdict on a report whose other parts are all true.
 fn compared(held: &Held<'_>, form: u32, lines: &[CompareLine]) -> Verdict
     requires { length lines.now ≤ 16 }
     ensures { result ≡ verdict_of (compare_fault held.now.recipe.now form lines.now (so_far held.now)) lines.now }
@@ -165,7 +166,7 @@ fn compared(held: &Held<'_>, form: u32, lines: &[CompareLine]) -> Verdict
     }
 }
 
-/// The number of the first compare line that is not what the bytes say, of those from a number on.
+/// The number of the first compare line that is not true. `number` is that of the first of these lines.
 fn wrong_line(held: &Held<'_>, number: u32, lines: &[CompareLine]) -> Option<u32>
     requires { number + length lines.now < 2 ^ 32 }
     ensures { result ≡ wrong_line held.now.recipe.now (so_far held.now) number lines.now }
@@ -186,14 +187,14 @@ fn wrong_line(held: &Held<'_>, number: u32, lines: &[CompareLine]) -> Option<u32
     }
 }
 
-/// The place of the compare line of a number: that number, and 0 in form 1, which has one.
+/// The place of a compare line in a verdict: its number; 0 in form 1, which has one line.
 fn line_place(form: u32, number: u32) -> u32
     ensures { result ≡ line_place form number }
 {
     if form == 1 { 0 } else { number }
 }
 
-/// Whether a compare line says what the bytes say.
+/// Whether a compare line is true of these bytes.
 fn says(line: Compared, made: &[u8], binary: &[u8]) -> bool
     ensures { result ≡ says line made.now binary.now }
 {
@@ -207,7 +208,7 @@ fn says(line: Compared, made: &[u8], binary: &[u8]) -> bool
     }
 }
 
-/// Whether this is the offset.
+/// Whether the found offset is this one.
 fn is_at(offset: u64, found: Option<u64>) -> bool
     ensures { result ≡ is_at offset found }
 {

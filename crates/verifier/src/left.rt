@@ -1,4 +1,4 @@
-//! What a run left, beside a stage's line.
+//! What a run left, compared with a stage's line.
 
 ghost use Rattle.mem_files.specs.Calls.{content_at};
 ghost use Rattle.mem_files.specs.Names.{is_stripped_name};
@@ -20,7 +20,7 @@ pub(crate) fn has_left(line: &StageLine, files: &Files) -> bool
         && names_left(line.left.as_slice(), files)
 }
 
-/// Whether the lines are those of the files that are left: walks along the names that are there, each of which the next line has to say.
+/// Whether the lines are those of the files that are left, in the order of the names.
 fn names_left(lines: &[LeftLine], files: &Files) -> bool
     requires { IsSound files.now }
     ensures { result ≡ names_left lines.now (left files.now) }
@@ -41,7 +41,7 @@ fn names_left(lines: &[LeftLine], files: &Files) -> bool
     files.name_after(last).is_none()
 }
 
-/// The bytes of the file of a name that is there.
+/// The bytes of a file that is left, by its name.
 fn bytes_of<'f>(files: &'f Files, name: &[u8]) -> &'f [u8]
     requires { IsTrue (is_stripped_name name.now) }
     ensures { result.now ≡ unwrap_or (content_at files.now name.now) [] }

@@ -1,7 +1,7 @@
-//! The replay of a report, which believes nothing of it, and what its verdict shows under every meaning of sources (`conclusion`).
+//! The replay of a report, which trusts nothing in it, and what its verdict shows under every meaning of sources (`conclusion`).
 //!
-//! Its rules for people: docs/reference/verify.md. It has no code in common with the crate that runs an audit: both meet the definitions
-//! of `audit_rules` and stand on the layers below (docs/ARCHITECTURE.md).
+//! Its rules for people: docs/reference/verify.md. It shares no code with the crate that runs an audit. Both are proved against the
+//! definitions of `audit_rules` and use the layers below (docs/ARCHITECTURE.md).
 #![tactic(auto)]
 
 mod checking;

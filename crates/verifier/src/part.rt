@@ -8,18 +8,18 @@ pub enum Part {
     Header,
     /// The length and the digest of an input.
     Input,
-    /// A stage's run: that it exits with 0 at the recorded step.
+    /// A stage's run: it exits with 0 at the recorded step.
     Run,
     /// What a stage left: the streams, the files and the artefact.
     Files,
-    /// That a stage's artefact is what its source stands for.
+    /// The artefact of a checked stage: it is what its source stands for.
     Assembled,
-    /// The comparison.
+    /// A comparison.
     Compare,
 }
 
 impl Part {
-    /// The word that a command prints for it.
+    /// The word that commands print for this part.
     pub fn word(self) -> &'static str
         ensures { result.now ≡ part_word self }
     {
@@ -34,17 +34,17 @@ impl Part {
     }
 }
 
-/// What a replay of a report comes to.
+/// The verdict on a report.
 #[derive(Clone, Copy)]
 pub enum Verdict {
-    /// Every word of the report is true, and each comparison says that the artefact and the binary are equal.
+    /// The report is true, and each comparison says that artefact and binary are equal.
     Yes,
-    /// Every word of the report is true, and some comparison says that they differ.
+    /// The report is true, and some comparison says that they differ.
     TrueButDiffers,
-    /// The first part that is not true, with the number of the input, of the stage or, in a report of form 2, of the comparison, from 1;
-    /// 0 for the header, and for the comparison of a report of form 1.
+    /// The first part that is not true, and its place. The place is the number, from 1, of the input, the stage or, in form 2, the
+    /// comparison. It is 0 for the header and, in form 1, for the comparison.
     Refuted { part: Part, place: u32 },
-    /// Want of memory of this process at the stage of this number, from 1: for its run, or for its check and its artefact. Nothing that is judged
-    /// before is untrue.
+    /// Out of memory at the stage of this number, from 1: in its run, or in its check and the copy of its artefact. Everything judged
+    /// before is true.
     OutOfMemory { stage: u32, part: Part },
 }

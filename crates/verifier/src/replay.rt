@@ -1,4 +1,4 @@
-//! A stage's line, judged by a replay.
+//! Replaying a stage.
 
 ghost use Rattle.guest_run.specs.Run.{end_at};
 ghost use Rattle.guest_run.specs.Start.{start_of};
@@ -35,7 +35,8 @@ pub(crate) struct ReportedStage<'a> {
     pub(crate) line: &'a StageLine,
 }
 
-/// The artefact of a stage whose line is true; `total` is the bytes of the artefacts so far.
+/// The artefact of a stage whose line is true. Errors: the first wrong part, out of memory. `total` is the number of bytes of the
+/// artefacts so far.
 #[tactic(auto, unfolding(crate::specs::Faults::replayed))]
 pub(crate) fn replay(
     alloc: Global,
@@ -54,7 +55,7 @@ pub(crate) fn replay(
     left(alloc, held, reported, total, guest.files())
 }
 
-/// The artefact among what a run left, where all of it is as the line says, and the artefact is what its source stands for.
+/// The artefact left by a run, if all that it left is as the line says and the artefact is what its source stands for.
 fn left(
     alloc: Global,
     held: &Held<'_>,
@@ -79,7 +80,7 @@ fn left(
     }
 }
 
-/// A copy of an artefact, where it is what its source stands for.
+/// A copy of an artefact; `None` if its check finds something wrong.
 fn checked(
     alloc: Global,
     held: &Held<'_>,
@@ -96,7 +97,7 @@ fn checked(
     }
 }
 
-/// The guest of a stage's program, which has exited with 0 at exactly the step of the line.
+/// The guest of a stage's program, after its exit with 0 at exactly the recorded step.
 fn exited(
     alloc: Global,
     held: &Held<'_>,
@@ -130,7 +131,7 @@ fn exited(
     }
 }
 
-/// The same guest after so many steps, the last of which has to be its exit with 0.
+/// The fresh guest after so many steps, the last of which must be its exit with 0.
 fn run_out(guest: Guest<RunRam>, step: u64) -> Result<Guest<RunRam>, JudgingStop>
     requires fresh { guest.steps ≡ 0 }
     requires some { 1 ≤ step }
@@ -143,7 +144,7 @@ fn run_out(guest: Guest<RunRam>, step: u64) -> Result<Guest<RunRam>, JudgingStop
     Ok(guest)
 }
 
-/// Runs a fresh guest for so many steps, the last of which has to be its exit with 0.
+/// Runs a fresh guest for so many steps, the last of which must be its exit with 0.
 fn run_to(guest: &mut Guest<RunRam>, step: u64) -> Result<(), JudgingStop>
     requires fresh { guest.old.steps ≡ 0 }
     requires some { 1 ≤ step }
@@ -168,7 +169,7 @@ fn run_to(guest: &mut Guest<RunRam>, step: u64) -> Result<(), JudgingStop>
     }
 }
 
-/// The artefact among what a run left, where all of it is as the line says and the artefacts stay within their limit.
+/// The artefact left by a run; `None` if what was left is not as the line says or the artefacts together exceed their limit.
 fn recorded<'f>(reported: &ReportedStage<'_>, total: u64, files: &'f Files) -> Option<&'f [u8]>
     requires named { IsOutputName reported.now.stage.now.output }
     requires small { total ≤ MAX_ARTEFACTS }
@@ -185,7 +186,7 @@ fn recorded<'f>(reported: &ReportedStage<'_>, total: u64, files: &'f Files) -> O
     }
 }
 
-/// The bytes at a stage's output, if they are there.
+/// The bytes at a stage's output; `None` if it does not exist.
 fn artefact<'f>(output: &Output, files: &'f Files) -> Option<&'f [u8]>
     requires { IsOutputName output.now }
     ensures { option_copied result ≡ out files.now (output_of output.now) }

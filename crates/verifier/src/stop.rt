@@ -7,6 +7,6 @@ use crate::part::Part;
 pub(crate) enum JudgingStop {
     /// This part is not true.
     Refuted(Part),
-    /// Memory was wanting for this part.
+    /// Memory ran out in this part.
     OutOfMemory(Part),
 }

@@ -9,7 +9,7 @@ use Rattle.audit_rules.specs.Contents.{SourceText}
 use Rattle.wheeler.specs.Meaning.{Prescribes}
 use Rattle.wheeler.specs.Values.{binary_of}
 
--- the source has a program, of which a run with the box exits with 0 and leaves the content at the output
+-- the source has a program, and some run of it in this execution context exits with 0 and leaves the content at the output
 pub record ProgramLeaves (program_of : SourceText → Option (List ℕ)) (source : SourceText) (box : Setting) (output : OutputPlace)
     (content : List ℕ) : Type 0 where
   pub program : List ℕ
@@ -19,11 +19,11 @@ pub record ProgramLeaves (program_of : SourceText → Option (List ℕ)) (source
   pub runs : ProgramRun program box step 0 world
   pub leaves : out world output ≡ Some content
 
--- the program is the source's value
+-- `ProgramLeaves` with the source's value as the program
 abbrev pub ValueLeaves : Prescribes
 ValueLeaves = ProgramLeaves binary_of
 
--- the other source has a value too, and that is what such a run leaves
+-- the other source has a value, and a run of this source's value leaves it
 pub record ValueLeavesValue (source : SourceText) (box : Setting) (output : OutputPlace) (other : SourceText) : Type 0 where
   pub made : List ℕ
   pub is_value : binary_of other ≡ Some made

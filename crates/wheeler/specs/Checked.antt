@@ -1,4 +1,4 @@
--- What the audited binary is where it equals a stage that is checked. docs/reference/argument.md says the same for people.
+-- What the audited binary is when it equals a checked stage. docs/reference/argument.md says the same for people.
 use Rattle.std.specs.Prelude.{◌≡◌, ◌≢◌, ℕ, Some, Ok, List}
 use Rattle.ddc_base.specs.declared.languages.Language.{Language}
 use Rattle.ddc_base.specs.declared.languages.Language.TheVariants.{M1}
@@ -19,19 +19,19 @@ pub record IsCheckedIn (recipe : RecipeContents) (stage : Stage) (language : Lan
   pub named : stage.check ≡ Some source
   pub defined : check_language recipe stage ≡ Some language
 
--- where the stage of a name is checked in hex0, hex1 or hex2: the audited binary is the value of the check's source
+-- if the stage of a name is checked in hex0, hex1 or hex2, the audited binary is the value of the check's source
 abbrev pub IsCheckValue : RecipeContents → List (List ℕ) → List ℕ → Type 0
 IsCheckValue recipe inputs name =
     (stage : Stage) (language : Language) (source : List ℕ) → IsComparedStage recipe name stage → IsCheckedIn recipe stage language source → language ≢ M1
     → binary_of (text_named recipe (all_contents recipe inputs) source) ≡ Some (audited_binary recipe inputs)
 
--- a text of hex2 that has the items of an M1 source, one by one
+-- a hex2 text that has the items of an M1 source, one by one
 pub record HasItemsOf (source : SourceText) (text : List ℕ) : Type 0 where
   pub items : List Item
   pub expands : expansion_of (joined_files source.files) ≡ Ok items
   pub reads : items_of Hex2 text ≡ Ok items
 
--- where it is checked in M1: the audited binary is a text of hex2 that has the items of the check's source
+-- if the stage of a name is checked in M1, the audited binary is a hex2 text with the items of the check's source
 abbrev pub HasCheckItems : RecipeContents → List (List ℕ) → List ℕ → Type 0
 HasCheckItems recipe inputs name =
     (stage : Stage) (source : List ℕ) → IsComparedStage recipe name stage → IsCheckedIn recipe stage M1 source

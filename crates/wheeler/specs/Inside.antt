@@ -1,4 +1,4 @@
--- No promise rests on this file being read.
+-- No promise depends on these files being read.
 pub mod RunLaws
 pub mod AssemblyLaws
 pub mod Trusting

@@ -1,19 +1,19 @@
--- The largest relation between sources that the law Carry allows. docs/reference/argument.md says the same for people.
+-- The largest relation between sources that the law `carry` allows. docs/reference/argument.md says the same for people.
 use Rattle.std.specs.Prelude.{ℕ, List}
 use Rattle.mem_files.specs.Outputs.{OutputPlace}
 use Rattle.guest_run.specs.Setting.{Setting}
 use Rattle.audit_rules.specs.Contents.{SourceText}
 use Rattle.wheeler.specs.Meaning.{Compiles, Implements, Prescribes}
 
--- all that the source prescribes there implements the other source
+-- everything that the source prescribes at the output implements the other source
 abbrev pub AllImplement : Prescribes → Compiles
 AllImplement prescribes source box output other = (program : List ℕ) → prescribes source box output program → Implements prescribes program other
 
--- of two relations the former compiles no more than the latter
+-- the former relation compiles no more than the latter
 abbrev pub CompilesNoMore : Compiles → Compiles → Type 0
 CompilesNoMore less more = (source other : SourceText) (box : Setting) (output : OutputPlace) → less source box output other → more source box output other
 
--- the two prescribe the same
+-- the two relations prescribe the same
 abbrev pub PrescribesSame : Prescribes → Prescribes → Type 0
 PrescribesSame one two =
     (source : SourceText) (box : Setting) (output : OutputPlace) (content : List ℕ)

@@ -17,7 +17,7 @@ use Rattle.wheeler.specs.Assembly.{ProgramLeaves}
 use Rattle.wheeler.specs.Meaning.{Prescribes}
 use Rattle.wheeler.specs.Values.{binary_in}
 
--- items that are linked at a base, if they can be
+-- the bytes of items linked at a base, if linking succeeds
 abbrev pub linked_bytes : Result (List ℕ) HexRefusal → Option (List ℕ)
 linked_bytes (Ok bytes) = Some bytes
 linked_bytes (Err why) = None
@@ -26,7 +26,7 @@ abbrev pub linked_items : ℕ → Result (List Item) M1Refusal → Option (List 
 linked_items base (Ok items) = linked_bytes (link_of items base)
 linked_items base (Err why) = None
 
--- the program of a source: of M1 the link of its items at its base, and else its value
+-- the program of a source: in M1 the link of its items at its base, else its value
 abbrev pub program_in : SourceLanguage → ℕ → List (List ℕ) → Option (List ℕ)
 program_in (Defined M1) base files = linked_items base (expansion_of (joined_files files))
 program_in language base files = binary_in language base files
@@ -34,11 +34,11 @@ program_in language base files = binary_in language base files
 unfoldable pub program_of_text : SourceText → Option (List ℕ)
 program_of_text source = program_in source.lang source.base source.files
 
--- what a run of the program leaves
+-- what a run of the source's program leaves
 abbrev pub MacroLeaves : Prescribes
 MacroLeaves = ProgramLeaves program_of_text
 
--- of an audit, each of these programs that has a source is the program of that source
+-- each of these programs of an audit that has a source is the program of that source
 abbrev pub AreOwnPrograms : (List ℕ → Bool) → RecipeContents → List (List ℕ) → Type 0
 AreOwnPrograms trusted recipe inputs =
     (name source : List ℕ) → trusted name ≡ true → source_of recipe name ≡ Some source

@@ -1,4 +1,4 @@
--- What the lines of an audit say together with the largest relation that Carry allows.
+-- What the assumptions of an audit say together, with the largest relation that the law `carry` allows.
 use Rattle.std.specs.Prelude.{◌≡◌, ℕ, Bool, true, Some, List}
 use Rattle.recipe.specs.declared.contents.RecipeContents.{RecipeContents}
 use Rattle.recipe.specs.Lookups.{source_of}
@@ -14,10 +14,10 @@ TheseImplement prescribes trusted recipe all =
     (name source : List ℕ) → trusted name ≡ true → source_of recipe name ≡ Some source
     → Implements prescribes (content recipe all name) (text_named recipe all source)
 
--- each program that an unchecked stage of an audit runs
+-- each program that an unchecked stage of an audit runs implements its source, if it has one
 abbrev pub ProgramsImplement : Prescribes → RecipeContents → List (List ℕ) → Type 0
 ProgramsImplement prescribes recipe inputs = TheseImplement prescribes (is_trusted recipe) recipe (all_contents recipe inputs)
 
--- each program on the route of the stage of a name
+-- each program on the route of the stage of a name implements its source, if it has one
 abbrev pub RouteImplements : Prescribes → RecipeContents → List (List ℕ) → List ℕ → Type 0
 RouteImplements prescribes recipe inputs name = TheseImplement prescribes (is_on (route_named recipe name)) recipe (all_contents recipe inputs)

@@ -6,7 +6,7 @@ use Rattle.audit_rules.specs.declared.source_check.cause.CheckCause.{CheckCause}
 use Rattle.audit_rules.specs.SourceCheck.Checks.{SourceValue, ValueBytes, ValueItems, joined_files, source_value_of}
 use Rattle.audit_rules.specs.Contents.{SourceText}
 
--- a value's bytes; a value of M1 is items, which stand for no bytes of their own
+-- the bytes of a value; a value of M1 is items, which have no bytes of their own
 abbrev pub bytes_of_value : Result SourceValue CheckCause → Option (List ℕ)
 bytes_of_value (Ok (ValueBytes bytes)) = Some bytes
 bytes_of_value (Ok (ValueItems items)) = None
@@ -16,6 +16,6 @@ abbrev pub binary_in : SourceLanguage → ℕ → List (List ℕ) → Option (Li
 binary_in (Defined language) base files = bytes_of_value (source_value_of language base (joined_files files))
 binary_in Other base files = None
 
--- the value of a source of hex0, hex1 or hex2; none where it is refused, and in every other language
+-- the value of a source in hex0, hex1 or hex2; None if it is refused, and in every other language
 unfoldable pub binary_of : SourceText → Option (List ℕ)
 binary_of source = binary_in source.lang source.base source.files

@@ -1,11 +1,11 @@
--- A semantics of other languages beside machine code: a source with a value of hex0, hex1 or hex2 prescribes what runs of the value leave.
+-- A semantics of other languages beside machine code: a source with a value in hex0, hex1 or hex2 prescribes what runs of the value leave.
 -- docs/reference/argument.md says the same for people.
 use Rattle.std.specs.Prelude.{ℕ, Option, None, Some, List}
 use Rattle.wheeler.specs.Assembly.{ValueLeaves}
 use Rattle.wheeler.specs.Meaning.{Prescribes}
 use Rattle.wheeler.specs.Values.{binary_of}
 
--- by the value of a source, if it has one
+-- what the value's runs leave, if the source has a value; else what the other semantics prescribes
 abbrev pub machine_code_or_by : Option (List ℕ) → Prescribes → Prescribes
 machine_code_or_by (Some program) others = ValueLeaves
 machine_code_or_by None others = others

@@ -4,9 +4,9 @@ ghost use Rattle.guest_run.proofs.Programs.{one-run};
 
 use crate::meaning::Meaning;
 
-/// The meaning of hex0, hex1 and hex2 sources alone: what a run of their value leaves.
+/// The meaning of hex0, hex1 and hex2 sources alone: a source means what a run of its value leaves.
 ///
-/// A source in any other language, or without a value, prescribes nothing and compiles nothing.
+/// A source in another language, or without a value, prescribes nothing and compiles nothing.
 pub struct Assembly;
 
 impl Meaning for Assembly {

@@ -1,14 +1,14 @@
 use ddc_base::{ListOf, Name};
 
-/// What has to be believed of a program that an unchecked stage runs. The names are the recipe's.
+/// An assumption about a program that an unchecked stage runs. The names are the recipe's.
 #[derive(Drop)]
 pub enum Assumption {
-    /// What the name of an input or of a stage stands for is a program of the source.
+    /// The content of this name, an input or a stage's artefact, is a program of the source.
     Implements {
         made: Name,
         source: Name,
     },
-    /// What the source prescribes in the stage's box at its output is a program of the other source.
+    /// What the source prescribes at the stage's output, in its execution context, is a program of the other source.
     Compiles {
         source: Name,
         stage: Name,
@@ -16,5 +16,5 @@ pub enum Assumption {
     },
 }
 
-/// Assumptions in a row.
+/// A list of assumptions.
 pub type Assumptions = ListOf<Assumption>;

@@ -5,7 +5,7 @@ use crate::meaning::Meaning;
 use crate::semantics::Semantics;
 use std::marker::PhantomData;
 
-/// The meaning that a deterministic semantics is: a source compiles another one where all that it prescribes implements that one.
+/// The meaning of a deterministic semantics: a source compiles another one if all that it prescribes implements the other.
 pub struct Deterministic<S> {
     semantics: PhantomData<S>,
 }

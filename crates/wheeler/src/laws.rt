@@ -17,20 +17,20 @@ ghost use Rattle.audit_rules.specs.declared.answer.AuditAnswer.TheVariants.{Comp
 
 use crate::meaning::Meaning;
 
-/// Each compared stage of a recipe that keeps its rules is there, and where it is unchecked it has a parent source.
+/// Each compared stage of a well-formed recipe exists, and if it is unchecked it has a parent source.
 pub fn compared_stages_are_there()
     ensures { (recipe : RecipeContents) → IsRecipe recipe → All (HasCompared recipe) recipe.compare.stages }
 {}
 
-/// Wheeler's argument, in both directions: of a recipe that keeps its rules and inputs within their limits, where the bench reaches its
-/// end, the conclusion that belongs to each comparison holds, from the lines of that stage's route alone.
+/// Wheeler's argument, in both directions: if `bench` completes, for a well-formed recipe and inputs within their limits, each comparison
+/// has its conclusion, from the assumptions of that stage's route alone.
 pub fn the_bench_concludes<M: Meaning>()
     ensures { (recipe : RecipeContents) (inputs : List (List ℕ)) (report : Report) → IsRecipe recipe → IsInputs recipe inputs
         → bench recipe inputs ≡ Completes report → Concludes M.prescribes M.compiles recipe inputs report.compare }
 {}
 
-/// A route in its own words: it is empty where the stage is checked, and else the stage's program and then the route of the stage that makes
-/// that program, if one does. Of a stage's number it is that of its name.
+/// A stage's route is its program and then the route of the stage that makes that program, if one does; a checked stage's route is empty. A
+/// stage's number and its name have the same route.
 pub fn a_route_goes_back()
     ensures back { (recipe : RecipeContents) (name : List ℕ) (stage : Stage) → IsRecipe recipe → stage_named recipe.stages name ≡ Some stage
         → route_named recipe name ≡ unless_checked stage.check (stage.program ∷ route_named recipe stage.program) }
@@ -39,16 +39,16 @@ pub fn a_route_goes_back()
         → route recipe number ≡ route_named recipe stage.name }
 {}
 
-/// What stands on a route is the program of an unchecked stage, and the lines of a route are those lines of the whole audit that are about
-/// its members, in the same order.
+/// Every name on a route is the program of an unchecked stage, and a route's assumptions are those of the whole audit about its members, in
+/// the same order.
 pub fn routes_are_trusted()
     ensures programs { (recipe : RecipeContents) (number : ℕ) (name : List ℕ) → is_on (route recipe number) name ≡ true → is_trusted recipe name ≡ true }
     ensures lines { (recipe : RecipeContents) (number : ℕ)
         → assumed_for recipe number ≡ filter (λ line. is_on (route recipe number) (about line)) (assumed recipe) }
 {}
 
-/// An audit whose comparisons are all equal: where every line that is listed of its programs and of its compared stages holds, so does every
-/// line that is assumed of it, every stage follows, and its audited binary implements the source of each compared stage that has one.
+/// If all comparisons are equal and every listed assumption holds, every assumption of the audit holds, every stage follows, and the
+/// audited binary implements the source of each compared stage that has one.
 pub fn an_equal_bench_concludes<M: Meaning>()
     ensures { (recipe : RecipeContents) (inputs : List (List ℕ)) (report : Report) → IsRecipe recipe → IsInputs recipe inputs
         → bench recipe inputs ≡ Completes report → all_equal report.compare ≡ true → ListedHold M.prescribes M.compiles recipe inputs

@@ -1,7 +1,7 @@
-//! Wheeler's argument: what sources mean, what has to be believed of an audit's programs, and what follows from its end.
+//! Wheeler's argument: what sources mean, what is assumed of an audit's programs, and what follows from its report.
 //!
-//! Its rules for people: docs/reference/argument.md. The conclusions hold for every meaning, and the program needs none: a meaning has
-//! nothing that runs.
+//! Its rules for people: docs/reference/argument.md. The conclusions hold for every meaning. A meaning has no code that runs, and the
+//! program needs none.
 #![tactic(auto)]
 
 mod assembly;

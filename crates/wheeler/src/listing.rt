@@ -16,18 +16,18 @@ use ddc_base::{ListOf, Name, OutOfMemory};
 use recipe::{Input, Recipe, SourceLanguage, Stage};
 use std::alloc::Global;
 
-/// What has to be believed of the programs of an audit's unchecked stages: a line for each input or stage that is one, inputs first and
-/// then stages, each in the recipe's order.
+/// The assumptions about programs of an audit's unchecked stages: one for each such input or stage. Inputs are first, then stages, each in
+/// the recipe's order. Error: out of memory.
 ///
-/// A stage that is checked in hex0, hex1 or hex2 as a program of the check's own source has no line.
+/// A stage that is checked in hex0, hex1 or hex2 as a program of the check's own source has no assumption.
 pub fn assumptions(alloc: Global, recipe: &Recipe) -> Result<Assumptions, OutOfMemory>
     ensures { IfOk result (λ lines. lines ≡ assumed recipe.now) }
 {
     trust_lines(alloc, recipe, &Trusted::OfAll)
 }
 
-/// What has to be believed for one stage alone, by its number from 1: those lines of `assumptions` that are about the programs of its
-/// route, which are its own program, that program's own where an unchecked stage makes it, and so on. None where the stage is checked.
+/// The assumptions for one stage, by its number from 1: those of `assumptions` about the programs of its route. The route is its own
+/// program, that program's own if an unchecked stage makes it, and so on. Empty if the stage is checked. Error: out of memory.
 pub fn assumptions_for(
     alloc: Global,
     recipe: &Recipe,
@@ -41,15 +41,15 @@ pub fn assumptions_for(
     trust_lines(alloc, recipe, &Trusted::These(programs.as_slice()))
 }
 
-/// What has to be believed where later audits may run the audited binary: the lines of `assumptions`, with each compared stage counted as the
-/// program of an unchecked stage. A compared stage without a source has no line.
+/// The assumptions of an audit whose audited binary later audits may run: like `assumptions`, and each compared stage counts as the program
+/// of an unchecked stage. A compared stage without a source has none. Error: out of memory.
 pub fn assumptions_with_compared(alloc: Global, recipe: &Recipe) -> Result<Assumptions, OutOfMemory>
     ensures { IfOk result (λ lines. lines ≡ lines_listed recipe.now) }
 {
     trust_lines(alloc, recipe, &Trusted::WithCompared)
 }
 
-/// The lines of what is trusted: inputs first and then stages, each in the recipe's order.
+/// The assumptions about what is trusted: inputs first and then stages, each in the recipe's order.
 #[tactic(auto, unfolding(crate::specs::Assumptions::trust_lines))]
 fn trust_lines(
     alloc: Global,
@@ -68,7 +68,7 @@ fn trust_lines(
     Ok(lines)
 }
 
-/// Adds a line, if it is one.
+/// Adds an assumption, if there is one.
 fn push_line(lines: &mut Assumptions, line: Option<Assumption>) -> Result<(), OutOfMemory>
     ensures { OnOk result (lines.new ≡ lines.old ++ cons_option line []) }
 {
@@ -78,7 +78,7 @@ fn push_line(lines: &mut Assumptions, line: Option<Assumption>) -> Result<(), Ou
     }
 }
 
-/// The line of an input, where it is trusted.
+/// The assumption about an input; `None` if it is not trusted or has no source.
 #[tactic(auto, unfolding(crate::specs::Assumptions::input_assumption))]
 fn input_line(recipe: &Recipe, trusted: &Trusted<'_>, input: &Input) -> Option<Assumption>
     ensures { result ≡ input_assumption (trusts recipe.now trusted.now) recipe.now input.now }
@@ -90,7 +90,7 @@ fn input_line(recipe: &Recipe, trusted: &Trusted<'_>, input: &Input) -> Option<A
     }
 }
 
-/// The line of a stage, where what it makes is trusted.
+/// The assumption about a stage's artefact; `None` if it is not trusted or needs none.
 #[tactic(auto, unfolding(crate::specs::Assumptions::stage_assumption))]
 fn stage_line(recipe: &Recipe, trusted: &Trusted<'_>, stage: &Stage) -> Option<Assumption>
     ensures { result ≡ stage_assumption (trusts recipe.now trusted.now) recipe.now stage.now }
@@ -105,7 +105,7 @@ fn stage_line(recipe: &Recipe, trusted: &Trusted<'_>, stage: &Stage) -> Option<A
     }
 }
 
-/// That a name stands for a program of its source, if it has one.
+/// The assumption that a name stands for a program of its source; `None` if it has no source.
 fn implements_line(name: &Name, source: Option<&Name>) -> Option<Assumption>
     ensures { result ≡ implements_line name.now (option_map (λ x. x.now) source.entry) }
 {
@@ -118,7 +118,7 @@ fn implements_line(name: &Name, source: Option<&Name>) -> Option<Assumption>
     }
 }
 
-/// That the source of a stage's program makes a program of the stage's source.
+/// The assumption that the source of a stage's program makes a program of the stage's source.
 fn compiles_line(source: Option<&Name>, stage: &Name, becomes: Option<&Name>) -> Option<Assumption>
     ensures { result ≡ compiles_line (option_map (λ x. x.now) source.entry) stage.now (option_map (λ x. x.now) becomes.entry) }
 {
@@ -135,7 +135,7 @@ fn compiles_line(source: Option<&Name>, stage: &Name, becomes: Option<&Name>) ->
     }
 }
 
-/// That a checked stage makes a program of its source, unless its check in hex0, hex1 or hex2 is of that very source.
+/// The assumption that a checked stage makes a program of its source; `None` if its check in hex0, hex1 or hex2 is of that very source.
 fn checked_line(stage: &Name, check: Option<&Name>, source: Option<&Name>) -> Option<Assumption>
     ensures { result ≡ checked_line stage.now (option_map (λ x. x.now) check.entry) (option_map (λ x. x.now) source.entry) }
 {
@@ -152,7 +152,7 @@ fn checked_line(stage: &Name, check: Option<&Name>, source: Option<&Name>) -> Op
     }
 }
 
-/// The name of a check's source, where it is in hex0, hex1 or hex2.
+/// The name of a check's source, if it is in hex0, hex1 or hex2.
 fn hex_check<'a>(recipe: &Recipe, check: &'a Name) -> Option<&'a Name>
     ensures { option_map (λ x. x.now) result ≡ hex_check recipe.now.sources check.now }
 {
@@ -174,7 +174,7 @@ fn trusts(recipe: &Recipe, trusted: &Trusted<'_>, name: &Name) -> bool
     }
 }
 
-/// Whether a name is that of the program of some unchecked stage, or of a compared stage.
+/// Whether a name is that of the program of an unchecked stage, or of a compared stage.
 #[tactic(auto, unfolding(crate::specs::Listed::counts))]
 fn counts(recipe: &Recipe, name: &Name) -> bool
     ensures { result ≡ counts recipe.now name.now }
@@ -182,14 +182,14 @@ fn counts(recipe: &Recipe, name: &Name) -> bool
     is_trusted(recipe, name) || is_on(recipe.compare().stages.as_slice(), name)
 }
 
-/// Whether a name is one of these.
+/// Whether the list has this name.
 fn is_on(programs: &[Name], name: &Name) -> bool
     ensures { result ≡ is_on programs.now name.now }
 {
     programs.iter().any(|program| *program == *name)
 }
 
-/// Whether a name is that of the program of some unchecked stage.
+/// Whether a name is that of the program of an unchecked stage.
 #[tactic(auto, unfolding(crate::specs::Assumptions::is_trusted))]
 fn is_trusted(recipe: &Recipe, name: &Name) -> bool
     ensures { result ≡ is_trusted recipe.now name.now }

@@ -5,25 +5,25 @@ ghost use Rattle.audit_rules.specs.Contents.{SourceText};
 ghost use Rattle.wheeler.specs.Meaning.{Implements};
 ghost use Rattle.wheeler.specs.Values.{binary_of};
 
-/// What sources mean: two relations, and the three laws that carry Wheeler's argument. It has nothing that runs.
+/// What sources mean: two relations, and the three laws that Wheeler's argument needs. It has no code that runs.
 ///
-/// A program implements a source where, with every valid box, each content that it leaves where it exits with 0 is one that the source
-/// prescribes there.
+/// A program implements a source if, in every valid execution context, whatever it leaves at an output when it exits with 0 is prescribed
+/// there by the source.
 pub trait Meaning {
-    /// The source, run as a program with the box, prescribes this content at the output.
+    /// The source, run as a program in the execution context, prescribes this content at the output.
     ghost prescribes: { SourceText → Setting → OutputPlace → List ℕ → Type 0 };
 
-    /// What the source prescribes there is a program of the other source.
+    /// What the source prescribes at the output is a program of the other source.
     ghost compiles: { SourceText → Setting → OutputPlace → SourceText → Type 0 };
 
     /// A source prescribes at most one content at an output.
     ghost fixed: { (source : SourceText) (box : Setting) (output : OutputPlace) (one other : List ℕ)
         → prescribes source box output one → prescribes source box output other → one ≡ other };
 
-    /// What a source prescribes where it compiles another source implements that one.
+    /// If a source compiles another source, what it prescribes there implements the other.
     ghost carry: { (source other : SourceText) (box : Setting) (output : OutputPlace) (program : List ℕ)
         → prescribes source box output program → compiles source box output other → Implements prescribes program other };
 
-    /// The value of a source of hex0, hex1 or hex2 implements it.
+    /// The value of a source in hex0, hex1 or hex2 implements the source.
     ghost literal: { (source : SourceText) (program : List ℕ) → binary_of source ≡ Some program → Implements prescribes program source };
 }

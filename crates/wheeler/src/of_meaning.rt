@@ -2,7 +2,7 @@ use crate::meaning::Meaning;
 use crate::semantics::Semantics;
 use std::marker::PhantomData;
 
-/// The semantics that a meaning has: what it prescribes, without what it compiles.
+/// The semantics of a meaning: what it prescribes, without what it compiles.
 pub struct OfMeaning<M> {
     meaning: PhantomData<M>,
 }

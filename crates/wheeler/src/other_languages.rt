@@ -9,10 +9,10 @@ ghost use Rattle.guest_run.proofs.Programs.{one-run};
 use crate::semantics::Semantics;
 use std::marker::PhantomData;
 
-/// A deterministic semantics of sources in other languages, as C: any relation that prescribes at most one content. What it says of sources of
-/// hex0, hex1 and hex2 that have a value is not asked. It has nothing that runs.
+/// A deterministic semantics of sources in other languages, such as C: any relation that prescribes at most one content. It is not used for
+/// sources in hex0, hex1 and hex2 that have a value. It has no code that runs.
 pub trait OtherLanguages {
-    /// The source, run as a program with the box, prescribes this content at the output.
+    /// The source, run as a program in the execution context, prescribes this content at the output.
     ghost prescribes: { SourceText → Setting → OutputPlace → List ℕ → Type 0 };
 
     /// A source prescribes at most one content at an output.
@@ -20,8 +20,8 @@ pub trait OtherLanguages {
         → prescribes source box output one → prescribes source box output other → one ≡ other };
 }
 
-/// A semantics of other languages beside machine code: a source that has a value of hex0, hex1 or hex2 prescribes what runs of the value leave,
-/// and any other what is given.
+/// A semantics of other languages beside machine code. A source with a value in hex0, hex1 or hex2 prescribes what runs of the value leave;
+/// any other source prescribes what `L` says.
 pub struct WithMachineCode<L> {
     others: PhantomData<L>,
 }

@@ -7,8 +7,8 @@ use ddc_base::{ListOf, Name, OutOfMemory};
 use recipe::{Recipe, Stage};
 use std::alloc::Global;
 
-/// The programs on which the conclusion on a stage rests, by the stage's number from 1: its own, that program's own where an unchecked
-/// stage makes it, and so on. None where the stage is checked.
+/// The programs on which the conclusion about a stage depends, by the stage's number from 1: its own, that program's own if an unchecked
+/// stage makes it, and so on. Empty if the stage is checked. Error: out of memory.
 #[tactic(auto, unfolding(crate::specs::Routes::route))]
 pub(crate) fn route(alloc: Global, recipe: &Recipe, stage: u32) -> Result<ListOf<Name>, OutOfMemory>
     requires some { 1 ≤ stage }
@@ -19,7 +19,7 @@ pub(crate) fn route(alloc: Global, recipe: &Recipe, stage: u32) -> Result<ListOf
     route_of(alloc, stages, &stages[stage as usize - 1])
 }
 
-/// The same of one of these stages.
+/// The route of this stage.
 fn route_of(alloc: Global, stages: &[Stage], stage: &Stage) -> Result<ListOf<Name>, OutOfMemory>
     ensures { IfOk result (λ names. names ≡ unless_checked stage.now.check (route_from stages.now (length stages.now) stage.now.program)) }
 {
@@ -29,7 +29,7 @@ fn route_of(alloc: Global, stages: &[Stage], stage: &Stage) -> Result<ListOf<Nam
     }
 }
 
-/// A program, and those after it.
+/// A program, and those after it on the route.
 fn route_from(alloc: Global, stages: &[Stage], program: &Name) -> Result<ListOf<Name>, OutOfMemory>
     ensures { IfOk result (λ names. names ≡ route_from stages.now (length stages.now) program.now) }
 {

@@ -5,16 +5,16 @@ ghost use Rattle.audit_rules.specs.Contents.{SourceText};
 ghost use Rattle.wheeler.specs.Meaning.{Implements};
 ghost use Rattle.wheeler.specs.Values.{binary_of};
 
-/// A deterministic semantics of sources that knows machine code: what a source, run as a program, prescribes. It says nothing of compilers,
-/// and has nothing that runs.
+/// A deterministic semantics of sources with machine code: what a source, run as a program, prescribes. It says nothing about compilers and
+/// has no code that runs.
 pub trait Semantics {
-    /// The source, run as a program with the box, prescribes this content at the output.
+    /// The source, run as a program in the execution context, prescribes this content at the output.
     ghost prescribes: { SourceText → Setting → OutputPlace → List ℕ → Type 0 };
 
     /// A source prescribes at most one content at an output.
     ghost fixed: { (source : SourceText) (box : Setting) (output : OutputPlace) (one other : List ℕ)
         → prescribes source box output one → prescribes source box output other → one ≡ other };
 
-    /// The value of a source of hex0, hex1 or hex2 implements it.
+    /// The value of a source in hex0, hex1 or hex2 implements the source.
     ghost literal: { (source : SourceText) (program : List ℕ) → binary_of source ≡ Some program → Implements prescribes program source };
 }

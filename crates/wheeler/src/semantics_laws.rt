@@ -35,18 +35,18 @@ use crate::of_meaning::OfMeaning;
 use crate::other_languages::{OtherLanguages, WithMachineCode};
 use crate::semantics::Semantics;
 
-/// Every meaning compiles no more than the largest relation that Carry allows for what it prescribes.
+/// Every meaning compiles at most as much as the largest relation that the law `carry` allows for what it prescribes.
 pub fn a_meaning_compiles_no_more<M: Meaning>()
     ensures { CompilesNoMore M.compiles ⟦<Deterministic<OfMeaning<M>> as Meaning>⟧.compiles }
 {}
 
-/// Nor does any meaning that prescribes the same as a semantics, taken as a meaning.
+/// Every meaning that prescribes the same as a semantics compiles at most as much as the semantics taken as a meaning.
 pub fn a_semantics_compiles_most<S: Semantics, M: Meaning>()
     ensures { PrescribesSame M.prescribes S.prescribes → CompilesNoMore M.compiles ⟦<Deterministic<S> as Meaning>⟧.compiles }
 {}
 
-/// So lines that hold under such a meaning hold under the semantics too: those of an audit, those of a stage's route, and those that are listed.
-/// With `OfMeaning<M>` as the semantics this is of every meaning.
+/// Assumptions that hold under a meaning hold under a semantics that prescribes the same: those of an audit, of a stage's route, and those
+/// that are listed. With `OfMeaning<M>` as the semantics this covers every meaning.
 pub fn lines_hold_there_too<S: Semantics, M: Meaning>()
     ensures lines { PrescribesSame M.prescribes S.prescribes → (recipe : RecipeContents) (inputs : List (List ℕ))
         → LinesHold M.prescribes M.compiles recipe inputs → LinesHold S.prescribes (AllImplement S.prescribes) recipe inputs }
@@ -56,13 +56,13 @@ pub fn lines_hold_there_too<S: Semantics, M: Meaning>()
         → ListedHold M.prescribes M.compiles recipe inputs → ListedHold S.prescribes (AllImplement S.prescribes) recipe inputs }
 {}
 
-/// And what is concluded under the semantics is concluded under such a meaning, of each comparison of an audit.
+/// What is concluded under a semantics is concluded under every meaning that prescribes the same, for each comparison of an audit.
 pub fn its_conclusion_is_the_strongest<S: Semantics, M: Meaning>()
     ensures { PrescribesSame M.prescribes S.prescribes → (recipe : RecipeContents) (inputs : List (List ℕ)) (lines : List CompareLine)
         → Concludes S.prescribes (AllImplement S.prescribes) recipe inputs lines → Concludes M.prescribes M.compiles recipe inputs lines }
 {}
 
-/// Wheeler's argument for every deterministic semantics that knows machine code.
+/// Wheeler's argument for every deterministic semantics with machine code.
 pub fn the_bench_concludes<S: Semantics>()
     ensures { (recipe : RecipeContents) (inputs : List (List ℕ)) (report : Report) → IsRecipe recipe → IsInputs recipe inputs
         → bench recipe inputs ≡ Completes report → Concludes S.prescribes (AllImplement S.prescribes) recipe inputs report.compare }
@@ -70,7 +70,7 @@ pub fn the_bench_concludes<S: Semantics>()
     crate::laws::the_bench_concludes::<Deterministic<S>>();
 }
 
-/// The same of any deterministic semantics of other languages, beside machine code.
+/// Wheeler's argument for every deterministic semantics of other languages, beside machine code.
 pub fn the_bench_concludes_in_any_language<L: OtherLanguages>()
     ensures { (recipe : RecipeContents) (inputs : List (List ℕ)) (report : Report) → IsRecipe recipe → IsInputs recipe inputs
         → bench recipe inputs ≡ Completes report → Concludes (MachineCodeOr L.prescribes) (AllImplement (MachineCodeOr L.prescribes)) recipe inputs report.compare }
@@ -78,7 +78,7 @@ pub fn the_bench_concludes_in_any_language<L: OtherLanguages>()
     the_bench_concludes::<WithMachineCode<L>>();
 }
 
-/// The same where sources in M1 are the programs that they link to.
+/// Wheeler's argument with M1: the meaning of a source in M1 is the program that it links to.
 pub fn the_bench_concludes_in_m1()
     ensures { (recipe : RecipeContents) (inputs : List (List ℕ)) (report : Report) → IsRecipe recipe → IsInputs recipe inputs
         → bench recipe inputs ≡ Completes report → Concludes MacroLeaves (AllImplement MacroLeaves) recipe inputs report.compare }
@@ -86,8 +86,8 @@ pub fn the_bench_concludes_in_m1()
     the_bench_concludes::<MacroAssembly>();
 }
 
-/// What a line `compiles` says with the largest relation: where the stage's program implements its own source, no more and no less than that what
-/// it leaves implements the other source; and where the source prescribes nothing, nothing at all.
+/// With the largest relation, an assumption `compiles` about a stage whose program implements its source says exactly that the artefact
+/// implements the other source. If the source prescribes nothing, it says nothing.
 pub fn a_line_says_what_was_made<S: Semantics>()
     ensures made { (source other : SourceText) (box : Setting) (output : OutputPlace) (program made : List ℕ) (step : ℕ) (world : World)
         → IsBox box → Implements S.prescribes program source → ProgramRun program box step 0 world → out world output ≡ Some made
@@ -97,8 +97,8 @@ pub fn a_line_says_what_was_made<S: Semantics>()
         → ((content : List ℕ) → S.prescribes source box output content → ⊥) → AllImplement S.prescribes source box output other }
 {}
 
-/// What lines say together with the largest relation: those of an audit, that each program of an unchecked stage implements its source; those
-/// of a stage's route, that each program on it does.
+/// With the largest relation, an audit's assumptions say exactly that each program of an unchecked stage implements its source. Those of a
+/// stage's route say it of each program on the route.
 pub fn lines_are_of_programs<S: Semantics>()
     ensures all { (recipe : RecipeContents) (inputs : List (List ℕ)) (report : Report) → IsRecipe recipe → IsInputs recipe inputs
         → bench recipe inputs ≡ Completes report
@@ -115,19 +115,19 @@ pub fn no_meaning_prescribes_everything<M: Meaning>()
     ensures { ((source : SourceText) (box : Setting) (output : OutputPlace) (content : List ℕ) → M.prescribes source box output content) → ⊥ }
 {}
 
-/// Of a semantics of other languages it is what was given, on every source without a value of hex0, hex1 or hex2.
+/// A semantics of other languages prescribes what was given, for every source without a value in hex0, hex1 or hex2.
 pub fn others_as_given<L: OtherLanguages>()
     ensures { (source : SourceText) → binary_of source ≡ None → (box : Setting) (output : OutputPlace) (content : List ℕ)
         → (MachineCodeOr L.prescribes source box output content → L.prescribes source box output content)
         × (L.prescribes source box output content → MachineCodeOr L.prescribes source box output content) }
 {}
 
-/// Of M1 and hex: the program of a source implements it, in M1 too.
+/// The program of a source in hex0, hex1, hex2 or M1 implements it.
 pub fn the_program_implements()
     ensures { (source : SourceText) (program : List ℕ) → program_of_text source ≡ Some program → Implements MacroLeaves program source }
 {}
 
-/// A source compiles another where the run of its program leaves the other's program.
+/// A source compiles another one if the run of its program leaves the other's program.
 pub fn what_makes_the_program_compiles()
     ensures { (source other : SourceText) (box : Setting) (output : OutputPlace) (made : List ℕ)
         → program_of_text other ≡ Some made → MacroLeaves source box output made
@@ -144,13 +144,13 @@ pub fn lines_on_own_programs_hold()
         → RouteHolds MacroLeaves (AllImplement MacroLeaves) recipe inputs name }
 {}
 
-/// What `Assembly` prescribes is prescribed where M1 has a semantics too.
+/// What `Assembly` prescribes, `MacroAssembly` prescribes too.
 pub fn macro_assembly_keeps_assembly()
     ensures { (source : SourceText) (box : Setting) (output : OutputPlace) (content : List ℕ)
         → ValueLeaves source box output content → MacroLeaves source box output content }
 {}
 
-/// A text of hex2 with the items of an M1 source, which is what a check in M1 finds, has that source's program as its value at the source's base.
+/// A hex2 text with the items of an M1 source has that source's program as its value at the source's base. A check in M1 finds such a text.
 pub fn items_link_to_the_program()
     ensures { (source : SourceText) (text : List ℕ) → source.lang ≡ Defined M1 → HasItemsOf source text
         → binary_of (as_hex2 source.base text) ≡ program_of_text source }

@@ -1,12 +1,12 @@
 use ddc_base::Name;
 
-/// Of which programs lines are asked.
+/// The programs about which assumptions are listed.
 #[derive(Drop)]
 pub(crate) enum Trusted<'p> {
-    /// Of those of all unchecked stages.
+    /// The programs of all unchecked stages.
     OfAll,
-    /// Of these alone.
+    /// These programs.
     These(&'p [Name]),
-    /// Of those of all unchecked stages, and of the compared stages.
+    /// The programs of all unchecked stages, and the compared stages.
     WithCompared,
 }

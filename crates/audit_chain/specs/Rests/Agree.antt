@@ -1,4 +1,4 @@
--- What an artefact's basis settles.
+-- What the dependencies of an artefact settle.
 use Rattle.std.specs.Prelude.{◌≡◌, ℕ, true, false, List, All}
 use Rattle.hex_langs.specs.declared.items.token.Dialect.TheVariants.{Hex2}
 use Rattle.hex_langs.specs.Items.Reading.{items_of}
@@ -17,27 +17,27 @@ use Rattle.audit_chain.specs.Rests.Walk.{is_free, meets, runs_meet, walk}
 abbrev pub IsSame : RecipeContents → List (List ℕ) → List (List ℕ) → List ℕ → Type 0
 IsSame recipe inputs others name = content recipe (all_contents recipe inputs) name ≡ content recipe (all_contents recipe others) name
 
--- two audits of one recipe agree on what is printed of a stage's basis beside the lines
+-- two audits of one recipe agree on the texts and the layouts of a stage's basis
 pub record Agree (recipe : RecipeContents) (inputs others : List (List ℕ)) (name : List ℕ) : Type 0 where
   pub texts : All (IsSame recipe inputs others) (texts recipe name)
   pub layouts : All (IsSame recipe inputs others) (layouts recipe name)
 
--- .. and on the inputs that unchecked stages of the walk run
+-- two audits of one recipe agree on the inputs that unchecked stages among the dependencies run
 abbrev pub AgreeOnPrograms : RecipeContents → List (List ℕ) → List (List ℕ) → List ℕ → Type 0
 AgreeOnPrograms recipe inputs others name =
     All (λ (input : Input). runs_meet (walk recipe name) input.name ≡ true → IsSame recipe inputs others input.name) recipe.inputs
 
--- the artefact of a stage is the same in both; of one that is checked in M1 the items are
+-- the artefact of a stage is the same in both audits; if its check leaves its layout free, the items are
 pub record IsSameArtefact (recipe : RecipeContents) (inputs others : List (List ℕ)) (stage : Stage) : Type 0 where
   pub bytes : is_free recipe stage ≡ false → IsSame recipe inputs others stage.name
   pub items : is_free recipe stage ≡ true
       → items_of Hex2 (content recipe (all_contents recipe inputs) stage.name) ≡ items_of Hex2 (content recipe (all_contents recipe others) stage.name)
 
--- every line of a stage's basis holds
+-- every assumption of a stage's basis holds
 abbrev pub BasisHolds : Prescribes → Compiles → RecipeContents → List (List ℕ) → List ℕ → Type 0
 BasisHolds prescribes compiles recipe inputs name = All (Holds prescribes compiles recipe (all_contents recipe inputs)) (lines recipe name)
 
--- every stage on the way back follows
+-- every stage among the dependencies follows
 abbrev pub WalkFollows : Prescribes → RecipeContents → List (List ℕ) → List ℕ → Type 0
 WalkFollows prescribes recipe inputs name =
     All (λ (stage : Stage). meets (walk recipe name) stage.name ≡ true

@@ -1,4 +1,4 @@
--- What the artefact of a stage rests on.
+-- The dependencies of a stage's artefact.
 use Rattle.std.specs.Prelude.{ℕ, ◌&&◌, ◌||◌, Bool, false, bytes_eq, is_none, if◌then◌else◌, Option, None, Some, List, filter_map}
 use Rattle.std.specs.List.{list_any}
 use Rattle.recipe.specs.declared.contents.RecipeContents.{RecipeContents}
@@ -17,15 +17,15 @@ use Rattle.audit_chain.specs.Rests.Walk.{bytes_meet, files_meet, is_free, meets,
 abbrev pub text_name : List BasisPart → Input → Option (List ℕ)
 text_name parts input = if files_meet parts input.name then Some input.name else None
 
--- a stage whose layout its check leaves free, and whose bytes matter
+-- a stage whose bytes matter and whose check leaves its layout free
 abbrev pub layout_name : RecipeContents → List BasisPart → Stage → Option (List ℕ)
 layout_name recipe parts stage = if bytes_meet parts stage.name && is_free recipe stage then Some stage.name else None
 
--- an unchecked stage that is met
+-- an unchecked stage among these parts
 abbrev pub ran_name : List BasisPart → Stage → Option (List ℕ)
 ran_name parts stage = if meets parts stage.name && is_none stage.check then Some stage.name else None
 
--- whether the source of a name has a file of a name
+-- whether the source of a name has this file
 abbrev pub has_file_by : Option Source → List ℕ → Bool
 has_file_by None file = false
 has_file_by (Some source) file = is_on source.files file
@@ -33,16 +33,16 @@ has_file_by (Some source) file = is_on source.files file
 abbrev pub has_file : RecipeContents → List ℕ → List ℕ → Bool
 has_file recipe source file = has_file_by (source_named recipe.sources source) file
 
--- whether a source that a line names has a file of a name
+-- whether an assumption names a source with this file
 abbrev pub speaks_of : RecipeContents → List ℕ → Assumption → Bool
 speaks_of recipe file (Implements made source) = has_file recipe source file
 speaks_of recipe file (Compiles source stage becomes) = has_file recipe source file || has_file recipe becomes file
 
--- a stage whose artefact is a file of a source that a line names, wherever the stage stands
+-- a stage whose artefact is a file of a source that an assumption names, a dependency or not
 abbrev pub spoken_name : RecipeContents → List Assumption → Stage → Option (List ℕ)
 spoken_name recipe lines stage = if list_any (speaks_of recipe stage.name) lines then Some stage.name else None
 
--- the inputs that are read, the stages whose free layout matters, the unchecked stages, and what has to be believed of programs, each in the
+-- the inputs that are read, the stages whose free layout matters, the unchecked stages, and the assumptions about programs, each in the
 -- recipe's order
 unfoldable pub texts : RecipeContents → List ℕ → List (List ℕ)
 texts recipe name = filter_map (text_name (walk recipe name)) recipe.inputs
@@ -50,7 +50,7 @@ texts recipe name = filter_map (text_name (walk recipe name)) recipe.inputs
 unfoldable pub layouts : RecipeContents → List ℕ → List (List ℕ)
 layouts recipe name = filter_map (layout_name recipe (walk recipe name)) recipe.stages
 
--- the stage itself, where its check leaves its layout free: the check then allows other bytes with the same items
+-- the stage itself, if its check leaves its layout free: the check then allows other bytes with the same items
 abbrev pub own_layout_name : RecipeContents → List ℕ → Stage → Option (List ℕ)
 own_layout_name recipe own stage = if bytes_eq own stage.name && is_free recipe stage then Some stage.name else None
 
@@ -63,6 +63,6 @@ ran recipe name = filter_map (ran_name (walk recipe name)) recipe.stages
 unfoldable pub lines : RecipeContents → List ℕ → List Assumption
 lines recipe name = trust_lines (runs_meet (walk recipe name)) recipe
 
--- the stages whose artefacts are files of sources that the lines name: a reader of such a source has to ask what each of them depends on
+-- the stages whose artefacts are files of sources that the assumptions name: a reader of such a source has to ask what each depends on
 unfoldable pub spoken : RecipeContents → List ℕ → List (List ℕ)
 spoken recipe name = filter_map (spoken_name recipe (lines recipe name)) recipe.stages

@@ -1,4 +1,4 @@
--- What the languages' definitions alone make of the texts of a recipe: no program runs here.
+-- The values that the languages' definitions alone compose from the texts of a recipe. No program runs here.
 use Rattle.std.specs.Prelude.{◌≡◌, ℕ, zero, suc, true, bytes_eq, if◌then◌else◌, Option, None, Some, option_and_then, option_map, Result, Ok, Err, slice_get, length, List, [], ◌∷◌, map, get_or}
 use Rattle.ddc_base.specs.declared.languages.Language.{Language}
 use Rattle.ddc_base.specs.declared.languages.Language.TheVariants.{Hex2}
@@ -15,7 +15,7 @@ use Rattle.audit_rules.specs.declared.source_check.cause.CheckCause.{CheckCause}
 use Rattle.audit_rules.specs.SourceCheck.Checks.{SourceValue, ValueBytes, ValueItems, hex_value, joined_files, source_value_of}
 use Rattle.audit_chain.specs.Rests.Walk.{meets, walk}
 
--- files that are bytes, if all are
+-- a list of bytes, with one more in front; None unless each value is bytes
 abbrev pub bytes_first : Option SourceValue → Option (List (List ℕ)) → Option (List (List ℕ))
 bytes_first None rest = None
 bytes_first (Some (ValueItems items)) rest = None
@@ -25,16 +25,16 @@ abbrev pub all_bytes : List (Option SourceValue) → Option (List (List ℕ))
 all_bytes [] = Some []
 all_bytes (value ∷ values) = bytes_first value (all_bytes values)
 
--- a value, if there is one
+-- a value; None for a refusal
 abbrev pub value_there : Result SourceValue CheckCause → Option SourceValue
 value_there (Ok value) = Some value
 value_there (Err why) = None
 
--- the value of a text that is these files
+-- the value of a text that is these files, joined
 abbrev pub of_bytes : Language → ℕ → Option (List (List ℕ)) → Option SourceValue
 of_bytes language base files = option_and_then (λ bytes. value_there (source_value_of language base (joined_files bytes))) files
 
--- of one file in hex2: items that an expansion gave are linked as they are
+-- the value of a hex2 source of one file; items that an expansion gave are linked as they are
 abbrev pub of_one : ℕ → Option SourceValue → Option SourceValue
 of_one base None = None
 of_one base (Some (ValueItems items)) = value_there (hex_value (linked base (Ok items)))
@@ -62,7 +62,7 @@ abbrev pub of_stage : RecipeContents → List ℕ → Option Stage → Option So
 of_stage recipe name None before earlier = before
 of_stage recipe name (Some stage) before earlier = if bytes_eq stage.name name then of_check recipe earlier stage.check else before
 
--- the value of a name: of an input its bytes; of a checked stage its check's source's value, over the values of that source's files
+-- the value of a name: an input's bytes, or the value of a checked stage's source, composed from the values of the source's files
 unfoldable pub composed_from : RecipeContents → List (List ℕ) → ℕ → List ℕ → Option SourceValue
 composed_from recipe inputs zero name = of_input inputs (input_at recipe.inputs name)
 composed_from recipe inputs (suc n) name =
@@ -71,7 +71,7 @@ composed_from recipe inputs (suc n) name =
 abbrev pub composed : RecipeContents → List (List ℕ) → List ℕ → Option SourceValue
 composed recipe inputs name = composed_from recipe inputs (length recipe.stages) name
 
--- bytes have a value: they are these bytes, or a text of hex2 with these items
+-- bytes have a value: they are these bytes, or a hex2 text with these items
 abbrev pub HasValue : List ℕ → SourceValue → Type 0
 HasValue made (ValueBytes bytes) = bytes ≡ made
 HasValue made (ValueItems items) = items_of dialect.Hex2 made ≡ Ok items
@@ -83,17 +83,17 @@ pub record HasComposed (recipe : RecipeContents) (inputs : List (List ℕ)) (nam
 
 -- ---- two recipes
 
--- each stage's name, and what it is checked by
+-- each stage's name and its check
 abbrev pub checks_of : RecipeContents → List (List ℕ × Option (List ℕ))
 checks_of recipe = map (λ (stage : Stage). (stage.name, stage.check)) recipe.stages
 
--- two recipes have the same sources and the same checks, and each name on the way back stands for the same input's bytes in both, or for no input
+-- two recipes have the same sources and checks, and each name among the dependencies is in both the same input's bytes or not an input
 pub record ChecksAlike (recipe other : RecipeContents) (inputs others : List (List ℕ)) (name : List ℕ) : Type 0 where
   pub sources : recipe.sources ≡ other.sources
   pub checks : checks_of recipe ≡ checks_of other
   pub texts : (n : List ℕ) → meets (walk recipe name) n ≡ true → of_input inputs (input_at recipe.inputs n) ≡ of_input others (input_at other.inputs n)
 
--- both have one value: they are the same bytes, or texts of hex2 with the same items
+-- both have one value: they are the same bytes, or hex2 texts with the same items
 pub record HaveOneValue (made other : List ℕ) : Type 0 where
   pub value : SourceValue
   pub one : HasValue made value

@@ -17,16 +17,16 @@ ghost use Rattle.audit_rules.specs.Contents.{content};
 ghost use Rattle.audit_rules.specs.Valid.{IsInputs};
 ghost use Rattle.audit_rules.specs.declared.answer.AuditAnswer.TheVariants.{Completes};
 
-/// In a true report the length and the digest of each name are those of the bytes that the name stands for.
+/// In a true report the length and digest of each name are those of the bytes that the name stands for.
 pub fn marks_are_of_the_contents()
     ensures { (recipe : RecipeContents) (inputs : List (List ℕ)) (report : Report) (name : List ℕ) → IsRecipe recipe → IsInputs recipe inputs
         → bench recipe inputs ≡ Completes report → IsMade recipe recipe.stages name
         → mark_named recipe report name ≡ Some (mark_of (content recipe (all_contents recipe inputs) name)) }
 {}
 
-/// Digests of the dependencies settle the artefact: two true reports of one recipe that agree on the lengths and digests of the texts, of the programs that
-/// are inputs and of the layouts that a check in M1 leaves free have the same artefact of the stage. It has the same bytes; of a stage that is checked in M1
-/// itself, the same items. Otherwise two different contents with one length and one digest are at hand.
+/// In two true reports of one recipe, equal lengths and digests of a stage's dependencies mean the same artefact, or two different contents
+/// with one length and digest are at hand. The dependencies are the texts, the programs that are inputs, and the layouts that a check in M1
+/// leaves free. The artefact has the same bytes; if the stage is checked in M1, the same items.
 pub fn the_marks_settle_it()
     ensures { (recipe : RecipeContents) (inputs others : List (List ℕ)) (report other : Report) (name : List ℕ) (stage : Stage)
         → IsRecipe recipe → IsInputs recipe inputs → IsInputs recipe others
@@ -35,7 +35,8 @@ pub fn the_marks_settle_it()
         → IsSameArtefact recipe inputs others stage ⊎ Collision }
 {}
 
-/// Where nothing is assumed and no free layout matters, the lengths and digests of the texts alone settle the artefact, whatever programs ran.
+/// Without assumptions and free layouts that matter, the lengths and digests of the texts alone settle the artefact, whatever programs ran.
+/// Otherwise two different contents with one length and digest are at hand.
 pub fn the_marked_texts_settle_it()
     ensures { (recipe : RecipeContents) (inputs others : List (List ℕ)) (report other : Report) (name : List ℕ) (stage : Stage)
         → IsRecipe recipe → IsInputs recipe inputs → IsInputs recipe others
@@ -45,8 +46,8 @@ pub fn the_marked_texts_settle_it()
         → IsSameArtefact recipe inputs others stage ⊎ Collision }
 {}
 
-/// Where no line `audited` or `same` is printed, nothing that is read or run on the way back from the stage has the audited binary's bytes, the stage itself
-/// left out.
+/// If no line `audited` or `same` is printed, no dependency of the stage, read or run, has the audited binary's bytes. The stage itself
+/// does not count.
 pub fn an_untold_binary_is_not_met()
     ensures { (recipe : RecipeContents) (inputs : List (List ℕ)) (report : Report) (name : List ℕ) → IsRecipe recipe → IsInputs recipe inputs
         → bench recipe inputs ≡ Completes report → audited_met recipe report Read name ≡ [] → audited_met recipe report Run name ≡ []

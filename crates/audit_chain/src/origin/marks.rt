@@ -1,4 +1,4 @@
-//! The lengths and digests that a report has of what a recipe names.
+//! The lengths and digests in a report, by the recipe's names.
 
 ghost use Rattle.audit_chain.specs.Provenance.{is_audited, content_mark, mark_named, same_mark};
 ghost use Rattle.std.specs.Prelude.{◌≡◌};
@@ -7,7 +7,7 @@ use ddc_base::Name;
 use recipe::{Content, Recipe};
 use report::{Mark, Report};
 
-/// The length and digest that a report has of a name: of an input, or of a stage's artefact.
+/// The length and digest in a report of a name, an input or a stage's artefact; `None` if it is neither.
 #[tactic(auto, unfolding(crate::specs::Provenance::mark_named))]
 pub fn mark_named(recipe: &Recipe, report: &Report, name: &Name) -> Option<Mark>
     ensures { result ≡ mark_named recipe.now report.now name.now }
@@ -34,7 +34,7 @@ fn content_mark(report: &Report, found: Content) -> Option<Mark>
     }
 }
 
-/// Whether both are marks, and the same one.
+/// Whether both are the same length and digest; false if either is `None`.
 fn same_mark(one: Option<Mark>, other: Option<Mark>) -> bool
     ensures { result ≡ same_mark one other }
 {
@@ -47,7 +47,7 @@ fn same_mark(one: Option<Mark>, other: Option<Mark>) -> bool
     }
 }
 
-/// Whether a report has one length and one digest of a name and of the audited binary.
+/// Whether a report has the same length and digest for a name and for the audited binary.
 pub(crate) fn is_audited(recipe: &Recipe, report: &Report, name: &Name) -> bool
     ensures { result ≡ is_audited recipe.now report.now name.now }
 {

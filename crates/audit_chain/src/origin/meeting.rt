@@ -1,8 +1,8 @@
-/// How a name is met on the way back from a stage.
+/// How a stage's artefact depends on a name.
 #[derive(Clone, Copy)]
 pub enum Meeting {
-    /// It is read: by a program, or as a file of a check's source.
+    /// The name is read: by a program, or as a file of a check's source.
     Read,
-    /// It is run.
+    /// The name is run.
     Run,
 }

@@ -1,4 +1,4 @@
-//! Names that `provenance` prints of a stage's artefact, besides its basis.
+//! The dependencies of a stage's artefact that `provenance` prints besides its basis.
 
 ghost use Rattle.audit_chain.specs.Provenance.{audited_met, audited_input, audited_stage, is_audited, is_met, names_source, run_input_name, programs, same_artefacts};
 ghost use Rattle.audit_chain.specs.declared.origin.meeting.Meeting.TheVariants.{Read, Run};
@@ -17,22 +17,22 @@ use report::Report;
 use std::alloc::Global;
 use wheeler::Assumption;
 
-/// Dependencies of a stage's artefact that only a report can name or only `provenance` prints: each in the recipe's order.
+/// The dependencies of a stage's artefact that `provenance` prints besides its basis. Each list has the recipe's order.
 #[derive(Drop)]
 pub struct Origin {
-    /// The inputs that unchecked stages on the way back run.
+    /// The inputs that unchecked stages among the dependencies run.
     pub programs: ListOf<Name>,
-    /// The inputs that are read on the way back and have the audited binary's length and digest.
+    /// The inputs among the dependencies that are read and have the audited binary's length and digest.
     pub audited_read: ListOf<Name>,
-    /// The inputs that are run on the way back and have the audited binary's length and digest.
+    /// The inputs among the dependencies that are run and have the audited binary's length and digest.
     pub audited_run: ListOf<Name>,
-    /// The earlier stages whose artefact is read on the way back and has the audited binary's length and digest.
+    /// The other stages among the dependencies whose artefact is read and has the audited binary's length and digest.
     pub same_read: ListOf<Name>,
-    /// The earlier stages whose artefact is run on the way back and has the audited binary's length and digest.
+    /// The other stages among the dependencies whose artefact is run and has the audited binary's length and digest.
     pub same_run: ListOf<Name>,
 }
 
-/// Finds these dependencies of the artefact of the stage of a name.
+/// The dependencies of the artefact of the stage of a name that `provenance` prints besides its basis. Error: out of memory.
 pub fn origin_of(
     alloc: Global,
     recipe: &Recipe,
@@ -49,7 +49,7 @@ pub fn origin_of(
     found_in(alloc, recipe, report, parts.as_slice(), name)
 }
 
-/// Finds them in the way back from the stage, which is borrowed.
+/// These dependencies, from the parts that `walk` found.
 fn found_in(
     alloc: Global,
     recipe: &Recipe,
@@ -115,7 +115,7 @@ fn audited_inputs(
     Ok(names)
 }
 
-/// The earlier stages whose artefact is met in this way and has the audited binary's length and digest.
+/// The other stages whose artefact is met in this way and has the audited binary's length and digest.
 fn same_stages(
     alloc: Global,
     audit: &Reported<'_>,

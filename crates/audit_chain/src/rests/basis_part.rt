@@ -1,15 +1,15 @@
 use ddc_base::{ListOf, Name};
 
-/// What a stage's artefact is made from, by its name.
+/// A part from which a stage's artefact is made, by its name.
 #[derive(Drop)]
 pub enum BasisPart {
-    /// Bytes that are read as they are: a file that a program is given, or one of a check's source.
+    /// Bytes that are read as they are: a file of an unchecked stage's program, or one of a check's source.
     Reads(Name),
-    /// The one file of a check's source in hex2, of which the items alone matter.
+    /// The one file of a check's source in hex2, of which only the items matter.
     Links(Name),
     /// The program that an unchecked stage runs.
     Runs(Name),
 }
 
-/// Parts in a row.
+/// A list of parts.
 pub type BasisParts = ListOf<BasisPart>;

@@ -19,8 +19,8 @@ ghost use Rattle.audit_rules.specs.declared.answer.AuditAnswer.TheVariants.{Comp
 
 use wheeler::Meaning;
 
-/// Where no line is printed of a stage, its artefact is a function of the texts that are printed: two audits of one recipe that reach their
-/// ends and agree on these have the same artefact there, whatever stands in every other input, and so whatever programs ran.
+/// Without assumptions about a stage, its artefact is a function of the texts that `rests` prints, whatever programs ran. Two completed
+/// audits of one recipe that agree on the stage's texts and layouts have the same artefact; all other inputs may differ.
 pub fn without_a_line_the_texts_settle_it()
     ensures { (recipe : RecipeContents) (inputs others : List (List ℕ)) (report other : Report) (name : List ℕ) (stage : Stage)
         → IsRecipe recipe → IsInputs recipe inputs → IsInputs recipe others
@@ -29,7 +29,8 @@ pub fn without_a_line_the_texts_settle_it()
         → IsSameArtefact recipe inputs others stage }
 {}
 
-/// With lines, the same where the audits agree on the programs that are inputs too.
+/// Also with assumptions, two completed audits have the same artefact if they agree on the texts, the layouts and the programs that are
+/// inputs.
 pub fn the_basis_settles_it()
     ensures { (recipe : RecipeContents) (inputs others : List (List ℕ)) (report other : Report) (name : List ℕ) (stage : Stage)
         → IsRecipe recipe → IsInputs recipe inputs → IsInputs recipe others
@@ -38,22 +39,22 @@ pub fn the_basis_settles_it()
         → IsSameArtefact recipe inputs others stage }
 {}
 
-/// Where every line of a stage's basis holds, every stage on the way back from it follows, it too.
+/// If every assumption of a stage's basis holds, the stage follows, and so does every stage among its dependencies.
 pub fn the_walk_follows<M: Meaning>()
     ensures { (recipe : RecipeContents) (inputs : List (List ℕ)) (report : Report) (name : List ℕ) → IsRecipe recipe → IsInputs recipe inputs
         → bench recipe inputs ≡ Completes report → BasisHolds M.prescribes M.compiles recipe inputs name
         → WalkFollows M.prescribes recipe inputs name }
 {}
 
-/// Where every stage on the way back is checked and no free layout matters, the artefact has the value that the languages' definitions alone
-/// compose of the texts, without a run: it is these bytes; or, of a stage that is checked in M1, a text of hex2 with these items.
+/// If every stage among the dependencies is checked and no free layout matters, the artefact has the value that the languages' definitions
+/// alone compose from the texts, without a run. The artefact is these bytes or, if checked in M1, a hex2 text with these items.
 pub fn checked_stages_are_composed()
     ensures { (recipe : RecipeContents) (inputs : List (List ℕ)) (report : Report) (name : List ℕ) (stage : Stage) → IsRecipe recipe → IsInputs recipe inputs
         → bench recipe inputs ≡ Completes report → stage_named recipe.stages name ≡ Some stage → ran recipe name ≡ [] → layouts recipe name ≡ []
         → HasComposed recipe inputs name (content recipe (all_contents recipe inputs) name) }
 {}
 
-/// The way back from a stage in its own words: the least choice of names that has the stage's name and, with each stage, the parts of that stage.
+/// The dependencies of a stage are the least set of names that has the stage's name and, with each stage, the parts of that stage.
 pub fn the_way_back_is_the_least()
     ensures begins { (recipe : RecipeContents) (name : List ℕ) → IsRecipe recipe → meets (walk recipe name) name ≡ true }
     ensures parts { (recipe : RecipeContents) (name : List ℕ) → IsRecipe recipe → HasParts recipe (meets (walk recipe name)) }
@@ -61,8 +62,8 @@ pub fn the_way_back_is_the_least()
         → (other : List ℕ) → meets (walk recipe name) other ≡ true → chosen other ≡ true }
 {}
 
-/// The lines of a basis are those of the whole audit that are about programs on the way back, in its order; the programs of the stage's own
-/// route are among these.
+/// The assumptions of a basis are those of the whole audit about programs among the dependencies, in its order. The programs of the stage's
+/// own route are among these.
 pub fn the_lines_are_those_of_the_audit()
     ensures lines { (recipe : RecipeContents) (name : List ℕ)
         → lines recipe name ≡ filter (λ line. runs_meet (walk recipe name) (about line)) (assumed recipe) }
@@ -70,8 +71,8 @@ pub fn the_lines_are_those_of_the_audit()
         → runs_meet (walk recipe name) program ≡ true }
 {}
 
-/// Two recipes with the same sources and checks, and the same texts on the way back, make of a name the same bytes, or texts of hex2 with the same
-/// items, whatever programs ran: where every stage on both ways back is checked and no free layout matters.
+/// Two recipes with the same sources, checks and texts among the dependencies make the same bytes, or hex2 texts with the same items, if
+/// every dependency is checked and no free layout matters. That holds whatever programs ran.
 pub fn recipes_that_check_alike_make_the_same()
     ensures { (recipe other : RecipeContents) (inputs others : List (List ℕ)) (report whole : Report) (name : List ℕ) (stage twin : Stage)
         → IsRecipe recipe → IsRecipe other → IsInputs recipe inputs → IsInputs other others

@@ -1,4 +1,4 @@
-//! What the artefact of a stage rests on.
+//! The dependencies of a stage's artefact.
 
 ghost use Rattle.audit_chain.specs.Rests.Basis.{has_file, layout_name, layouts, lines, own_layout, own_layout_name, ran, ran_name, speaks_of, spoken, spoken_name, text_name, texts};
 ghost use Rattle.audit_chain.specs.Rests.Walk.{bytes_meet, is_free, meets, runs_meet, walk};
@@ -17,24 +17,24 @@ use recipe::{Recipe, SourceLanguage, Stage};
 use std::alloc::Global;
 use wheeler::{Assumption, Assumptions, assumptions};
 
-/// What the artefact of a stage rests on, each in the recipe's order.
+/// The dependencies of a stage's artefact, as `rests` prints them. Each list has the recipe's order.
 #[derive(Drop)]
 pub struct Basis {
     /// The inputs that are read.
     pub texts: ListOf<Name>,
-    /// The stages that are checked in M1, which leaves their layout free, and whose bytes matter.
+    /// The stages whose bytes matter and whose check, in M1, leaves their layout free.
     pub layouts: ListOf<Name>,
-    /// The stage itself, where it is checked in M1; otherwise nothing.
+    /// The stage itself, if it is checked in M1; else empty.
     pub own_layout: ListOf<Name>,
-    /// The unchecked stages on the way back.
+    /// The unchecked stages among the dependencies.
     pub ran: ListOf<Name>,
-    /// What has to be believed of programs.
+    /// The assumptions about programs.
     pub lines: Assumptions,
-    /// The stages whose artefacts are files of sources that the lines name, wherever the stages stand.
+    /// The stages whose artefacts are files of sources that the assumptions name, dependencies or not.
     pub spoken: ListOf<Name>,
 }
 
-/// What the artefact of the stage of a name rests on.
+/// The dependencies of the artefact of the stage of a name. Error: out of memory.
 pub fn basis_of(alloc: Global, recipe: &Recipe, name: &Name) -> Result<Basis, OutOfMemory>
     ensures texts { IfOk result (λ basis. basis.texts ≡ texts recipe.now name.now) }
     ensures layouts { IfOk result (λ basis. basis.layouts ≡ layouts recipe.now name.now) }
@@ -91,7 +91,7 @@ fn layouts_of(
     Ok(names)
 }
 
-/// The stage of a name, where its check leaves its layout free.
+/// The stage of a name, if its check leaves its layout free.
 fn own_layout_of(alloc: Global, recipe: &Recipe, own: &Name) -> Result<ListOf<Name>, OutOfMemory>
     ensures { IfOk result (λ names. names ≡ filter_map (own_layout_name recipe.now own.now) recipe.now.stages) }
 {
@@ -102,14 +102,14 @@ fn own_layout_of(alloc: Global, recipe: &Recipe, own: &Name) -> Result<ListOf<Na
     Ok(names)
 }
 
-/// Whether a stage is the one of a name, and its check leaves its layout free.
+/// Whether a stage has this name and its check leaves its layout free.
 fn is_own_layout(recipe: &Recipe, own: &Name, stage: &Stage) -> bool
     ensures { result ≡ (bytes_eq own.now stage.now.name && is_free recipe.now stage.now) }
 {
     *own == stage.name && is_free(recipe, stage)
 }
 
-/// The unchecked stages that are met.
+/// The unchecked stages among these parts.
 fn ran_of(alloc: Global, recipe: &Recipe, parts: &[BasisPart]) -> Result<ListOf<Name>, OutOfMemory>
     ensures { IfOk result (λ names. names ≡ filter_map (ran_name parts.now) recipe.now.stages) }
 {
@@ -120,14 +120,14 @@ fn ran_of(alloc: Global, recipe: &Recipe, parts: &[BasisPart]) -> Result<ListOf<
     Ok(names)
 }
 
-/// Whether a stage is met, and unchecked.
+/// Whether a stage is among these parts, and unchecked.
 fn has_run(parts: &[BasisPart], stage: &Stage) -> bool
     ensures { result ≡ (meets parts.now stage.now.name && is_none stage.now.check) }
 {
     meets(parts, &stage.name) && stage.check.is_none()
 }
 
-/// Whether a stage has a free layout that matters.
+/// Whether a stage's bytes matter and its check leaves its layout free.
 fn has_layout(recipe: &Recipe, parts: &[BasisPart], stage: &Stage) -> bool
     ensures { result ≡ (bytes_meet parts.now stage.now.name && is_free recipe.now stage.now) }
 {
@@ -174,7 +174,7 @@ fn is_hex(recipe: &Recipe, check: &Name) -> bool
     }
 }
 
-/// The lines that are about programs on the way back.
+/// The assumptions about programs among these parts.
 fn lines_of(
     alloc: Global,
     parts: &[BasisPart],
@@ -189,7 +189,7 @@ fn lines_of(
     Ok(lines)
 }
 
-/// Adds a line, if it is wanted.
+/// Adds an assumption, if it is wanted.
 fn push_line(lines: &mut Assumptions, line: &Assumption, wanted: bool) -> Result<(), OutOfMemory>
     ensures { OnOk result (lines.new ≡ lines.old ++ cons_option (if wanted then Some line.now else None) []) }
 {
@@ -200,7 +200,7 @@ fn push_line(lines: &mut Assumptions, line: &Assumption, wanted: bool) -> Result
     }
 }
 
-/// The name of the program that a line is about.
+/// The name of the program that an assumption is about.
 fn about(line: &Assumption) -> &Name
     ensures { result.now ≡ about line.now }
 {
@@ -214,7 +214,7 @@ fn about(line: &Assumption) -> &Name
     }
 }
 
-/// The stages whose artefacts are files of sources that lines name.
+/// The stages whose artefacts are files of sources that these assumptions name.
 fn spoken_of(
     alloc: Global,
     recipe: &Recipe,
@@ -233,14 +233,14 @@ fn spoken_of(
     Ok(names)
 }
 
-/// Whether one of the lines speaks of a name.
+/// Whether one of the assumptions names a source with this file.
 fn speak_of(recipe: &Recipe, lines: &[Assumption], name: &Name) -> bool
     ensures { result ≡ list_any (speaks_of recipe.now name.now) lines.now }
 {
     lines.iter().any(|line| speaks_of(recipe, name, line))
 }
 
-/// Whether a source that a line names has a file of a name.
+/// Whether an assumption names a source with this file.
 fn speaks_of(recipe: &Recipe, file: &Name, line: &Assumption) -> bool
     ensures { result ≡ speaks_of recipe.now file.now line.now }
 {
@@ -254,7 +254,7 @@ fn speaks_of(recipe: &Recipe, file: &Name, line: &Assumption) -> bool
     }
 }
 
-/// Whether the source of a name has a file of a name.
+/// Whether the source of a name has this file.
 fn has_file(recipe: &Recipe, source: &Name, file: &Name) -> bool
     ensures { result ≡ has_file recipe.now source.now file.now }
 {
@@ -264,7 +264,7 @@ fn has_file(recipe: &Recipe, source: &Name, file: &Name) -> bool
     }
 }
 
-/// Whether a name is one of these.
+/// Whether the list has this name.
 pub(crate) fn is_on(names: &[Name], name: &Name) -> bool
     ensures { result ≡ is_on names.now name.now }
 {

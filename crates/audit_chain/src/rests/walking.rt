@@ -1,4 +1,4 @@
-//! The way back from a stage.
+//! Finding the dependencies of a stage.
 
 ghost use Rattle.audit_chain.specs.Rests.Walk.{bytes_meet, file_part, files_meet, is_bytes, is_file, is_part_named, is_program, meets, parts_of, runs_meet, source_parts, walk, walk_from};
 ghost use Rattle.audit_chain.specs.declared.rests.basis_part.BasisPart.TheVariants.{Reads};
@@ -10,7 +10,7 @@ use ddc_base::{ListOf, Name, OutOfMemory};
 use recipe::{Recipe, Source, SourceLanguage, Stage, StageFile};
 use std::alloc::Global;
 
-/// Everything on the way back from the stage of a name.
+/// All dependencies of the stage of a name, as parts. Error: out of memory.
 #[tactic(auto, unfolding(crate::specs::Rests::Walk::walk))]
 pub(crate) fn walk(alloc: Global, recipe: &Recipe, name: &Name) -> Result<BasisParts, OutOfMemory>
     ensures { IfOk result (λ parts. parts ≡ walk recipe.now name.now) }
@@ -46,7 +46,7 @@ fn push_parts(parts: &mut BasisParts, recipe: &Recipe, stage: &Stage) -> Result<
     }
 }
 
-/// Adds the files that a program finds.
+/// Adds the files of an unchecked stage's program.
 fn push_files(parts: &mut BasisParts, files: &[StageFile]) -> Result<(), OutOfMemory>
     ensures { OnOk result (parts.new ≡ parts.old ++ map file_part files.now) }
 {
@@ -86,7 +86,7 @@ fn push_names(parts: &mut BasisParts, names: &[Name]) -> Result<(), OutOfMemory>
     Ok(())
 }
 
-/// Whether a name is met.
+/// Whether a name is among these parts.
 pub(crate) fn meets(parts: &[BasisPart], name: &Name) -> bool
     ensures { result ≡ meets parts.now name.now }
 {
@@ -114,7 +114,7 @@ pub(crate) fn runs_meet(parts: &[BasisPart], name: &Name) -> bool
     parts.iter().any(|part| is_program(part, name))
 }
 
-/// Whether a part is of a name.
+/// Whether a part has this name.
 fn is_part_named(part: &BasisPart, name: &Name) -> bool
     ensures { result ≡ is_part_named name.now part.now }
 {
@@ -125,7 +125,7 @@ fn is_part_named(part: &BasisPart, name: &Name) -> bool
     }
 }
 
-/// Whether it is one that is read.
+/// Whether a part is read and has this name.
 fn is_file(part: &BasisPart, name: &Name) -> bool
     ensures { result ≡ is_file name.now part.now }
 {
@@ -136,7 +136,7 @@ fn is_file(part: &BasisPart, name: &Name) -> bool
     }
 }
 
-/// Whether it is one whose bytes matter.
+/// Whether a part's bytes matter and it has this name.
 fn is_bytes(part: &BasisPart, name: &Name) -> bool
     ensures { result ≡ is_bytes name.now part.now }
 {
@@ -147,7 +147,7 @@ fn is_bytes(part: &BasisPart, name: &Name) -> bool
     }
 }
 
-/// Whether it is one that is run.
+/// Whether a part is run and has this name.
 fn is_program(part: &BasisPart, name: &Name) -> bool
     ensures { result ≡ is_program name.now part.now }
 {

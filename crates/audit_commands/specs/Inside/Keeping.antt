@@ -1,4 +1,4 @@
--- What is kept of an audit that is not over, as a function of where it stands.
+-- What is saved of an audit that is not over, as a function of its position.
 use Rattle.std.specs.Prelude.{◌≡◌, ℕ, List}
 use Rattle.recipe.specs.declared.contents.RecipeContents.{RecipeContents}
 use Rattle.audit_rules.specs.Positions.{Position}
@@ -7,7 +7,7 @@ use Rattle.audit_commands.specs.declared.going.Kept.{Kept}
 use Rattle.audit_commands.specs.declared.going.Kept.TheVariants.{Whole, Relative}
 use Rattle.audit_commands.specs.Pause.{whole_save}
 
--- the whole save, or what differs from the position of which this is a save
+-- the whole save, or the delta against the position of this save
 abbrev pub Keeps : RecipeContents → List (List ℕ) → Kept → (Position → List ℕ) → Type 0
 Keeps recipe inputs Whole text = (p : Position) → text p ≡ whole_save recipe inputs p
 Keeps recipe inputs (Relative save) text =

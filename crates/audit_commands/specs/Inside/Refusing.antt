@@ -1,4 +1,4 @@
--- The answer to a refusal of a save or of a delta, which is none of the file's where memory was wanting.
+-- The answer to a refused save or delta; out of memory is not answered.
 use Rattle.std.specs.Prelude.{◌≡◌, Result, Err}
 use Rattle.audit_run.specs.declared.save.reading.SaveRefusal.{SaveRefusal}
 use Rattle.audit_run.specs.declared.save.reading.SaveRefusal.TheVariants as refusal

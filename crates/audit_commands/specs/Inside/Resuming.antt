@@ -1,4 +1,4 @@
--- The ends of the plans of pieces that go on from a save.
+-- The ends of the plans that continue from a save.
 use Rattle.std.specs.Prelude.{ℕ, List}
 use Rattle.recipe.specs.declared.contents.RecipeContents.{RecipeContents}
 use Rattle.audit_rules.specs.Positions.{forward}

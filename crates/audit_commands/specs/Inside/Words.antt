@@ -1,4 +1,4 @@
--- The words of the commands of an audit, each set of them as one value.
+-- The words of the audit commands, each set of them as one value.
 use Rattle.std.specs.Prelude.{ℕ, Option, None, Some, List, [], ◌∷◌}
 use Rattle.command_plan.specs.Words.{as_four_files, as_steps, as_three_files, as_two_files}
 use Rattle.audit_commands.specs.declared.words.ReportWords.{ReportWords}

@@ -1,5 +1,5 @@
--- How a language's refusal becomes the cause of a check. What a source comes to is never want of memory (the law
--- `no_source_wants_memory`), so it doesn't matter what stands at OutOfMemory.
+-- How a language's refusal becomes the cause of a check. The refusal is never out of memory (the law `no_source_wants_memory`), so the
+-- cause at OutOfMemory does not matter.
 use Rattle.std.specs.Prelude.{ℕ}
 use Rattle.hex_langs.specs.declared.items.reader.HexRefusal.{HexRefusal}
 use Rattle.hex_langs.specs.declared.items.reader.HexRefusal.TheVariants as hex

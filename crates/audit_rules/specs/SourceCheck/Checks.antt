@@ -24,7 +24,7 @@ use Rattle.audit_rules.specs.SourceCheck.Causes.{cause_of_hex, cause_of_m1}
 abbrev pub joined_files : List (List ℕ) → List ℕ
 joined_files files = join_with_byte 10 files
 
--- what a source stands for: bytes, or in M1 items, which no base has placed yet
+-- what a source stands for: bytes, or for M1 items that are not yet placed at a base
 pub data SourceValue : Type 0 where
   ValueBytes : List ℕ → SourceValue
   ValueItems : List Item → SourceValue
@@ -37,7 +37,7 @@ abbrev pub m1_value : Result (List Item) M1Refusal → Result SourceValue CheckC
 m1_value (Ok items) = Ok (ValueItems items)
 m1_value (Err why) = Err (cause.M1 (cause_of_m1 why))
 
--- the value of a source in a language at a base, or the language's refusal; hex0 and M1 know no base
+-- the value of a source in a language at a base, or the language's refusal; hex0 and M1 use no base
 abbrev pub source_value_of : Language → ℕ → List ℕ → Result SourceValue CheckCause
 source_value_of Hex0 base source = hex_value (bytes_in hex.Hex0 base source)
 source_value_of Hex1 base source = hex_value (bytes_in hex.Hex1 base source)
@@ -62,25 +62,25 @@ same_item (item.Abs x) (item.Abs y) = bytes_eq x y
 same_item item.Pad item.Pad = true
 same_item _ _ = false
 
--- the number, from 0, of the first item at which two lists differ or exactly one of them has ended; none where they are equal
+-- the number, from 0, of the first item at which two lists differ or exactly one has ended; None if they are equal
 abbrev pub first_other_item : List Item → List Item → Option ℕ
 first_other_item [] [] = None
 first_other_item [] (y ∷ ys) = Some 0
 first_other_item (x ∷ xs) [] = Some 0
 first_other_item (x ∷ xs) (y ∷ ys) = if same_item x y then option_map suc (first_other_item xs ys) else Some 0
 
--- nothing is wrong, or they differ from here on
+-- nothing is wrong, or the first difference is here
 abbrev pub differs : Option ℕ → Option CheckCause
 differs None = None
 differs (Some place) = Some (cause.Differs place)
 
--- what is wrong with the items of an artefact's text, which are to be these
+-- what is wrong with the items of an artefact's text, compared with these
 abbrev pub items_against : List Item → Result (List Item) HexRefusal → Option CheckCause
 items_against items (Ok found) = differs (first_other_item items found)
 items_against items (Err why) = Some (cause.NotItems (cause_of_hex why))
 
--- what is wrong with an artefact that is to be this value: bytes are compared as they are; against items the artefact is read as a
--- hex2 text, since that is what M1's assembler writes, in whatever layout
+-- what is wrong with an artefact, compared with a value. Bytes are compared as they are. Against items the artefact is read as a hex2 text
+-- in any layout, which is what M1's assembler writes
 abbrev pub value_against : SourceValue → List ℕ → Option CheckCause
 value_against (ValueBytes value) made = differs (first_difference value made)
 value_against (ValueItems items) made = items_against items (items_of dialect.Hex2 made)
@@ -90,6 +90,6 @@ checked (Err why) made = Some why
 checked (Ok value) made = value_against value made
 
 -- what is wrong with an artefact, of a source in a language at a base: the language's refusal; for M1 the refusal of the artefact's own
--- items; the first unequal offset or item; or nothing
+-- items; or the first difference. None if nothing is
 unfoldable pub check : Language → ℕ → List ℕ → List ℕ → Option CheckCause
 check language base source made = checked (source_value_of language base source) made

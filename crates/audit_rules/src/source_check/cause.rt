@@ -3,7 +3,7 @@ ghost use Rattle.std.specs.Prelude.{◌≡◌};
 
 /// Why a source of hex1 or hex2 has no value, or a text of hex2 no items, by the offset of a byte or the number of an item.
 ///
-/// The same as `hex_langs::items::HexRefusal` without want of memory, which no source comes to.
+/// Like `hex_langs::items::HexRefusal` without out of memory, which no source's value is.
 #[derive(Clone, Copy, PartialEq, Eq)]
 pub enum HexCause {
     OddDigits(u64),
@@ -31,7 +31,7 @@ impl HexCause {
         }
     }
 
-    /// The offset or the item's number that it holds, and 0 where it holds none.
+    /// The byte offset or the item number in the refusal; 0 for `TooLong`.
     pub fn place(&self) -> u64
         ensures { result ≡ hex_cause_place self.now }
     {
@@ -49,7 +49,7 @@ impl HexCause {
 
 /// Why a source of M1 has no items, by the offset of a byte.
 ///
-/// The same as `m1_lang::M1Refusal` without want of memory, which no source comes to.
+/// Like `m1_lang::M1Refusal` without out of memory, which no source's expansion is.
 #[derive(Clone, Copy, PartialEq, Eq)]
 pub enum M1Cause {
     BadDefine(u64),
@@ -77,7 +77,7 @@ impl M1Cause {
         }
     }
 
-    /// The offset that it holds, and 0 where it holds none.
+    /// The byte offset in the refusal; 0 for `TooLong`.
     pub fn place(&self) -> u64
         ensures { result ≡ m1_cause_place self.now }
     {
@@ -100,8 +100,8 @@ pub enum CheckCause {
     Hex(HexCause),
     /// The source, of M1, has no items.
     M1(M1Cause),
-    /// The artefact, which is to be a hex2 text with the items of an M1 source, has no items.
+    /// The artefact has no items; it must be a hex2 text with the items of an M1 source.
     NotItems(HexCause),
-    /// The first offset, or for M1 the number of the first item, at which both differ or one has ended; from 0.
+    /// The first difference, from 0: a byte offset, for M1 an item number. The end of one of the two counts as a difference.
     Differs(u64),
 }

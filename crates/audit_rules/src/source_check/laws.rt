@@ -11,14 +11,14 @@ ghost use Rattle.audit_rules.specs.SourceCheck.Checks.{check, joined_files};
 ghost use Rattle.audit_rules.specs.declared.source_check.cause.CheckCause.TheVariants.{Differs};
 ghost use Rattle.std.specs.Prelude.{◌≡◌, ◌≢◌, [], ◌∷◌, ℕ, List, None, Some, Err, codes};
 
-/// No source comes to want of memory, so it doesn't matter which cause stands for it.
+/// Reading a source never results in out of memory, so the cause that stands for it does not matter.
 pub fn no_source_wants_memory()
     ensures items { (dialect : Dialect) (source : List ℕ) → items_of dialect source ≢ Err hex.OutOfMemory }
     ensures values { (dialect : Dialect) (base : ℕ) (source : List ℕ) → linked base (items_of dialect source) ≢ Err hex.OutOfMemory }
     ensures expansions { (source : List ℕ) → expansion_of source ≢ Err m1.OutOfMemory }
 {}
 
-/// Rows of checks in hex0, worked by hand: the artefact is right, differs in a byte, has ended, goes on; and two files that are joined.
+/// Examples in hex0, worked by hand: an equal artefact, a wrong byte, one too short, one too long, and two joined files.
 #[tactic(auto, unfolding(crate::specs::SourceCheck::Checks::check, hex_langs::specs::Hex0::hex0_of))]
 pub fn worked_rows()
     ensures right { (base : ℕ) → check Hex0 base (codes "# A\n41 4;B") (65 ∷ []) ≡ None }

@@ -1,4 +1,4 @@
-//! Two equal parts of items.
+//! Equality of two parts of items.
 
 ghost use Rattle.std.specs.Prelude.{◌≡◌, bytes_eq};
 ghost use Rattle.audit_rules.specs.SourceCheck.Checks.{same_kind};

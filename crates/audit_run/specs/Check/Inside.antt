@@ -1,2 +1,2 @@
--- What serves the code's split. No promise rests on these files being read.
+-- What serves the code's split. No promise depends on these files being read.
 pub mod Refusing

@@ -1,4 +1,4 @@
--- What the delta of an audit says, and what resuming by a base and a delta gives. docs/reference/delta.md says the same for people.
+-- What the delta of an audit says, and the result of resuming from a base and a delta. docs/reference/delta.md says the same for people.
 use Rattle.std.specs.Prelude.{◌≡◌, ℕ, List, Option, None, Some, Result, Ok, Err}
 use Rattle.recipe.specs.declared.contents.RecipeContents.{RecipeContents}
 use Rattle.audit_rules.specs.Positions.{Position, Standing, On, Over}
@@ -9,24 +9,24 @@ use Rattle.audit_run.specs.Delta.Deltas.{HasDelta, ResumesRelative, delta_text_o
 use Rattle.audit_run.specs.declared.delta.reading.DeltaRefusal.{DeltaRefusal}
 use Rattle.audit_run.specs.declared.delta.reading.DeltaRefusal.TheVariants.{Base, Form, OtherBase, State, OutOfMemory}
 
--- the text of the delta of where an audit stands against a base position
+-- the text is the delta of where an audit stands against a base position
 abbrev pub IsDeltaFrom : RecipeContents → List (List ℕ) → Position → Option Standing → List ℕ → Type 0
 IsDeltaFrom recipe inputs base None text = ⊥
 IsDeltaFrom recipe inputs base (Some (On p)) text = text ≡ delta_text_of recipe inputs base p
 IsDeltaFrom recipe inputs base (Some (Over answer)) text = ⊥
 
--- the same where the base is an audit that stands at a position
+-- the text is the delta between where two audits stand
 abbrev pub IsDeltaBetween : RecipeContents → List (List ℕ) → Option Standing → Option Standing → List ℕ → Type 0
 IsDeltaBetween recipe inputs None stands text = ⊥
 IsDeltaBetween recipe inputs (Some (On base)) stands text = IsDeltaFrom recipe inputs base stands text
 IsDeltaBetween recipe inputs (Some (Over answer)) stands text = ⊥
 
--- an audit that was resumed of a base and a text stands at a position, and the text is its delta against the base's
+-- a resumed audit stands at a position, and the text is the delta of that position against the base's
 abbrev pub IsResumedRelative : RecipeContents → List (List ℕ) → List ℕ → List ℕ → AuditState → Type 0
 IsResumedRelative recipe inputs base text audit =
     (p : Position) × (audit ≡ standing_at recipe inputs p) × IsPosition recipe p × HasDelta recipe inputs base text p
 
--- what is resumed of the delta of a position against that of its base
+-- resuming from this position's delta gives the audit at the position, or out of memory
 abbrev pub IsResumedRelativeAt : RecipeContents → List (List ℕ) → Position → Result AuditState DeltaRefusal → Type 0
 IsResumedRelativeAt recipe inputs p (Ok audit) = audit ≡ standing_at recipe inputs p
 IsResumedRelativeAt recipe inputs p (Err OutOfMemory) = Unit {0}
@@ -35,7 +35,7 @@ IsResumedRelativeAt recipe inputs p (Err (Form offset)) = ⊥
 IsResumedRelativeAt recipe inputs p (Err OtherBase) = ⊥
 IsResumedRelativeAt recipe inputs p (Err State) = ⊥
 
--- what is resumed of any base and any text, and when each refusal comes
+-- the result of resuming from any base and any text, and when each error occurs
 abbrev pub ResumesAuditRelative : RecipeContents → List (List ℕ) → List ℕ → List ℕ → Result AuditState DeltaRefusal → Type 0
 ResumesAuditRelative recipe inputs base text (Ok audit) = (p : Position) × (audit ≡ standing_at recipe inputs p) × ResumesRelative recipe inputs base text (Ok p)
 ResumesAuditRelative recipe inputs base text (Err refusal) = ResumesRelative recipe inputs base text (Err refusal)

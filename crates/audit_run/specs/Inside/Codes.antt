@@ -1,4 +1,4 @@
--- An audit as a code of its parts, which the kit asks for where a contract sees it as a type of the definitions.
+-- An audit encoded by its parts. Rattle requires this where a contract sees it as a type of the definitions.
 use Rattle.std.specs.Prelude.{◌≡◌, ℕ, List, Option, refl, ◌⊎◌}
 use Rattle.std.proofs.Common.{inl, inr}
 use Rattle.std.specs.Coded.{Coded, code_by, coded×, coded⊎, coded_ℕ, coded_list, coded_option}

@@ -45,7 +45,7 @@ Slices recipe inputs done stages old most (Ok step) new =
     SlicesBy recipe inputs done stages old step.0 step.1 new × (1 ≤ step.0) × (step.0 ≤ most)
 Slices recipe inputs done stages old most (Err error) new = StopsAt recipe inputs (On (at done old)) most (at done new)
 
--- what holds of the parts between two calls: before the first advance no stage is done
+-- the invariant of the parts between two calls: before the first advance no stage is done
 abbrev pub IsStandingAfter : RecipeContents → List Finished → AuditStanding → Type 0
 IsStandingAfter recipe done audit.Ready = done ≡ []
 IsStandingAfter recipe done (audit.Running guest) = IsStanding recipe (On (at done guest))
@@ -55,29 +55,29 @@ pub record IsAtRest (recipe : RecipeContents) (inputs : List (List ℕ)) (done :
   pub given : IsInputs recipe inputs
   pub standing : IsStandingAfter recipe done where_it_is
 
--- an audit whose first stage has started, or was refused
+-- an audit whose first stage has started, or whose start was refused
 abbrev pub IsStarted : AuditStanding → Type 0
 IsStarted audit.Ready = ⊥
 IsStarted (audit.Running guest) = Unit {0}
 IsStarted (audit.Over answer) = Unit {0}
 
--- what becomes of a guest whose stage is done
+-- what becomes of the guest of a finished stage
 abbrev pub KeepsStanding : EndedGuest → AuditStanding → AuditStanding → Type 0
 KeepsStanding Kept old new = new ≡ old
 KeepsStanding GivenUp old new = Unit {0}
 
--- an audit that has started stopped here for want of memory
+-- an audit that has started ran out of memory at this position
 abbrev pub StopsIn : RecipeContents → List (List ℕ) → Standing → ℕ → Standing → Type 0
 StopsIn recipe inputs from most (On p) = StopsAt recipe inputs from most p
 StopsIn recipe inputs from most (Over answer) = ⊥
 
--- what want of memory leaves after fewer steps than were asked for: an audit that stopped there, where guests are kept
+-- the state after out of memory, after fewer steps than requested: an audit at that position, if guests are kept
 abbrev pub WantsAfter : EndedGuest → RecipeContents → List (List ℕ) → Standing → ℕ → List Finished → AuditStanding → Type 0
 WantsAfter Kept recipe inputs from most done where_it_is =
     IsStarted where_it_is × IsStandingAfter recipe done where_it_is × StopsIn recipe inputs from most (stands recipe inputs done where_it_is)
 WantsAfter GivenUp recipe inputs from most done where_it_is = (p : Position) × StopsAt recipe inputs from most p
 
--- what is said of an audit that stands here
+-- what `advance` returns for an audit that stands here
 abbrev pub SaysOf : AuditStanding → Progress → Type 0
 SaysOf audit.Ready said = ⊥
 SaysOf (audit.Running guest) said = said ≡ progress.Paused

@@ -1,3 +1,3 @@
--- What serves the split of the code. No promise rests on this file being read.
+-- What serves the code's split. No promise depends on this file being read.
 pub mod Seen
 pub mod Tests

@@ -1,5 +1,5 @@
--- The save of an audit, and the position that a save says. Recipes and inputs are known by their SHA-256 (FIPS 180-4). docs/reference/save.md
--- says the same for people.
+-- The save of an audit, and the position that a save says. A save names its recipe and inputs by SHA-256 (FIPS 180-4).
+-- docs/reference/save.md says the same for people.
 use Rattle.std.specs.Prelude.{◌≡◌, ◌≢◌, ◌<◌, ℕ, List, ◌∷◌, map, Result, Ok, Err}
 use Rattle.sha2.specs.Sha256.{sha256}
 use Rattle.ddc_base.specs.declared.digests.Digest.{Digest}
@@ -13,7 +13,7 @@ use Rattle.audit_rules.specs.Valid.{AreDone}
 use Rattle.audit_run.specs.declared.save.reading.SaveRefusal.{SaveRefusal}
 use Rattle.audit_run.specs.declared.save.reading.SaveRefusal.TheVariants.{Form, OtherRecipe, State, OutOfMemory}
 
--- a stage that is done is said field by field
+-- a finished stage in a save, field by field
 abbrev pub stage_of : Finished → StageText
 stage_of f = record { steps = f.steps; stream1 = f.stream1; stream2 = f.stream2; left = f.left; made = f.made }
 
@@ -23,7 +23,7 @@ finished_of s = record { steps = s.steps; stream1 = s.stream1; stream2 = s.strea
 abbrev pub digest_of : List ℕ → Digest
 digest_of bytes = record { 0 = sha256 bytes }
 
--- what the save of a position says: of which recipe and which inputs it is, the stages that are done, and the present guest's state
+-- the save of a position: the digests of the recipe and the inputs, the finished stages, and the present guest's state
 abbrev pub save_of : RecipeContents → List (List ℕ) → Position → SaveText
 save_of recipe inputs p = record {
   recipe = recipe.digest;
@@ -44,8 +44,8 @@ pub record IsOf (recipe : RecipeContents) (inputs : List (List ℕ)) (save : Sav
   pub same_recipe : save.recipe ≡ recipe.digest
   pub same_inputs : save.inputs ≡ map digest_of inputs
 
--- what makes what a save of a recipe says a position of its audit: fewer stages are done than it has, each as a stage of the recipe can be done; and the
--- state is that of a guest, its steps are below the present stage's limit, and its heap may have as many bytes as that stage gives
+-- a save says a position in this stage of the recipe: each finished stage is possible, and the state is that of a guest. Its steps are
+-- below the stage's limit, and its heap limit is the stage's
 pub record IsSavedPositionIn (recipe : RecipeContents) (save : SaveText) (stage : Stage) (stages : List Stage) : Type 0 where
   pub left : todo recipe (done_in save) ≡ stage ∷ stages
   pub done : AreDone recipe (done_in save)
@@ -57,7 +57,7 @@ pub record IsSavedPositionIn (recipe : RecipeContents) (save : SaveText) (stage 
 abbrev pub IsSavedPosition : RecipeContents → SaveText → Type 0
 IsSavedPosition recipe save = (stage : Stage) × (stages : List Stage) × IsSavedPositionIn recipe save stage stages
 
--- memory is taken for a save of a recipe only where it is taken for its state, and what the numbers of the state say of the present stage is right
+-- reading a save allocates only if making its state does, and the state's steps and heap limit are right for the present stage
 pub record MayStandIn (recipe : RecipeContents) (save : SaveText) (stage : Stage) (stages : List Stage) : Type 0 where
   pub left : todo recipe (done_in save) ≡ stage ∷ stages
   pub within : save.state.steps < stage.steps
@@ -67,7 +67,7 @@ pub record MayStandIn (recipe : RecipeContents) (save : SaveText) (stage : Stage
 abbrev pub MayStand : RecipeContents → SaveText → Type 0
 MayStand recipe save = (stage : Stage) × (stages : List Stage) × MayStandIn recipe save stage stages
 
--- what becomes of what a save of the recipe says
+-- the result of reading a save of the recipe
 abbrev pub Stands : RecipeContents → SaveText → Result Position SaveRefusal → Type 0
 Stands recipe save (Ok p) = IsSavedPosition recipe save × (p ≡ position_of save)
 Stands recipe save (Err State) = ¬ (IsSavedPosition recipe save)
@@ -75,8 +75,8 @@ Stands recipe save (Err OutOfMemory) = MayStand recipe save
 Stands recipe save (Err (Form offset)) = ⊥
 Stands recipe save (Err OtherRecipe) = ⊥
 
--- what becomes of a text: its form is judged first, then whether it is of this recipe and these inputs, then whether it is a position. Want of
--- memory comes only where the form holds, the save is of this recipe and these inputs, and memory is taken for it
+-- the result of reading a text. Judged in this order: its form, whether it is of this recipe and these inputs, whether it is a position.
+-- Out of memory occurs only for a well-formed save of this recipe and these inputs that allocates
 abbrev pub Resumes : RecipeContents → List (List ℕ) → List ℕ → Result Position SaveRefusal → Type 0
 Resumes recipe inputs text (Ok p) = (save : SaveText) × (parsed_save text ≡ Ok save) × IsOf recipe inputs save × IsSavedPosition recipe save × (p ≡ position_of save)
 Resumes recipe inputs text (Err (Form offset)) = parsed_save text ≡ Err offset
@@ -84,14 +84,13 @@ Resumes recipe inputs text (Err OtherRecipe) = (save : SaveText) × (parsed_save
 Resumes recipe inputs text (Err State) = (save : SaveText) × (parsed_save text ≡ Ok save) × IsOf recipe inputs save × ¬ (IsSavedPosition recipe save)
 Resumes recipe inputs text (Err OutOfMemory) = (save : SaveText) × (parsed_save text ≡ Ok save) × IsOf recipe inputs save × MayStand recipe save
 
--- the answer to a text: what the rules allow of it where memory is not wanting, of which there is exactly one
--- (`laws::every_text_has_one_answer`)
+-- the answer to a text: what the rules allow other than out of memory. There is exactly one (`laws::every_text_has_one_answer`)
 pub record SaveAnswer (recipe : RecipeContents) (inputs : List (List ℕ)) (text : List ℕ) : Type 0 where
   pub result : Result Position SaveRefusal
   pub resumes : Resumes recipe inputs text result
   pub settled : result ≢ Err OutOfMemory
 
--- a text is resumed as this position
+-- reading a save of this position gives the position, or out of memory
 abbrev pub IsResumedAs : Position → Result Position SaveRefusal → Type 0
 IsResumedAs p (Ok found) = found ≡ p
 IsResumedAs p (Err OutOfMemory) = Unit {0}

@@ -1,4 +1,4 @@
--- A start that may be refused, with the refusal as a cause.
+-- The start of a stage's program, or the cause why it does not start.
 use Rattle.std.specs.Prelude.{◌≡◌, Result, Ok, Err}
 use Rattle.guest_run.specs.State.{GuestState}
 use Rattle.guest_run.specs.Start.{Refusal, Elf, ArgsTooLong, BoxTooLarge}

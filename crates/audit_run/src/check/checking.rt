@@ -17,8 +17,8 @@ use hex_langs::link::link;
 use m1_lang::{M1Refusal, expand};
 use std::alloc::Global;
 
-/// What is wrong with an artefact of a source in a language, from the address `base` on, which hex0 and M1 don't know; `None` where
-/// nothing is.
+/// What is wrong with an artefact of a source in a language, at the address `base`, which hex0 and M1 do not use; `None` if nothing is.
+/// Error: out of memory.
 ///
 /// docs/reference/audit.md has the rules.
 pub fn check(
@@ -99,7 +99,7 @@ fn check_m1(
     }
 }
 
-/// The check of the bytes of items at a base.
+/// The check of an artefact against the link of these items at a base.
 fn check_linked(
     alloc: Global,
     base: u64,
@@ -115,7 +115,7 @@ fn check_linked(
     }
 }
 
-/// The check of an artefact that is to be a hex2 text with these items.
+/// The check of an artefact that must be a hex2 text with these items.
 fn check_items(
     alloc: Global,
     items: &Items<'_>,
@@ -129,7 +129,7 @@ fn check_items(
     }
 }
 
-/// The answer where both are the same, or differ from a place on.
+/// The check's result for the first difference, or for no difference.
 fn differs_at(place: Option<u64>) -> Option<CheckCause>
     ensures { result ≡ differs place }
 {
@@ -139,28 +139,28 @@ fn differs_at(place: Option<u64>) -> Option<CheckCause>
     }
 }
 
-/// The answer where a source of hex1 or hex2 has no value.
+/// The check's result if a source of hex1 or hex2 has no value.
 fn hex_refused(refusal: HexRefusal) -> Result<Option<CheckCause>, OutOfMemory>
     ensures { RefusesHex (λ why. Some (cause.Hex why)) refusal result }
 {
     Ok(Some(CheckCause::Hex(hex_cause(refusal)?)))
 }
 
-/// The answer where the artefact has no items.
+/// The check's result if the artefact has no items.
 fn no_items(refusal: HexRefusal) -> Result<Option<CheckCause>, OutOfMemory>
     ensures { RefusesHex (λ why. Some (cause.NotItems why)) refusal result }
 {
     Ok(Some(CheckCause::NotItems(hex_cause(refusal)?)))
 }
 
-/// The answer where a source of M1 has no items.
+/// The check's result if a source of M1 has no items.
 fn m1_refused(refusal: M1Refusal) -> Result<Option<CheckCause>, OutOfMemory>
     ensures { RefusesM1 (λ why. Some (cause.M1 why)) refusal result }
 {
     Ok(Some(CheckCause::M1(m1_cause(refusal)?)))
 }
 
-/// The refusal as a cause, unless it is want of memory.
+/// The refusal as a cause. Error: out of memory, if the refusal is that.
 fn hex_cause(refusal: HexRefusal) -> Result<HexCause, OutOfMemory>
     ensures { RefusesHex (λ why. why) refusal result }
 {
@@ -176,7 +176,7 @@ fn hex_cause(refusal: HexRefusal) -> Result<HexCause, OutOfMemory>
     }
 }
 
-/// The refusal as a cause, unless it is want of memory.
+/// The refusal as a cause. Error: out of memory, if the refusal is that.
 fn m1_cause(refusal: M1Refusal) -> Result<M1Cause, OutOfMemory>
     ensures { RefusesM1 (λ why. why) refusal result }
 {

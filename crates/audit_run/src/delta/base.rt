@@ -1,4 +1,4 @@
-//! A base at hand: what it says, and the digest by which deltas know it.
+//! A delta's base: its parts, and the digest by which deltas name it.
 
 ghost use Rattle.std.specs.Prelude.{◌≡◌, ◌++◌, IfOk, IsOk, IsTrue, Ok, OnOk, length, map};
 ghost use Rattle.std.specs.Prelude.{◌<◌, ◌^◌, All};
@@ -15,7 +15,7 @@ use save_format::state_text::{TextRefusal, put_parts};
 use save_format::{MAGIC, Parts, StagePart, put_stage};
 use std::alloc::Global;
 
-/// What a save says that has the form of one. Its pages are borrowed from the bytes.
+/// The parts of a well-formed save. Their pages are borrowed from its bytes. Error: out of memory.
 pub(crate) fn known_of(alloc: Global, base: &[u8]) -> Result<Parts<'_>, OutOfMemory>
     requires { IsOk (parsed_save base.now) }
     ensures said { IfOk result (λ known. parsed_save base.now ≡ Ok (save_view known)) }
@@ -29,7 +29,7 @@ pub(crate) fn known_of(alloc: Global, base: &[u8]) -> Result<Parts<'_>, OutOfMem
     }
 }
 
-/// The digest of the second form's text of what a base says. A base of that form is the text itself.
+/// The digest of a base's text in the second form. A base in that form is the text itself. Error: out of memory.
 pub(crate) fn digest_of(
     alloc: Global,
     known: &Parts<'_>,
@@ -46,14 +46,14 @@ pub(crate) fn digest_of(
     Ok(digest(text.as_slice()))
 }
 
-/// Whether a save is of the second form.
+/// Whether a save has the second form.
 fn is_second(base: &[u8]) -> bool
     ensures { IsTrue result → (save : SaveText) → IsTextOfSave save base.now → base.now ≡ text_of_save save }
 {
     base.starts_with(&MAGIC)
 }
 
-/// The text of the second form of what a save says.
+/// The text of a save in the second form.
 #[tactic(auto, using(crate::proofs::SaveLemmas::Written::written), unfolding(save_format::specs::Spelled::save_text_in))]
 fn second_text(alloc: Global, known: &Parts<'_>) -> Result<Bytes, OutOfMemory>
     requires { IsSaveText (save_view known.now) }

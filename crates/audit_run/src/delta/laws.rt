@@ -10,7 +10,7 @@ ghost use Rattle.audit_rules.specs.Valid.{IsInputs, IsPosition};
 
 use crate::delta::reading::DeltaRefusal;
 
-/// What a base and a text are judged as is an answer to them, and there is no other, where memory is not wanting.
+/// Every base and text have exactly one answer other than out of memory: `judged_relative`.
 pub fn every_delta_has_one_answer()
     ensures answer { (recipe : RecipeContents) (inputs : List (List ℕ)) (base text : List ℕ) → ResumesRelative recipe inputs base text (judged_relative recipe inputs base text) }
     ensures settled { (recipe : RecipeContents) (inputs : List (List ℕ)) (base text : List ℕ) → judged_relative recipe inputs base text ≢ Err DeltaRefusal.OutOfMemory }
@@ -18,8 +18,8 @@ pub fn every_delta_has_one_answer()
         → first.result ≡ second.result }
 {}
 
-/// A position has one delta against a base, and is what that is judged as beside it. That whatever is resumed is the delta of a position is the
-/// contract of `Audit::resume_delta`.
+/// A position has one delta against a base, and that delta is judged as the position. The contract of `Audit::resume_delta` has the
+/// converse: whatever is resumed is the delta of a position.
 pub fn positions_have_one_delta()
     ensures one { (recipe : RecipeContents) (inputs : List (List ℕ)) (base first second : List ℕ) (p : Position) → IsRecipe recipe → IsInputs recipe inputs
         → HasDelta recipe inputs base first p → HasDelta recipe inputs base second p → first ≡ second }
@@ -27,7 +27,7 @@ pub fn positions_have_one_delta()
         → IsPosition recipe p → HasDelta recipe inputs base text p → judged_relative recipe inputs base text ≡ Ok p }
 {}
 
-/// The delta of every position against every other one has fewer than 4,294,967,296 bytes.
+/// The delta of every position against every base has fewer than 4,294,967,296 bytes.
 pub fn deltas_are_short()
     ensures { (recipe : RecipeContents) (inputs : List (List ℕ)) (base p : Position) → IsRecipe recipe → IsInputs recipe inputs → IsPosition recipe base
         → IsPosition recipe p → length (delta_text_of recipe inputs base p) < 4_294_967_296 }

@@ -1,4 +1,4 @@
-//! The position that a text says relative to its base.
+//! Reading a position from a base and a delta.
 
 ghost use Rattle.std.specs.Prelude.{◌≡◌, IfOk, Ok};
 ghost use Rattle.audit_run.specs.Delta.Deltas.{base_digest, GoesOnRelative, HasDelta, IsBaseAt, IsResumedRelativeAs, ResumesRelative, delta_refusal_number, delta_text_of};
@@ -21,16 +21,16 @@ use save_format::delta_text::{self, DeltaParts, names_other_base};
 use save_format::state_text::TextRefusal;
 use std::alloc::Global;
 
-/// Why a text is no delta of an audit against its base.
+/// Why a text is not a delta of an audit against its base.
 #[derive(Clone, Copy, Debug, PartialEq, Eq)]
 pub enum DeltaRefusal {
-    /// The base is no save of the audit, for this reason, which is never want of memory.
+    /// The base is not a save of the audit, for this reason, which is never out of memory.
     Base(SaveRefusal),
-    /// The field that begins at this offset of the delta is the first that is wrong.
+    /// The first wrong field of the delta begins at this byte offset.
     Form(u64),
-    /// It is a delta against another base.
+    /// The delta is against another base.
     OtherBase,
-    /// It says no position of the recipe's audit.
+    /// What it says is not a position of the recipe's audit.
     State,
     OutOfMemory,
 }
@@ -46,7 +46,7 @@ impl From<OutOfMemory> for DeltaRefusal {
 }
 
 impl DeltaRefusal {
-    /// The number of the refusal: 1 to 3 for a base, as for a save, and 5 to 7 for a delta.
+    /// The number of the refusal: 1 to 3 for a base, as for a save; 4 for out of memory; 5 to 7 for a delta.
     pub fn number(&self) -> u8
         ensures { result ≡ delta_refusal_number self.now }
     {
@@ -60,7 +60,7 @@ impl DeltaRefusal {
     }
 }
 
-/// Where the audit of this recipe and these inputs stands by a save of it and a delta against that.
+/// The position of the audit of this recipe and these inputs, from a save of it and a delta against that save.
 pub fn read(
     alloc: Global,
     recipe: &Recipe,
@@ -69,20 +69,20 @@ pub fn read(
     text: &[u8],
 ) -> Result<Resumed, DeltaRefusal>
     requires { IsInputs recipe.now inputs.now }
-    // What is read is a position of the audit, and this is its delta against the position of the base.
+    // The result is a position of the audit, and the text is its delta against the base's position.
     ensures position { IfOk result (λ p. IsPosition recipe.now p) }
     ensures found { IfOk result (λ p. HasDelta recipe.now inputs.now base.now text.now p) }
-    // The delta of every position of the audit against every other one is read as that position beside each save of its base, unless memory runs
+    // The delta of every position of the audit against every base is read as that position, with each save of the base, unless memory runs
     // out.
     ensures only { (b : Position) (p : Position) → IsBaseAt recipe.now inputs.now b base.now → IsPosition recipe.now p
         → text.now ≡ delta_text_of recipe.now inputs.now b p → IsResumedRelativeAs p result }
-    // When each refusal comes.
+    // When each error occurs.
     ensures exact { ResumesRelative recipe.now inputs.now base.now text.now result }
 {
     judged(alloc, recipe, inputs, base, text)
 }
 
-/// Judges a base, and then a text relative to it. A step of its own, so that its further clauses are proved once.
+/// Judges a base, and then a text relative to it. It is a function of its own so that its further clauses are proved once.
 fn judged(
     alloc: Global,
     recipe: &Recipe,
@@ -103,7 +103,7 @@ fn judged(
     relative(alloc, recipe, known, &digest, text)
 }
 
-/// Judges the base as a save is judged. The guest that is made of it is let go before another is made.
+/// Judges the base as a save is judged. The guest made from it is dropped before another is made.
 fn judge_base(
     alloc: Global,
     recipe: &Recipe,
@@ -122,7 +122,7 @@ fn judge_base(
     }
 }
 
-/// The position that a text says beside what a base of this digest says. Want of memory hides neither that it names another base, nor its form.
+/// The position that a text says relative to a base with this digest. Out of memory hides neither another base's name nor a wrong form.
 fn relative<'a>(
     alloc: Global,
     recipe: &Recipe,

@@ -1,4 +1,4 @@
-//! The text of an audit that stands in a stage, relative to its base.
+//! Writing the delta of an audit in a stage.
 
 ghost use Rattle.std.specs.Prelude.{◌≡◌, ◌<◌, ◌≤◌, ◌^◌, ◌++◌, All, IfOk, OnOk, length, map};
 ghost use Rattle.audit_run.specs.Delta.Deltas.{IsBaseAt, base_digest, delta_text_of};
@@ -22,7 +22,7 @@ use save_format::delta_text::{MAGIC, is_same_stage};
 use save_format::{Parts, StagePart};
 use std::alloc::Global;
 
-/// The one delta of an audit that stands in a stage against a save of it, its base. The pages of the base are compared where they stand in its text.
+/// The delta of an audit in a stage against a save of it, its base. The base's pages are compared in place. Error: out of memory.
 pub(crate) fn write(
     alloc: Global,
     so_far: &SoFar<'_>,
@@ -39,7 +39,7 @@ pub(crate) fn write(
     relative(alloc, &known, base, so_far.done, guest)
 }
 
-/// The delta against what a base says.
+/// The delta against the parts of a base.
 #[tactic(auto, using(crate::proofs::SaveLemmas::Written::written))]
 fn relative(
     alloc: Global,
@@ -65,7 +65,7 @@ fn relative(
     Ok(out)
 }
 
-/// Adds how many stages in front are the base's, and the further ones.
+/// Adds the number of first stages that are the base's, and then the other stages.
 fn put_relative(out: &mut Bytes, known: &[StagePart], done: &[Done]) -> Result<(), OutOfMemory>
     requires few { length done.now < 2 ^ 32 }
     requires short { All (λ f. IsShortStage (stage_of f)) done.now }
@@ -76,7 +76,7 @@ fn put_relative(out: &mut Bytes, known: &[StagePart], done: &[Done]) -> Result<(
     put_done(out, &done[kept..])
 }
 
-/// How many stages in front are done alike in both.
+/// The number of first stages that are the same in both.
 #[tactic(auto, unfolding(save_format::specs::DeltaText::Stages::kept_stages))]
 fn kept_of(known: &[StagePart], done: &[Done]) -> usize
     ensures value { result ≡ kept_stages (map stage_view known.now) (map stage_of done.now) }
@@ -97,7 +97,7 @@ fn kept_of(known: &[StagePart], done: &[Done]) -> usize
     }
 }
 
-/// Whether a stage is done as the base says.
+/// Whether a finished stage is as the base says.
 fn is_same(known: &StagePart, done: &Done) -> bool
     ensures { result ≡ equal_stages (stage_view known.now) (stage_of done.now) }
 {

@@ -1,4 +1,4 @@
-//! Whether stages that a save says to be done can be: each stands for itself, by the recipe alone.
+//! Whether the finished stages of a save are possible. Each is judged alone, by the recipe.
 
 ghost use Rattle.std.specs.Prelude.{◌≡◌, ◌-◌, ◌≤◌, ◌↔◌, All, Contains, IsTrue, None, SomeIff, length};
 ghost use Rattle.save_format.specs.ByteFields.Spelling.{InTurn};
@@ -17,7 +17,7 @@ use mem_files::{MAX_CONTENT, MAX_NAMES, is_stripped_name};
 use recipe::{Output, Recipe, Stage};
 use report::{LeftLine, Mark};
 
-/// Whether these can be the first stages of the recipe that are done.
+/// Whether these can be the first finished stages of the recipe.
 pub(crate) fn are_done(recipe: &Recipe, done: &[Done]) -> bool
     requires { All (λ f. InTurn IsSavedLeft after_left None f.left) done.now }
     ensures { IsTrue result ↔ AreDone recipe.now done.now }
@@ -25,14 +25,14 @@ pub(crate) fn are_done(recipe: &Recipe, done: &[Done]) -> bool
     are_small(done) && are_finished(recipe.stages().as_slice(), done)
 }
 
-/// Whether all artefacts together are small enough.
+/// Whether all artefacts together have at most 1,073,741,824 bytes.
 fn are_small(done: &[Done]) -> bool
     ensures { IsTrue result ↔ (artefact_bytes done.now ≤ 1_073_741_824) }
 {
     left_after(done, MAX_ARTEFACTS).is_some()
 }
 
-/// What is left of so many bytes after all artefacts; `None` where they have more.
+/// How much of `most` bytes is left after all artefacts; `None` if they have more.
 fn left_after(done: &[Done], most: u64) -> Option<u64>
     ensures { SomeIff result (artefact_bytes done.now ≤ most) (most - artefact_bytes done.now) }
 {
@@ -47,7 +47,7 @@ fn left_after(done: &[Done], most: u64) -> Option<u64>
     Some(left)
 }
 
-/// Whether each stage that is done is one of these, in order.
+/// Whether the finished stages are the first of these stages, in order.
 fn are_finished(stages: &[Stage], done: &[Done]) -> bool
     requires { All (λ f. InTurn IsSavedLeft after_left None f.left) done.now }
     ensures { IsTrue result ↔ AreFinished stages.now done.now }
@@ -61,7 +61,7 @@ fn are_finished(stages: &[Stage], done: &[Done]) -> bool
     }
 }
 
-/// Whether a stage can be done so.
+/// Whether a stage can be done with this result.
 fn is_finished(stage: &Stage, done: &Done) -> bool
     requires { InTurn IsSavedLeft after_left None done.now.left }
     ensures { IsTrue result ↔ IsFinished stage.now done.now }
@@ -138,7 +138,7 @@ fn is_name(name: &[u8]) -> bool
     is_stripped_name(name)
 }
 
-/// Whether the artefact has the mark that was kept of the stage's output.
+/// Whether the artefact has the recorded mark of the stage's output.
 fn has_mark(output: &Output, done: &Done) -> bool
     ensures { IsTrue result ↔ HasMark output.now done.now }
 {

@@ -13,7 +13,7 @@ ghost use Rattle.audit_rules.specs.Valid.{IsInputs, IsPosition};
 
 use crate::save::reading::SaveRefusal;
 
-/// What a text is judged as is an answer to it, and there is no other, where memory is not wanting.
+/// Every text has exactly one answer other than out of memory: `judged`.
 pub fn every_text_has_one_answer()
     ensures answer { (recipe : RecipeContents) (inputs : List (List ℕ)) (text : List ℕ) → Resumes recipe inputs text (judged recipe inputs text) }
     ensures settled { (recipe : RecipeContents) (inputs : List (List ℕ)) (text : List ℕ) → judged recipe inputs text ≢ Err SaveRefusal.OutOfMemory }
@@ -21,13 +21,13 @@ pub fn every_text_has_one_answer()
         → first.result ≡ second.result }
 {}
 
-/// The tests by which a text is judged are the rules of saves.
+/// The tests by which a text is judged decide the rules of saves.
 pub fn the_tests_are_the_rules()
     ensures of { (recipe : RecipeContents) (inputs : List (List ℕ)) (save : SaveText) → IsTrue (is_of recipe inputs save) ↔ IsOf recipe inputs save }
     ensures position { (recipe : RecipeContents) (save : SaveText) → IsTrue (is_saved_position recipe save) ↔ IsSavedPosition recipe save }
 {}
 
-/// The texts of the save of every position have fewer than 4,294,967,296 bytes.
+/// The saves of every position have fewer than 4,294,967,296 bytes.
 pub fn saves_are_short()
     ensures { (recipe : RecipeContents) (inputs : List (List ℕ)) (p : Position) (text : List ℕ) → IsRecipe recipe → IsInputs recipe inputs → IsPosition recipe p
         → IsTextOfSave (save_of recipe inputs p) text → length text < 4_294_967_296 }

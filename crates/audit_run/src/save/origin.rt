@@ -1,4 +1,4 @@
-//! Of which recipe and inputs a text is a save, which is told without memory.
+//! The recipe and the inputs that a save is of, compared without allocating.
 
 ghost use Rattle.std.specs.Prelude.{◌≡◌, ◌↔◌, ℕ, IsTrue, List, Ok, length, map};
 ghost use Rattle.ddc_base.specs.declared.digests.Digest.{Digest as DigestText};
@@ -13,7 +13,7 @@ use recipe::Recipe;
 use save_format::byte_fields::Cursor;
 use save_format::{InputPart, digest_of, origin_of};
 
-/// Whether a text is a save of this recipe and these inputs. Of a text without the form nothing is said.
+/// Whether a text is a save of this recipe and these inputs. The result says nothing about a text with a wrong form.
 pub(crate) fn is_text_of(text: &[u8], recipe: &Recipe, inputs: &[Bytes]) -> bool
     ensures { (save : SaveText) → parsed_save text.now ≡ Ok save → IsTrue result ↔ IsOf recipe.now inputs.now save }
 {
@@ -38,7 +38,7 @@ fn is_same(first: &Digest, second: &Digest) -> bool
     *first == *second
 }
 
-/// Whether the digests at the front of what is left are those of these inputs.
+/// Whether the next digests are those of these inputs.
 fn are_next(cursor: &mut Cursor<'_>, inputs: &[Bytes]) -> bool
     ensures { (digests : List DigestText) (left : List ℕ) → several (λ (any : ℕ). digest_at) (λ input. 0) 0 (length inputs.now) cursor.old ≡ Ok (digests, left)
         → IsTrue result ↔ (digests ≡ map digest_of inputs.now) }

@@ -1,4 +1,4 @@
-//! The position that a text says.
+//! Reading a position from a save.
 
 ghost use Rattle.std.specs.Prelude.{◌≡◌, ◌↔◌, All, Err, IfOk, IsOk, IsTrue, List, length, map};
 ghost use Rattle.audit_run.specs.Save.Saves.{IsResumedAs, MayStand, Resumes, Stands, digest_of, finished_of, save_of, save_refusal_number};
@@ -30,14 +30,14 @@ use save_format::{InputPart, Parts, StagePart, front_of};
 use std::alloc::Global;
 use std::marker::Model;
 
-/// Why a text is no save of an audit.
+/// Why a text is not a save of an audit.
 #[derive(Clone, Copy, Debug, PartialEq, Eq)]
 pub enum SaveRefusal {
-    /// The field that begins at this offset is the first that is wrong.
+    /// The first wrong field begins at this byte offset.
     Form(u64),
-    /// It is of another recipe, or of other inputs.
+    /// The save is of another recipe, or of other inputs.
     OtherRecipe,
-    /// It says no position of the recipe's audit.
+    /// What it says is not a position of the recipe's audit.
     State,
     OutOfMemory,
 }
@@ -66,7 +66,7 @@ impl SaveRefusal {
     }
 }
 
-/// Where an audit stands in a stage.
+/// A position of an audit: the finished stages and the present guest.
 #[derive(Drop)]
 pub struct Resumed {
     done: Vec<Done>,
@@ -94,7 +94,7 @@ impl Resumed {
     }
 }
 
-/// Where the audit of this recipe and these inputs stands by a save of it.
+/// The position of the audit of this recipe and these inputs, from a save of it.
 pub fn read(
     alloc: Global,
     recipe: &Recipe,
@@ -102,18 +102,18 @@ pub fn read(
     text: &[u8],
 ) -> Result<Resumed, SaveRefusal>
     requires { IsInputs recipe.now inputs.now }
-    // What is read is a position of the audit, and this is a text of its save.
+    // The result is a position of the audit, and the text is one of its saves.
     ensures position { IfOk result (λ p. IsPosition recipe.now p) }
     ensures found { IfOk result (λ p. IsTextOfSave (save_of recipe.now inputs.now p) text.now) }
-    // Each text of the save of every position of the audit, reached or not, is read as that position, unless memory runs out.
+    // Every save of every position of the audit, reached or not, is read as that position, unless memory runs out.
     ensures only { (p : Position) → IsPosition recipe.now p → IsTextOfSave (save_of recipe.now inputs.now p) text.now → IsResumedAs p result }
-    // When each refusal comes.
+    // When each error occurs.
     ensures exact { Resumes recipe.now inputs.now text.now result }
 {
     judged(alloc, recipe, inputs, text)
 }
 
-/// Judges a text as a save. A step of its own, so that its further clauses are proved once.
+/// Judges a text as a save. It is a function of its own so that its further clauses are proved once.
 fn judged(
     alloc: Global,
     recipe: &Recipe,
@@ -142,7 +142,7 @@ fn judged(
     position_of(alloc, recipe, done, &state)
 }
 
-/// Why a text of the form is not resumed, where memory was wanting for the lists of its parts.
+/// Why a well-formed text is not resumed, if memory ran out for the lists of its parts.
 fn wanting(recipe: &Recipe, inputs: &[Bytes], text: &[u8]) -> SaveRefusal
     requires { IsOk (parsed_save text.now) }
     ensures { Resumes recipe.now inputs.now text.now (Err result) }
@@ -158,7 +158,7 @@ fn wanting(recipe: &Recipe, inputs: &[Bytes], text: &[u8]) -> SaveRefusal
     }
 }
 
-/// Whether memory is taken for a save of the recipe in which so many stages are done, and whose state says this in front of its pages.
+/// Whether a save of the recipe with this many finished stages and this state allocates memory. `front` is the state without its pages.
 fn may_stand(recipe: &Recipe, stages: usize, front: &StateFront) -> bool
     ensures { (save : SaveText) → stages ≡ length save.stages → IsFrontOf front.now save.state → IsTrue result ↔ MayStand recipe.now save }
 {
@@ -202,7 +202,7 @@ pub(crate) fn is_digest_of(part: &InputPart, input: &Bytes) -> bool
     part.digest == digest(input.as_slice())
 }
 
-/// The position that a save says, by the stages that are done and the present guest's state, which may stand relative to a base's.
+/// The position with these finished stages and the present guest's state, which may be relative to a base's.
 pub(crate) fn position_of(
     alloc: Global,
     recipe: &Recipe,
@@ -233,7 +233,7 @@ pub(crate) fn position_of(
     }
 }
 
-/// The stages that are done, as a save says them.
+/// The finished stages of a save.
 fn done_of(alloc: Global, parts: Vec<StagePart>) -> Result<Vec<Done>, OutOfMemory>
     ensures { IfOk result (λ done. done.items ≡ map (λ part. finished_of (stage_view part)) parts.items) }
 {
@@ -244,7 +244,7 @@ fn done_of(alloc: Global, parts: Vec<StagePart>) -> Result<Vec<Done>, OutOfMemor
     Ok(done)
 }
 
-/// A stage that is done, as a save says it.
+/// A finished stage of a save.
 fn finished_of(part: StagePart) -> Done
     ensures { result ≡ finished_of (stage_view part) }
 {

@@ -1,4 +1,4 @@
-//! The text of an audit that stands in a stage.
+//! Writing the save of an audit in a stage.
 
 ghost use Rattle.std.specs.Prelude.{◌≡◌, ◌<◌, ◌^◌, ◌++◌, All, IfOk, OnOk, length, map};
 ghost use Rattle.audit_run.specs.Save.Saves.{digest_of, save_of, stage_of};
@@ -16,7 +16,7 @@ use save_format::byte_fields::put_u32;
 use save_format::{MAGIC, put_stage};
 use std::alloc::Global;
 
-/// The one text of an audit that stands in a stage that has the second form.
+/// The save of an audit in a stage, in the second form. Error: out of memory.
 #[tactic(auto, using(crate::proofs::SaveLemmas::Written::written), unfolding(save_format::specs::Spelled::save_text_in))]
 pub fn write(
     alloc: Global,

@@ -6,8 +6,7 @@ use crate::stage::done::Done;
 use ddc_base::{Bytes, Name};
 use recipe::{Content, Recipe};
 
-/// The bytes that a name stands for, among the inputs and the artefacts so far; none for a name that stands for none of them, which a
-/// recipe's rules exclude.
+/// The bytes that a name stands for, among the inputs and the artefacts so far; empty for any other name, which a recipe's rules exclude.
 #[tactic(auto, unfolding(audit_rules::specs::Contents::content))]
 pub fn content<'a>(recipe: &Recipe, inputs: &'a [Bytes], done: &'a [Done], name: &Name) -> &'a [u8]
     ensures { result.now ≡ content recipe.now (contents inputs.now done.now) name.now }

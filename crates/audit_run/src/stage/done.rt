@@ -5,7 +5,7 @@ use audit_rules::Finished;
 use report::Mark;
 use std::marker::Model;
 
-/// A stage that is done, seen as `Finished`, with the mark of its artefact, so that this is taken once.
+/// A finished stage, seen as `Finished`, with its artefact's mark, so that the mark is computed once.
 #[derive(Drop)]
 pub struct Done {
     finished: Finished,
@@ -25,7 +25,7 @@ impl Model for Done {
 }
 
 impl Done {
-    /// A stage that is done, with the mark of its artefact.
+    /// A finished stage with its artefact's mark.
     pub(crate) fn new(finished: Finished, mark: Mark) -> Done
         requires { mark ≡ mark_of finished.made }
         ensures { result ≡ finished }
@@ -33,7 +33,7 @@ impl Done {
         Done { finished, mark }
     }
 
-    /// A stage that is done, of what is kept of it.
+    /// A finished stage; computes its artefact's mark.
     pub fn of(finished: Finished) -> Done
         ensures { result ≡ finished }
     {
@@ -41,21 +41,21 @@ impl Done {
         Done { finished, mark }
     }
 
-    /// What is kept of the stage.
+    /// The stage's record.
     pub fn finished(&self) -> &Finished
         ensures { result.now ≡ self.now }
     {
         &self.finished
     }
 
-    /// Its artefact.
+    /// The stage's artefact.
     pub fn made(&self) -> &[u8]
         ensures { result.now ≡ self.now.made }
     {
         self.finished.made.as_slice()
     }
 
-    /// The mark of its artefact.
+    /// The mark of the stage's artefact.
     pub fn mark(&self) -> Mark
         ensures { result ≡ mark_of self.now.made }
     {

@@ -26,9 +26,9 @@ pub struct Exit {
     pub step: u64,
 }
 
-/// What a stage's run comes to whose program exited.
+/// The result of a stage's run whose program exited. Error: out of memory.
 ///
-/// Want of memory comes only where an artefact was made, which is checked then and kept.
+/// Memory runs out only if an artefact was made, which is then checked and kept.
 pub(crate) fn exited(
     alloc: Global,
     so_far: &SoFar<'_>,
@@ -59,7 +59,7 @@ pub(crate) fn exited(
     }
 }
 
-/// The bytes at a stage's output.
+/// The bytes at a stage's output; `None` if it does not exist.
 pub fn made_by<'a>(stage: &Stage, files: &'a Files) -> Option<&'a [u8]>
     requires { kept.IsOutput stage.now.output }
     ensures { option_copied result ≡ out files.now (output_of stage.now.output) }
@@ -70,7 +70,7 @@ pub fn made_by<'a>(stage: &Stage, files: &'a Files) -> Option<&'a [u8]>
     }
 }
 
-/// The bytes of all artefacts so far.
+/// The number of bytes of all artefacts so far.
 fn artefact_bytes(done: &[Done]) -> u64
     requires { artefact_bytes done.now ≤ 1_073_741_824 }
     ensures { result ≡ artefact_bytes done.now }
@@ -82,7 +82,7 @@ fn artefact_bytes(done: &[Done]) -> u64
     total
 }
 
-/// The stage that is done: what its program left, with the marks, and a copy of the artefact, whose mark is taken once.
+/// The finished stage: what its program left, with the marks, and a copy of the artefact. The artefact's mark is computed once.
 #[tactic(auto, unfolding(audit_rules::specs::Stages::finished))]
 fn finish(
     alloc: Global,

@@ -1,4 +1,4 @@
-//! What a stage's program is given, and its start.
+//! The execution context of a stage's program, and its start.
 
 ghost use Rattle.audit_run.specs.Stage.Rules.{AreMade, IsStageOf};
 ghost use Rattle.audit_run.specs.Stage.Begins.{Begins};
@@ -20,7 +20,7 @@ use mem_files::PlaceRefusal;
 use recipe::{Recipe, Stage};
 use std::alloc::Global;
 
-/// What a stage's program is given; texts and contents are borrowed.
+/// The execution context of a stage's program. Texts and contents are borrowed. Error: out of memory.
 pub fn box_of<'a>(
     alloc: Global,
     recipe: &'a Recipe,
@@ -38,7 +38,7 @@ pub fn box_of<'a>(
     Ok(given)
 }
 
-/// Gives a stage's texts and files to a box that has none.
+/// Adds a stage's texts and files to an empty execution context.
 fn fill<'a>(
     given: &mut RunBox<'a>,
     recipe: &'a Recipe,
@@ -65,7 +65,7 @@ fn fill<'a>(
     Ok(())
 }
 
-/// Places a file that no rule refuses.
+/// Adds a file that no rule refuses.
 fn place<'a>(given: &mut RunBox<'a>, path: &[u8], bytes: &'a [u8]) -> Result<(), OutOfMemory>
     requires stripped { stripped path.now ≡ path.now }
     requires fits { place_refusal given.old.files path.now bytes.now ≡ None }
@@ -80,7 +80,7 @@ fn place<'a>(given: &mut RunBox<'a>, path: &[u8], bytes: &'a [u8]) -> Result<(),
     }
 }
 
-/// Starts a stage's program, or says why it does not start.
+/// The started program of a stage, or why it does not start. Error: out of memory.
 pub fn start_stage(
     alloc: Global,
     recipe: &Recipe,
@@ -99,7 +99,7 @@ pub fn start_stage(
     start(alloc, program, &given)
 }
 
-/// Starts a program, or says why it does not start.
+/// A started program, or why it does not start.
 fn start(
     alloc: Global,
     program: &[u8],

@@ -13,14 +13,14 @@ use mem_files::Files;
 use report::{LeftLine, LeftLines, Mark};
 use std::alloc::Global;
 
-/// The file at a path, whose mark is known.
+/// The path of a file whose mark is known, and its mark.
 #[derive(Clone, Copy)]
 pub(crate) struct Known<'a> {
     pub(crate) path: &'a [u8],
     pub(crate) mark: Mark,
 }
 
-/// The lines of all files that are left, by the bytes of their names.
+/// The lines of all files that are left, ascending by the bytes of their names. Error: out of memory.
 pub(crate) fn left_lines(
     alloc: Global,
     files: &Files,

@@ -17,7 +17,7 @@ use report::{
 };
 use std::alloc::Global;
 
-/// The report of all stages, with the comparisons.
+/// The report of all stages, with the comparisons. Error: out of memory.
 #[tactic(auto, unfolding(audit_rules::specs::Bench::bench_report))]
 pub fn report_of(
     alloc: Global,
@@ -50,7 +50,7 @@ fn input_lines(alloc: Global, inputs: &[Input], given: &[Bytes]) -> Result<Input
     Ok(lines)
 }
 
-/// The lines of the stages that are done.
+/// The lines of the finished stages.
 fn stage_lines(
     alloc: Global,
     recipe: &Recipe,
@@ -64,7 +64,7 @@ fn stage_lines(
     Ok(lines)
 }
 
-/// Puts the lines of the stages that are done.
+/// Adds the lines of the finished stages to an empty list.
 fn put_stage_lines(
     alloc: Global,
     recipe: &Recipe,
@@ -81,7 +81,7 @@ fn put_stage_lines(
     Ok(())
 }
 
-/// The line of a stage that is done.
+/// The line of a finished stage.
 fn stage_line(
     alloc: Global,
     recipe: &Recipe,
@@ -102,7 +102,7 @@ fn stage_line(
     })
 }
 
-/// The same lines again.
+/// A copy of these lines.
 fn copy_of(alloc: Global, lines: &[LeftLine]) -> Result<LeftLines, OutOfMemory>
     ensures { IfOk result (λ copy. copy ≡ lines.now) }
 {
@@ -111,7 +111,7 @@ fn copy_of(alloc: Global, lines: &[LeftLine]) -> Result<LeftLines, OutOfMemory>
     Ok(copy)
 }
 
-/// Puts the same lines again.
+/// Adds copies of these lines to an empty list.
 fn put_copies(alloc: Global, lines: &[LeftLine], copy: &mut LeftLines) -> Result<(), OutOfMemory>
     requires { copy.old ≡ [] }
     ensures { OnOk result (copy.new ≡ lines.now) }
@@ -122,7 +122,7 @@ fn put_copies(alloc: Global, lines: &[LeftLine], copy: &mut LeftLines) -> Result
     Ok(())
 }
 
-/// The same line again.
+/// A copy of this line.
 fn copied(alloc: Global, line: &LeftLine) -> Result<LeftLine, OutOfMemory>
     ensures { IfOk result (λ copy. copy ≡ line.now) }
 {
@@ -132,7 +132,7 @@ fn copied(alloc: Global, line: &LeftLine) -> Result<LeftLine, OutOfMemory>
     })
 }
 
-/// The language in which a stage's artefact is checked.
+/// The language in which a stage's artefact is checked; `None` for an unchecked stage.
 #[tactic(auto, unfolding(audit_rules::specs::Contents::check_language))]
 fn check_language(recipe: &Recipe, stage: &Stage) -> Option<Language>
     ensures { result ≡ check_language recipe.now stage.now }
@@ -160,7 +160,7 @@ fn compare_lines(
     Ok(lines)
 }
 
-/// The line of a compared stage: its artefact with the binary.
+/// The line of a compared stage: how its artefact compares with the audited binary.
 fn compare_line(recipe: &Recipe, inputs: &[Bytes], done: &[Done], stage: &Name) -> CompareLine
     ensures { result ≡ compare_line recipe.now (contents inputs.now done.now) stage.now }
 {

@@ -1,4 +1,4 @@
-//! What a stage of an audit begins from.
+//! What a stage of an audit starts from.
 
 ghost use Rattle.audit_rules.specs.Valid.{IsInputs};
 
@@ -6,7 +6,7 @@ use crate::stage::done::Done;
 use ddc_base::Bytes;
 use recipe::Recipe;
 
-/// What an audit has come to before a stage: a recipe with its inputs, and the stages that are done.
+/// An audit before a stage: a recipe with its inputs, and the finished stages.
 #[derive(Clone, Copy)]
 pub(crate) struct SoFar<'a> {
     pub(crate) recipe: &'a Recipe,

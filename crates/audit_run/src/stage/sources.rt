@@ -15,7 +15,7 @@ use ddc_base::{Bytes, Name, OutOfMemory};
 use recipe::{Recipe, Source, SourceLanguage, Stage};
 use std::alloc::Global;
 
-/// What is wrong with a stage's artefact; `None` where it is right, or unchecked.
+/// What is wrong with a stage's artefact; `None` if nothing is or the stage is unchecked. Error: out of memory.
 #[tactic(auto, unfolding(audit_rules::specs::Contents::check_of))]
 pub(crate) fn check_of(
     alloc: Global,
@@ -35,7 +35,7 @@ pub(crate) fn check_of(
     }
 }
 
-/// The source that a stage's check names.
+/// The source that a stage's check names; `None` for an unchecked stage.
 pub(crate) fn check_source<'a>(recipe: &'a Recipe, stage: &Stage) -> Option<&'a Source>
     ensures { option_map (λ x. x.now) result ≡ check_source recipe.now stage.now }
 {
@@ -45,7 +45,7 @@ pub(crate) fn check_source<'a>(recipe: &'a Recipe, stage: &Stage) -> Option<&'a 
     }
 }
 
-/// The language of a source, where ddc defines it.
+/// The language of a source, if ddc defines it.
 pub(crate) fn defined(language: SourceLanguage) -> Option<Language>
     ensures { result ≡ defined language }
 {
@@ -55,7 +55,7 @@ pub(crate) fn defined(language: SourceLanguage) -> Option<Language>
     }
 }
 
-/// The check against a source's text, which is made only where the source has not just one file.
+/// The check against a source's text. A source of one file is not copied.
 #[tactic(auto, unfolding(audit_rules::specs::Contents::text_of))]
 fn check_text(
     alloc: Global,

@@ -1,5 +1,4 @@
--- The printed causes for which the run of a program fails, and numbers in hexadecimal digits. docs/reference/command-line.md says the same
--- for people.
+-- Why the run of a program fails, as printed, and numbers in hexadecimal digits. docs/reference/command-line.md says the same for people.
 use Rattle.std.specs.Prelude.{ℕ, List, [], ◌∷◌, ◌++◌, codes, decimal}
 use Rattle.byteorder.specs.Endian.{big_bytes}
 use Rattle.hex.specs.Hex.{encode_lower}
@@ -15,13 +14,13 @@ hex_word number = encode_lower (big_bytes 4 number)
 abbrev pub hex_address : ℕ → List ℕ
 hex_address address = encode_lower (big_bytes 8 address)
 
--- words, a blank between neighbours
+-- these words, with a blank between neighbours
 abbrev pub spaced : List (List ℕ) → List ℕ
 spaced [] = []
 spaced (word ∷ []) = word
 spaced (word ∷ next ∷ words) = word ++ 32 ∷ spaced (next ∷ words)
 
--- a trap
+-- the printed words of a trap
 abbrev pub trap_words : Cause → List (List ℕ)
 trap_words (Illegal word) = codes "trap" ∷ codes "illegal" ∷ hex_word word ∷ []
 trap_words (FetchUnmapped address) = codes "trap" ∷ codes "fetch-unmapped" ∷ hex_address address ∷ []
@@ -33,11 +32,11 @@ trap_words Break = codes "trap" ∷ codes "break" ∷ []
 unfoldable pub trap_text : Cause → List ℕ
 trap_text cause = spaced (trap_words cause)
 
--- a call of a number that is none of the table
+-- a call with an unknown number
 unfoldable pub call_text : ℕ → List ℕ
 call_text number = spaced (codes "call" ∷ decimal number ∷ [])
 
--- a file that is no program, and a program that does not start with what it is given
+-- a file that is not a program, and a program that does not start with these arguments, environment or files
 unfoldable pub elf_text : ElfRefusal → List ℕ
 elf_text refusal = spaced (codes "start" ∷ codes "elf" ∷ decimal (rank refusal) ∷ [])
 
@@ -47,10 +46,10 @@ args_text = codes "start args"
 abbrev pub box_text : List ℕ
 box_text = codes "start box"
 
--- an exit with another status than 0
+-- an exit with a status other than 0
 unfoldable pub status_text : ℕ → List ℕ
 status_text status = spaced (codes "status" ∷ decimal status ∷ [])
 
--- all steps were taken
+-- the step limit is exhausted
 abbrev pub spent_text : List ℕ
 spent_text = codes "spent"

@@ -1,4 +1,4 @@
--- A session as a code of its parts, which the kit asks for where a contract sees it as a type of the definitions.
+-- A session encoded by its parts. Rattle requires this where a contract sees it as a type of the definitions.
 use Rattle.std.specs.Prelude.{ℕ, Option, List, refl}
 use Rattle.std.specs.Coded.{Coded, code_by, coded×, coded_ℕ, coded_list, coded_option}
 use Rattle.guest_run.specs.Setting.{Setting}

@@ -1,4 +1,4 @@
--- The line of where going on came, by how it ended. It serves the split of the code: no promise of a session rests on its being read.
+-- The line of where a run stands, by how running on ended. It serves the split of the code: no promise depends on its being read.
 use Rattle.std.specs.Prelude.{◌≡◌, ℕ, Some, None, Result, IfOk, List}
 use Rattle.ddc_base.specs.declared.byte_list.OutOfMemory.{OutOfMemory}
 use Rattle.guest_run.specs.declared.run.RunEnd.{RunEnd}
@@ -13,6 +13,6 @@ ReportsBy session (ending.UnknownCall number) line = line ≡ came_text session.
 ReportsBy session ending.Spent line = line ≡ came_text session.limit (None, session.at)
 ReportsBy session ending.OutOfMemory line = ⊥
 
--- the line of where a session came, or memory was wanting
+-- the line of where a session stands, or memory ran out
 abbrev pub Reports : SessionState → RunEnd → Result (List ℕ) OutOfMemory → Type 0
 Reports session end result = IfOk result (ReportsBy session end)

@@ -1,4 +1,4 @@
--- What a check says of a language's refusal: no, and want of memory to want of memory. No promise rests on its being read.
+-- The result of a check for a language's refusal: false, or out of memory for out of memory. No promise depends on its being read.
 use Rattle.std.specs.Prelude.{◌≡◌, Bool, false, Result, Ok, IsErr}
 use Rattle.ddc_base.specs.declared.byte_list.OutOfMemory.{OutOfMemory}
 use Rattle.hex_langs.specs.declared.items.reader.HexRefusal.{HexRefusal}

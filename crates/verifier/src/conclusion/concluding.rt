@@ -10,12 +10,12 @@ use report::Report;
 use std::alloc::Global;
 use wheeler::Meaning;
 
-/// Replays a report, as `crate::verify` does, with the same verdict.
+/// Replays a report, with the verdict of `verifier::verify`, and proves what a true report shows under every meaning of sources.
 ///
-/// Whatever sources mean: where the report is true and every line of `wheeler::assumptions` holds, every stage follows. Of each compared
-/// stage, where every line of `wheeler::assumptions_for` that stage holds: if its comparison says that the artefact and the binary are equal,
-/// its parent source prescribes the audited binary and nothing else, and if it says that they differ, no program that makes the audited
-/// binary implements the parent source. No line of another route is used. docs/reference/argument.md has the words.
+/// If every assumption of `wheeler::assumptions` holds, every stage follows. For each compared stage, let every assumption of
+/// `wheeler::assumptions_for` hold; those of other routes are not used. If artefact and binary are equal, the parent source prescribes
+/// exactly the audited binary. If they differ, no program that makes the audited binary implements the parent source.
+/// docs/reference/argument.md explains the terms.
 pub fn verify<M: Meaning>(
     alloc: Global,
     recipe: &Recipe,

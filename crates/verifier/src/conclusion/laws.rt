@@ -13,8 +13,8 @@ use crate::laws::one_report;
 use wheeler::Meaning;
 use wheeler::laws::the_bench_concludes;
 
-/// Of a recipe that keeps its rules and of inputs within their limits, a report without a fault shows what its verdict does, under every
-/// meaning of sources.
+/// For a well-formed recipe and inputs within their limits, a report without a fault shows what its verdict does, under every meaning of
+/// sources.
 pub fn a_true_report_shows<M: Meaning>()
     ensures { (recipe : RecipeContents) (inputs : List (List ℕ)) (report : Report) → IsRecipe recipe → IsInputs recipe inputs
         → first_fault recipe inputs report ≡ None → Shows M.prescribes M.compiles recipe inputs report.compare (true_verdict report.compare) }

@@ -1,4 +1,5 @@
--- Why the meaning of hex0, hex1 and hex2 sources keeps the three laws. The kit wants the grounds for a law of an `impl` among the definitions.
+-- Why the meaning of hex0, hex1 and hex2 sources keeps the three laws. Rattle requires the grounds for a law of an `impl` among the
+-- definitions.
 use Rattle.std.proofs.Common.{◌≡◌, ℕ, Some, List, ap, ◌∙◌}
 use Rattle.mem_files.specs.Outputs.{OutputPlace}
 use Rattle.guest_run.specs.Setting.{Setting}

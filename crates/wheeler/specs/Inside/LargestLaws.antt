@@ -1,4 +1,4 @@
--- Why the largest relation is one that Carry allows. The kit wants the grounds for a law of an `impl` among the definitions.
+-- Why the law `carry` allows the largest relation. Rattle requires the grounds for a law of an `impl` among the definitions.
 use Rattle.std.specs.Prelude.{ℕ, List}
 use Rattle.mem_files.specs.Outputs.{OutputPlace}
 use Rattle.guest_run.specs.Setting.{Setting}

@@ -1,4 +1,4 @@
--- Why what runs of M1 programs leave is a semantics. The kit wants the grounds for a law of an `impl` among the definitions.
+-- Why what runs of M1 programs leave is a semantics. Rattle requires the grounds for a law of an `impl` among the definitions.
 use Rattle.std.proofs.Common.{◌≡◌, ℕ, Some, Result, Ok, Err, List}
 use Rattle.ddc_base.specs.declared.languages.Language.TheVariants.{Hex0, Hex1, Hex2, M1}
 use Rattle.hex_langs.specs.declared.items.item.Item.{Item}
@@ -27,7 +27,7 @@ keeps-in (Defined Hex2) base files program is = is
 keeps-in (Defined M1) base files program is = absurd (no-value (expansion_of (joined_files files)) program is)
 keeps-in Other base files program is = absurd cc
 
--- a source that has a value of hex0, hex1 or hex2 has it as its program
+-- a source with a value in hex0, hex1 or hex2 has that value as its program
 pub keeps-hex : (source : SourceText) (program : List ℕ) → binary_of source ≡ Some program → program_of_text source ≡ Some program
 unfolding binary_of program_of_text
 keeps-hex source program is = keeps-in source.lang source.base source.files program is

@@ -1,4 +1,4 @@
--- Why a semantics of other languages beside machine code is one. The kit wants the grounds for a law of an `impl` among the definitions.
+-- Why other languages beside machine code are a semantics. Rattle requires the grounds for a law of an `impl` among the definitions.
 use Rattle.std.proofs.Common.{◌≡◌, ℕ, Option, None, Some, List, sym, subst}
 use Rattle.audit_rules.specs.Contents.{SourceText}
 use Rattle.wheeler.specs.Inside.AssemblyLaws.{fixed-value, literal-value}

@@ -1,5 +1,5 @@
--- Why what runs of programs leave is prescribed deterministically, of what a law of guest_run says of runs (`one_run`). The kit wants the
--- grounds for a law of an `impl` among the definitions.
+-- Why what runs of programs leave is prescribed deterministically, from the law `one_run` of guest_run. Rattle requires the grounds for a
+-- law of an `impl` among the definitions.
 use Rattle.std.proofs.Common.{◌≡◌, ℕ, Option, Some, List, sym, ap, ◌∙◌, subst}
 use Rattle.std.proofs.lemmas.Option.{same_Some}
 use Rattle.mem_files.specs.Outputs.{OutputPlace, out}
@@ -10,13 +10,13 @@ use Rattle.audit_rules.specs.Contents.{SourceText}
 use Rattle.wheeler.specs.Assembly.{ProgramLeaves}
 use Rattle.wheeler.specs.Meaning.{Implements, Prescribes}
 
--- one program with one box has at most one run to an exit
+-- a program in an execution context has at most one run to an exit
 abbrev pub HasOneRun : Type 0
 HasOneRun =
     (program : List ℕ) (setting : Setting) (n m s t : ℕ) (world other : World)
     → ProgramRun program setting n s world → ProgramRun program setting m t other → (n ≡ m) × (s ≡ t) × (world ≡ other)
 
--- at most one content
+-- a source prescribes at most one content at an output
 abbrev pub IsFixed : Prescribes → Type 0
 IsFixed prescribes =
     (source : SourceText) (box : Setting) (output : OutputPlace) (one other : List ℕ)

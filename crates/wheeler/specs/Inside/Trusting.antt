@@ -1,4 +1,4 @@
--- Of which programs lines are asked. No promise rests on its being read.
+-- The programs about which assumptions are listed. No promise depends on this file being read.
 use Rattle.std.specs.Prelude.{ℕ, Bool, List}
 use Rattle.recipe.specs.declared.contents.RecipeContents.{RecipeContents}
 use Rattle.wheeler.specs.declared.trusted.Trusted.{Trusted}

@@ -1,4 +1,4 @@
--- What a check answers to a language's refusal: its cause, and want of memory to want of memory.
+-- The result of a check for a language's refusal: its cause, or out of memory for out of memory.
 use Rattle.std.specs.Prelude.{◌≡◌, Result, Ok, IsErr}
 use Rattle.ddc_base.specs.declared.byte_list.OutOfMemory.{OutOfMemory}
 use Rattle.hex_langs.specs.declared.items.reader.HexRefusal.{HexRefusal}

@@ -1,4 +1,4 @@
--- What becomes of a base by itself.
+-- The result of judging a base alone.
 use Rattle.std.specs.Prelude.{◌≢◌, ℕ, List, Result, Ok, Err}
 use Rattle.recipe.specs.declared.contents.RecipeContents.{RecipeContents}
 use Rattle.audit_rules.specs.Positions.{Position}
@@ -8,7 +8,7 @@ use Rattle.audit_run.specs.declared.delta.reading.DeltaRefusal.{DeltaRefusal}
 use Rattle.audit_run.specs.declared.delta.reading.DeltaRefusal.TheVariants.{Base, Form, OtherBase, State, OutOfMemory}
 use Rattle.audit_run.specs.declared.save.reading.SaveRefusal.TheVariants as save
 
--- it is the save of a position, or is refused as a save is
+-- the base is the save of a position, or is refused as a save is
 abbrev pub JudgesBase : RecipeContents → List (List ℕ) → List ℕ → Result (Unit {0}) DeltaRefusal → Type 0
 JudgesBase recipe inputs base (Ok done) = (b : Position) × Resumes recipe inputs base (Ok b) × IsPosition recipe b
 JudgesBase recipe inputs base (Err (Base refusal)) = Resumes recipe inputs base (Err refusal) × (refusal ≢ save.OutOfMemory)

@@ -1,4 +1,4 @@
--- How a position is stored, and digests that stand beside inputs.
+-- How a position is stored, and digests beside inputs.
 use Rattle.std.specs.Prelude.{◌≡◌, ℕ, List, [], ◌∷◌, refl}
 use Rattle.std.specs.Coded.{Coded, code_by, coded×, coded_list}
 use Rattle.guest_run.specs.State.{GuestState}

@@ -1,4 +1,4 @@
--- The rules of a save as tests that compute. Laws say that they are the rules (`save::laws::the_tests_are_the_rules`), so no promise rests on this
+-- The rules of a save as computable tests. The law `save::laws::the_tests_are_the_rules` proves them equal, so no promise depends on this
 -- file being read.
 use Rattle.std.specs.Prelude.{ℕ, ◌^◌, Bool, true, false, ◌&&◌, ◌==◌, bytes_eq, nat_le, nat_lt, List, [], ◌∷◌, length, map}
 use Rattle.std.specs.List.{list_all, list_any}
@@ -39,7 +39,7 @@ same_line a b = bytes_eq a.name b.name && same_mark a.mark b.mark
 abbrev pub is_small_mark : Mark → Bool
 is_small_mark mark = nat_lt mark.length (2 ^ 32) && (length mark.digest.0 == 32 && are_bytes mark.digest.0)
 
--- stages that are done
+-- finished stages
 
 abbrev pub is_left_line : LeftLine → Bool
 is_left_line file = is_stripped_name file.name && (are_bytes file.name && is_small_mark file.mark)
@@ -69,7 +69,7 @@ are_done recipe done = are_finished recipe.stages done && nat_le (artefact_bytes
 unfoldable pub is_of : RecipeContents → List (List ℕ) → SaveText → Bool
 is_of recipe inputs save = same_digest save.recipe recipe.digest && same_digests save.inputs (map digest_of inputs)
 
--- where these stages are left
+-- with these stages left
 abbrev pub is_saved_position_before : RecipeContents → SaveText → List Stage → Bool
 is_saved_position_before recipe save [] = false
 is_saved_position_before recipe save (stage ∷ stages) =
