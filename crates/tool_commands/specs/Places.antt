@@ -1,4 +1,4 @@
--- Where a refusal stands in a source: line, column and word of a byte offset, and the byte offset of an item.
+-- The place of a refusal in a source: line, column and word of a byte offset, and the byte offset of an item.
 -- docs/reference/command-line.md says the same for people.
 use Rattle.std.specs.Prelude.{◌≡◌, ℕ, ◌+◌, ◌==◌, nat_lt, if◌then◌else◌, Option, None, Some, Result, Ok, Err, List, length, take}
 use Rattle.std.specs.List.{fold, position_or_len}

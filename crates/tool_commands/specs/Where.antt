@@ -66,7 +66,7 @@ where_words (language ∷ source ∷ number ∷ place ∷ []) =
     where_of (language_named language) (as_file_name source) (within_numbers (as_decimal number)) (as_decimal place)
 where_words _ = None
 
--- loads the source, of at most 268,435,456 bytes, and answers where the refusal stands in it
+-- loads the source, of at most 268,435,456 bytes, and answers with the place of the refusal
 abbrev pub where_file : WhereWords → Plan
 where_file words = needs words.source 268_435_456 (λ text. located text (refusal_place words.language text words.number words.place))
 
