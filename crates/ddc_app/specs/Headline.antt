@@ -7,8 +7,8 @@ use Rattle.report.specs.declared.types.Report.{Report}
 use Rattle.verifier.specs.TrueReport.{IsYes, TrueReport}
 use Rattle.ddc_app.specs.Judged.{HoldsReport}
 
--- the report has the digest of the recipe file's bytes, every line of the report is true of the recipe and its inputs, and the artefact of each compared
--- stage is the audited binary, byte for byte
+-- The report has the digest of the recipe file's bytes, and every line of it is true of the recipe and its inputs. The artefact of each
+-- compared stage is the audited binary, byte for byte
 pub record SaysHeadline (bytes : List ℕ) (said : RecipeContents) (inputs : List (List ℕ)) (made : Report) : Type 0 where
   pub named : made.recipe.0 ≡ sha256 bytes
   pub yes : IsYes said inputs made
