@@ -16,7 +16,7 @@ use Rattle.recipe_plan.specs.NotDone.{run_failed_line}
 abbrev pub run_failed : Stage → RunCause → ℕ → Plan
 run_failed stage cause step = answers RunFailed (run_failed_line stage.name cause step)
 
--- the contents of the stage's output after an exit, or why there are none
+-- the contents of the stage's output after an exit, or why it left no output
 abbrev pub unless_absent : Option (List ℕ) → Result (List ℕ) RunCause
 unless_absent None = Err run.NoOutput
 unless_absent (Some made) = Ok made

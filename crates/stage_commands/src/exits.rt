@@ -12,7 +12,7 @@ use mem_files::Files;
 use recipe::Stage;
 use std::alloc::Global;
 
-/// The contents of the stage's output after an exit with this status, or why there are none.
+/// The contents of the stage's output after an exit with this status, or why it left no output.
 pub(crate) fn output_left<'a>(
     stage: &Stage,
     status: u8,

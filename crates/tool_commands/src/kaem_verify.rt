@@ -156,7 +156,7 @@ fn accepted(alloc: Global, commands: usize) -> Result<Answer, Stop>
     })
 }
 
-/// The answer to a false report: its first part that is false, and the command of that part.
+/// The answer to a false report: its first part that is false, and the place of that part.
 fn refuted(alloc: Global, part: ScriptPart, place: u32) -> Result<Answer, Stop>
     ensures { Says (answers Refuted (script_refuted_line part place)) result }
 {

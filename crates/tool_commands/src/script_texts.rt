@@ -103,7 +103,7 @@ pub(crate) fn commands_true(alloc: Global, commands: usize) -> Result<Bytes, Out
     Ok(Bytes::from_vec(format!(in alloc; "yes {commands}\n")?.into_bytes()))
 }
 
-/// The line of a false report: its first part that is false, and the command of that part.
+/// The line of a false report: its first part that is false, and the place of that part.
 #[tactic(auto, unfolding(crate::specs::ScriptTexts::script_refuted_line))]
 pub(crate) fn refuted(alloc: Global, part: ScriptPart, place: u32) -> Result<Bytes, OutOfMemory>
     ensures { IfOk result (λ text. text ≡ script_refuted_line part place) }
