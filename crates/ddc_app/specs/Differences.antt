@@ -40,7 +40,7 @@ pub record IsSavedRelative (recipe base patch : List ℕ) (files : NamedFiles) (
 
 -- ---- the outcomes of the segments
 
--- a segment pauses after so many steps in all, or its outcome is that of the undivided audit
+-- a segment pauses after so many steps in all, or has the status, text and REPORT of the undivided audit
 abbrev pub DeltaPieces : List ℕ → List ℕ → List ℕ → List ℕ → NamedFiles → ℕ → ℕ → Outcome → Type 0
 DeltaPieces recipe base patch report files first count piece =
     ((piece.status ≡ Paused) × IsSavedRelative recipe base patch piece.files first count) ⊎ AreSame report piece (audit recipe report files)
@@ -60,7 +60,7 @@ abbrev pub AreKept : List ℕ → List ℕ → List ℕ → NamedFiles → ℕ �
 AreKept recipe base patch files first [] = IsSavedAt recipe base files first
 AreKept recipe base patch files first (steps ∷ counts) = IsSavedRelative recipe base patch files first (sum (first ∷ steps ∷ counts))
 
--- an audit by differences pauses after all its steps, or its outcome is that of the undivided audit
+-- an audit by differences pauses after all its steps, or has the status, text and REPORT of the undivided audit
 abbrev pub Differences : List ℕ → List ℕ → List ℕ → List ℕ → NamedFiles → ℕ → List ℕ → Outcome → Type 0
 Differences recipe base patch report files first counts piece =
     ((piece.status ≡ Paused) × AreKept recipe base patch piece.files first counts) ⊎ AreSame report piece (audit recipe report files)

@@ -52,13 +52,13 @@ pub record IsSavedAt (recipe save : List ℕ) (files : NamedFiles) (count : ℕ)
 
 -- ---- the outcomes of the segments
 
--- two commands have the same outcome: status, text, and what REPORT holds
+-- two commands have the same status and text, and REPORT holds the same after both
 pub record AreSame (report : List ℕ) (first second : Outcome) : Type 0 where
   pub status : first.status ≡ second.status
   pub text : first.text ≡ second.text
   pub held : map.get first.files report ≡ map.get second.files report
 
--- a segment pauses after so many steps in all, or its outcome is that of the undivided audit
+-- a segment pauses after so many steps in all, or has the status, text and REPORT of the undivided audit
 abbrev pub Pieces : List ℕ → List ℕ → List ℕ → NamedFiles → ℕ → Outcome → Type 0
 Pieces recipe save report files count piece =
     ((piece.status ≡ Paused) × IsSavedAt recipe save piece.files count) ⊎ AreSame report piece (audit recipe report files)

@@ -51,16 +51,16 @@ use verifier::laws::{a_yes_in_its_own_words, no_fault_is_every_word_true};
 use verify_commands::laws::{it_judges_as_verify, what_is_printed_settles_it};
 use wheeler::Meaning;
 
-/// `verify` accepts an audit's own report. If `audit RECIPE REPORT` on files of bytes returns 0 or 3, `verify RECIPE REPORT` on the files
-/// afterwards returns the same status.
+/// `verify` accepts an audit's own report: after an `audit RECIPE REPORT` on files of bytes that returns 0 or 3, `verify RECIPE REPORT`
+/// returns the same status.
 pub fn accepted()
     ensures { (recipe report : List ℕ) (files : NamedFiles) → LoadsBytes (plan_of (codes "audit" ∷ recipe ∷ report ∷ [])) files
         → IsTrue (is_compared (audit recipe report files).status)
         → (verify recipe report (audit recipe report files).files).status ≡ (audit recipe report files).status }
 {}
 
-/// Wheeler's argument for `verify`, under every meaning of sources. If `verify RECIPE REPORT` on files of bytes returns 0 or 3, the report
-/// is true, and the text ends in exactly the lines of its assumptions. The status shows the conclusion that belongs to it.
+/// If `verify RECIPE REPORT` on files of bytes returns 0 or 3, the report is true, and Wheeler's argument holds under every meaning of
+/// sources. The text ends in exactly the lines of its assumptions, and the status shows the conclusion that belongs to it.
 pub fn verified<M: Meaning>()
     ensures { (recipe report : List ℕ) (files : NamedFiles) → LoadsBytes (plan_of (codes "verify" ∷ recipe ∷ report ∷ [])) files
         → IsTrue (is_compared (verify recipe report files).status)
@@ -69,9 +69,8 @@ pub fn verified<M: Meaning>()
     a_true_report_shows::<M>();
 }
 
-/// When `verify` returns 0, 1 or 3, on files that hold a valid recipe, a valid report and the recipe's inputs. It returns 0 exactly where
-/// the report has no fault and all its comparisons say equal. It returns 3 exactly where the report has no fault and some comparison says
-/// that it differs. It returns 1 exactly where the report has a fault.
+/// `verify` returns 0 exactly where a report has no fault and all its comparisons say equal, 3 exactly where it has no fault and a
+/// comparison differs, and 1 exactly where it has a fault. The files hold a valid recipe, a valid report and the recipe's inputs.
 pub fn verdicts()
     ensures yes { (recipe report : List ℕ) (files : NamedFiles) (said : Recipe) (inputs : List (List ℕ)) (made : Report)
         → HoldsReport recipe report files said inputs made
@@ -84,13 +83,12 @@ pub fn verdicts()
         → ((verify recipe report files).status ≡ Refuted) ↔ ((one : Part × ℕ) × (first_fault said inputs made ≡ Some one)) }
 {}
 
-/// The headline: what a 0 of `verify` means, on files that hold a valid recipe, a valid report and the recipe's inputs. `verify` returns 0
-/// exactly where all of these hold:
+/// The headline: `verify` returns 0 exactly where the report is true and the artefact of each compared stage is the audited binary. The
+/// files hold a valid recipe, a valid report and the recipe's inputs. The report is true where:
 ///
-/// - the report has the digest of the recipe's file, and the name, length and digest of each input;
+/// - it has the digest of the recipe's file, and the name, length and digest of each input;
 /// - the line of each stage is true of its run;
-/// - each checked artefact is what its source denotes;
-/// - the artefact of each compared stage is the audited binary.
+/// - each checked artefact is what its source denotes.
 pub fn the_headline()
     ensures { (recipe report : List ℕ) (files : NamedFiles) (said : Recipe) (inputs : List (List ℕ)) (made : Report)
         → (held : HoldsReport recipe report files said inputs made)
@@ -131,10 +129,9 @@ pub fn audits_write_true_reports()
     compared_reports_are_true();
 }
 
-/// Composed audits: what a 0 of `chain LIST` on files of bytes shows, under every meaning of sources. Each line of the list is a true audit
-/// whose comparisons are equal, and the text has exactly the assumptions that are left of all audits. If these assumptions hold, every
-/// assumption of every audit holds, and so does the conclusion of every stage. Each audited binary then implements the source of each
-/// compared stage that has one.
+/// If `chain LIST` on files of bytes returns 0, each line is a true audit whose comparisons are equal, and the text has exactly the
+/// assumptions that are left of all audits. Under every meaning of sources, if these assumptions hold, every assumption of every audit
+/// holds, and so does the conclusion of every stage. Each audited binary then implements the source of each compared stage that has one.
 pub fn chained<M: Meaning>()
     ensures { (list : List ℕ) (files : NamedFiles) → LoadsBytes (plan_of (codes "chain" ∷ list ∷ [])) files → (chain list files).status ≡ Yes
         → Chained M.prescribes M.compiles list files (chain list files) }
@@ -142,15 +139,15 @@ pub fn chained<M: Meaning>()
     composed::<M>();
 }
 
-/// When `chain` returns 0, in terms of `verify` on the same files. It does exactly where LIST is valid and has a line, the inputs of all
-/// lines fit the limit that they share, and `verify` returns 0 for each line. Its text is then that of these audits.
+/// `chain` returns 0 exactly where LIST is valid and has a line, the inputs of all lines fit the limit that they share, and `verify`
+/// returns 0 for each line. Its text is then that of these audits.
 pub fn chains_verified()
     ensures yes { (list : List ℕ) (files : NamedFiles) → ((chain list files).status ≡ Yes) ↔ AllVerified list files }
     ensures text { (list : List ℕ) (files : NamedFiles) (all : AllVerified list files) → (chain list files).text ≡ chain_text all.links }
 {}
 
-/// The outcome of `provenance` for a report without a fault, on files that hold a valid recipe, that report and the recipe's inputs. The
-/// status is that of the comparisons, the recipe and the report alone determine the text, and no file changes.
+/// For a report without a fault, `provenance` returns the status of its comparisons, the recipe and the report alone determine the text,
+/// and no file changes. The files hold a valid recipe, that report and the recipe's inputs.
 pub fn a_true_report_is_told()
     ensures { (recipe report : List ℕ) (files : NamedFiles) (said : Recipe) (inputs : List (List ℕ)) (made : Report)
         → HoldsReport recipe report files said inputs made → first_fault said inputs made ≡ None
@@ -158,8 +155,8 @@ pub fn a_true_report_is_told()
         ≡ record { status = compared_status made.compare; text = provenance_text said made; files = files } }
 {}
 
-/// What a 0 or 3 of `provenance RECIPE REPORT` on files of bytes shows, under every meaning of sources. `verify` returns the same status
-/// and shows what `verified` says. The recipe and the report determine the text, and no file changes.
+/// If `provenance RECIPE REPORT` on files of bytes returns 0 or 3, `verify` returns the same status and shows what `verified` says, under
+/// every meaning of sources. The recipe and the report determine the text, and no file changes.
 pub fn accounted<M: Meaning>()
     ensures { (recipe report : List ℕ) (files : NamedFiles) → LoadsBytes (plan_of (codes "provenance" ∷ recipe ∷ report ∷ [])) files
         → IsTrue (is_compared (provenance recipe report files).status)
@@ -170,9 +167,9 @@ pub fn accounted<M: Meaning>()
     a_true_report_is_told();
 }
 
-/// Equal printed digests mean equal artefacts. Two valid recipe files have one digest, their audits complete, and `provenance` prints the
-/// same lines for a stage below its comparison. Then the stage has the same artefact in both, or the same items if it is checked in M1.
-/// Otherwise two different contents with one digest are known.
+/// Two audits for which `provenance` prints the same lines of a stage below its comparison have the same artefact of that stage, or two
+/// different contents with one digest are known. Both audits complete, and their recipe files are valid and have one digest. If the stage
+/// is checked in M1, the artefacts have the same items.
 pub fn printed_digests_settle_it()
     ensures { (bytes other_bytes : List ℕ) (said other_said : Recipe) (inputs others : List (List ℕ)) (made other : Report) (name : List ℕ) (stage : Stage)
         → recipe_of bytes ≡ Ok said → recipe_of other_bytes ≡ Ok other_said → said.digest ≡ other_said.digest
@@ -184,15 +181,14 @@ pub fn printed_digests_settle_it()
     what_is_printed_settles_it();
 }
 
-/// The first segment of an audit: `part` by STEPS steps pauses after STEPS steps and leaves the save of that position, or its outcome is
-/// that of `audit`.
+/// `part` pauses after exactly STEPS steps and leaves the save of that position, or its status, text and REPORT are those of `audit`.
 pub fn parts()
     ensures { (recipe save report : List ℕ) (steps : ℕ) (files : NamedFiles) → AreWords recipe save report files → IsStepCount steps
         → Pieces recipe save report files steps (part recipe save report steps files) }
 {}
 
-/// A further segment of an audit, on files of bytes that hold the save of the position after `count` steps. `resume` by STEPS steps pauses
-/// after STEPS more, or its outcome is that of `audit` on these files.
+/// `resume` pauses after exactly STEPS more steps and leaves the save of that position, or its status, text and REPORT are those of `audit`
+/// on these files. The files are bytes and hold the save of the position after `count` steps.
 pub fn resumes()
     ensures { (recipe save report : List ℕ) (count steps : ℕ) (files : NamedFiles) → AreWords recipe save report files → IsStepCount steps
         → LoadsBytes (plan_of (codes "audit" ∷ recipe ∷ report ∷ [])) files
@@ -219,8 +215,8 @@ pub fn unwritten_stays()
         → map.get (in_pieces recipe save report steps counts files).files report ≡ map.get files report }
 {}
 
-/// An audit on files of bytes, in any segments, has the outcome of the undivided audit, or pauses after all its steps. If it returns 0 or
-/// 3, `verify` on the files afterwards returns the same status.
+/// An audit on files of bytes, in any segments, has the status, text and REPORT of the undivided audit, or pauses after all its steps. If
+/// it returns 0 or 3, `verify` on the files afterwards returns the same status.
 pub fn pauses()
     ensures same { (recipe save report : List ℕ) (steps : ℕ) (counts : List ℕ) (files : NamedFiles) → AreWords recipe save report files
         → All IsStepCount (steps ∷ counts) → LoadsBytes (plan_of (codes "part" ∷ recipe ∷ save ∷ report ∷ decimal steps ∷ [])) files
@@ -232,17 +228,17 @@ pub fn pauses()
         ≡ (in_pieces recipe save report steps counts files).status }
 {}
 
-/// The first segment after a whole save, on files of bytes whose BASE holds the save of the position after `first` steps. `delta-start` by
-/// STEPS steps pauses after STEPS more and leaves their delta against that save, or its outcome is that of `audit` on these files.
+/// `delta-start` pauses after exactly STEPS more steps and leaves the delta against BASE, or its status, text and REPORT are those of
+/// `audit` on these files. The files are bytes, and BASE holds the save of the position after `first` steps.
 pub fn delta_starts()
     ensures { (recipe base patch report : List ℕ) (first steps : ℕ) (files : NamedFiles) → AreDeltaWords recipe base patch report files
         → IsStepCount steps → LoadsBytes (plan_of (codes "audit" ∷ recipe ∷ report ∷ [])) files → IsSavedAt recipe base files first
         → DeltaPieces recipe base patch report files first (first + steps) (delta_start recipe base patch report steps files) }
 {}
 
-/// A further segment by differences, on files of bytes whose BASE holds a save and PATCH the delta of the position after `count` steps
-/// against it. `delta-resume` by STEPS steps pauses after STEPS more and leaves their delta, or its outcome is that of `audit` on these
-/// files.
+/// `delta-resume` pauses after exactly STEPS more steps and leaves the delta against BASE, or its status, text and REPORT are those of
+/// `audit` on these files. The files are bytes, BASE holds a save, and PATCH holds the delta of the position after `count` steps against
+/// it.
 pub fn delta_resumes()
     ensures { (recipe base patch report : List ℕ) (first count steps : ℕ) (files : NamedFiles) → AreDeltaWords recipe base patch report files
         → IsStepCount steps → LoadsBytes (plan_of (codes "audit" ∷ recipe ∷ report ∷ [])) files → IsSavedRelative recipe base patch files first count
@@ -268,8 +264,8 @@ pub fn deltas_leave_unwritten()
         → LeavesUnwritten patch report files (delta_resume recipe base patch report steps files) }
 {}
 
-/// An audit by differences on files of bytes, in any segments, has the outcome of the undivided audit, or pauses after all its steps. If it
-/// returns 0 or 3, `verify` on the files afterwards returns the same status.
+/// An audit by differences on files of bytes, in any segments, has the status, text and REPORT of the undivided audit, or pauses after all
+/// its steps. If it returns 0 or 3, `verify` on the files afterwards returns the same status.
 pub fn differences()
     ensures same { (recipe base patch report : List ℕ) (steps : ℕ) (counts : List ℕ) (files : NamedFiles)
         → AreDeltaWords recipe base patch report files → All IsStepCount (steps ∷ counts)
@@ -303,8 +299,8 @@ pub fn scripts_verified()
         → (kaem_verify script list report files).text ≡ commands_true_line (length said.commands) }
 {}
 
-/// What a 0 of `kaem` and of `kaem-verify` shows: the files hold a valid script and list. For `kaem` all commands ran, and for
-/// `kaem-verify` the report is true.
+/// `kaem` returns 0 only where the files hold a valid script and list and all commands ran, and `kaem-verify` only where they hold such a
+/// script and list and the report is true.
 pub fn scripts_shown()
     ensures reported { (script list report : List ℕ) (steps : ℕ) (files : NamedFiles) → (kaem script list report steps files).status ≡ Yes
         → ScriptReported script list report (decimal steps) files (kaem script list report steps files) }
@@ -312,8 +308,8 @@ pub fn scripts_shown()
         → ScriptVerified script list report files (kaem_verify script list report files) }
 {}
 
-/// `kaem-verify` accepts a script's own report. If `kaem` on files of bytes returns 0, `kaem-verify` on the files afterwards returns 0 and
-/// prints the number of commands.
+/// `kaem-verify` accepts a script's own report: after a `kaem` on files of bytes that returns 0, it returns 0 and prints the number of
+/// commands.
 pub fn scripts_accepted()
     ensures yes { (script list report : List ℕ) (steps : ℕ) (files : NamedFiles)
         → LoadsBytes (plan_of (codes "kaem" ∷ script ∷ list ∷ report ∷ decimal steps ∷ [])) files → (kaem script list report steps files).status ≡ Yes
@@ -324,8 +320,8 @@ pub fn scripts_accepted()
         → (kaem_verify script list report (kaem script list report steps files).files).text ≡ commands_true_line (length said.commands) }
 {}
 
-/// What the commands on scripts change, whatever the files hold. `kaem` changes only REPORT, and only if it returns 0. `kaem-verify`
-/// changes nothing. `kaem-left` changes only OUT, and only if it returns 0 or 6.
+/// `kaem` changes only REPORT, and only if it returns 0; `kaem-verify` changes nothing; `kaem-left` changes only OUT, and only if it
+/// returns 0 or 6. This holds whatever the files hold.
 pub fn scripts_leave_others()
     ensures report { (script list report : List ℕ) (steps : ℕ) (files : NamedFiles) → ChangesReportAlone report files (kaem script list report steps files) }
     ensures none { (script list report : List ℕ) (files : NamedFiles) → (kaem_verify script list report files).files ≡ files }

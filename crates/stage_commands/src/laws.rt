@@ -58,8 +58,8 @@ pub fn ends_are_reported()
     ensures shown { (text : List ℕ) (limit : ℕ) → EndShows text limit (end_after text limit) }
 {}
 
-/// When `segment` returns 0, and for how many steps. If it loads bytes and returns 0, the two names hold a segment of the printed number of
-/// steps. If two names of two files hold a segment, it returns 0 and prints that number.
+/// `segment` returns 0 exactly where its two names are of two files that hold a segment, and then prints the segment's number of steps.
+/// That 0 shows a segment requires that what it loads is bytes.
 pub fn segments_are_reported()
     ensures shown { (from to : List ℕ) (files : NamedFiles) → LoadsBytes (segment_plan (from ∷ to ∷ [])) files
         → (segment_over from to files).status ≡ Yes
@@ -93,9 +93,9 @@ pub fn cuts()
         → (cut_over recipe stage every prefix files).status ≡ Yes → IsRightCut recipe stage every prefix files (cut_over recipe stage every prefix files) }
 {}
 
-/// How a cut ends, where the stage is found and starts. The status and the text follow from the first exit, trap or unknown call of its run
-/// within 1,000 times EVERY steps and its limit. The status is 14 exactly where 1,000 times EVERY is below the limit and the run is not
-/// over after as many steps.
+/// Where the stage is found and starts, the status and text of `cut` follow from the first exit, trap or unknown call within 1,000 times
+/// EVERY steps and the stage's limit. The status is 14 exactly where 1,000 times EVERY is below the limit and the run is not over after as
+/// many steps.
 pub fn cuts_end()
     ensures reported { (recipe stage every prefix : List ℕ) (files : NamedFiles) (start : CutStart recipe stage prefix files) (steps : ℕ) → as_steps every ≡ Some steps
         → IsTrue (are_stage_words recipe stage prefix)
@@ -106,9 +106,9 @@ pub fn cuts_end()
         ↔ ((first_end start.begun (1_000 * steps) ≡ None) × (1_000 * steps < start.named.steps)) }
 {}
 
-/// What `left` saves of a stage's output is the artefact, where the audit's definition (`bench`) finishes the stage. With the FILE of the
-/// output, `left RECIPE STAGE FILE OUT` returns 0, saves that artefact under OUT and changes no other name. It prints the size, the exit
-/// with 0 and the recorded step. A `left` that returns 0 has found such a stage.
+/// Where the audit's definition (`bench`) finishes a stage, `left` with the FILE of its output returns 0, saves the artefact under OUT and
+/// changes no other name. It prints the size, the exit with 0 and the recorded step. A `left` that returns 0 has found the stage and
+/// finished those before it.
 pub fn artefacts_are_left()
     ensures made { (recipe stage out : List ℕ) (files : NamedFiles) (run : LeftRun recipe stage out files) (f : Finished)
         → IsTrue (are_left_words recipe stage (output_word run.named.output) out)

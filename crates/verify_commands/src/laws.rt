@@ -18,9 +18,8 @@ ghost use Rattle.audit_rules.specs.declared.answer.AuditAnswer.TheVariants.{Comp
 
 use audit_chain::origin::laws::the_marks_settle_it;
 
-/// The lines of `provenance` below a comparison determine the artefact. If two true reports of one recipe have the same lines there, the
-/// stage has the same artefact in both, or the same items if it is checked in M1. Otherwise two different contents with one length and one
-/// digest are known.
+/// Two true reports of one recipe with the same lines of `provenance` below a comparison have the same artefact of that stage, or two
+/// different contents with one length and one digest are known. If the stage is checked in M1, the artefacts have the same items.
 pub fn what_is_printed_settles_it()
     ensures { (recipe : RecipeContents) (inputs others : List (List ℕ)) (report other : Report) (name : List ℕ) (stage : Stage)
         → IsRecipe recipe → IsInputs recipe inputs → IsInputs recipe others
@@ -31,7 +30,7 @@ pub fn what_is_printed_settles_it()
     the_marks_settle_it();
 }
 
-/// `provenance` judges as `verify` does. For the same words and files both return the same status and load the same, and no file changes.
+/// For the same words and files `provenance` and `verify` return the same status and load the same files, and no file changes.
 pub fn it_judges_as_verify()
     ensures status { (words : List (List ℕ)) (files : NamedFiles) → (outcome (provenance_plan words) files).status ≡ (outcome (verify_plan words) files).status }
     ensures files { (words : List (List ℕ)) (files : NamedFiles) → (outcome (provenance_plan words) files).files ≡ files }
