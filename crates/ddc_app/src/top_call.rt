@@ -78,7 +78,8 @@ pub fn run<M: Meaning, S: Shelf, K: Sink, P: Prompt>(
         ⊎ HoldsTalk (plan_for words.now) (outside (S.state shelf.old) (K.state out.old) (P.state prompt.old))
         (outside (S.state shelf.new) (K.state out.new) (P.state prompt.new)) (Err putting.Failed) }
 
-    // Out of memory: nothing is written, or in a session nothing after whole replies. Only the first calls of the plan were made.
+    // Out of memory: nothing is written, or in a session nothing after whole replies. The first calls of the plan were made; the last may
+    // have failed.
     ensures silent { IsOneText words.now (S.state shelf.old) → result ≡ Status.OutOfMemory → K.state out.new ≡ K.state out.old }
     ensures talk_want { result ≡ Status.OutOfMemory
         → ((K.state out.new ≡ K.state out.old) × (P.state prompt.new ≡ P.state prompt.old))

@@ -40,7 +40,7 @@ unfoldable pub command_failed_line : ℕ → CommandCause → ℕ → List ℕ
 command_failed_line number cause step =
     line (codes "run" ∷ codes "failed" ∷ decimal number ∷ command_cause_text cause ∷ step_words step)
 
--- the line of a true report, by the number of its commands; the line of a false one, by its first false part and the command of that part
+-- the line of a true report, by the number of its commands; the line of a false one, by its first false part and the place of that part
 unfoldable pub commands_true_line : ℕ → List ℕ
 commands_true_line commands = line (codes "yes" ∷ decimal commands ∷ [])
 

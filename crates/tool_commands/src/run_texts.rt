@@ -19,7 +19,7 @@ use mem_files::Files;
 use rv64_machine::Cause;
 use std::alloc::Global;
 
-/// The line of a failed run: `run failed CAUSE step N`.
+/// The line of a failed run: `failed CAUSE step N`.
 #[tactic(auto, unfolding(crate::specs::RunProgram::failed_line))]
 fn failed_text(alloc: Global, cause: &str, step: u64) -> Result<Bytes, OutOfMemory>
     ensures { IfOk result (λ text. text ≡ failed_line cause.now step) }

@@ -125,7 +125,7 @@ fn room_after(room: u64, inputs: &[Bytes]) -> u64
     left
 }
 
-/// Verifies the audit of this number. Stops with 1, 3, 4 or 5 where `verify` would not return 0.
+/// Verifies the audit of this number. Stops where `verify` would not return 0.
 fn verify_audit<S: Shelf>(
     alloc: Global,
     shelf: &mut S,
