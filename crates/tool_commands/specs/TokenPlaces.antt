@@ -1,4 +1,5 @@
--- What the place of an item is: the offset of the token from which the reader forms the item. docs/reference/command-line.md says the same for people.
+-- What the place of an item is: the offset of the token from which the reader forms the item. docs/reference/command-line.md says the same
+-- for people.
 use Rattle.std.specs.Prelude.{◌≡◌, ℕ, zero, suc, ◌+◌, ◌<◌, ◌≤◌, Option, None, Ok, List, length}
 use Rattle.hex_langs.specs.declared.items.item.Item.{Item}
 use Rattle.hex_langs.specs.declared.items.token.Dialect.{Dialect}

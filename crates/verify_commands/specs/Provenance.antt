@@ -1,5 +1,6 @@
--- What `provenance RECIPE REPORT` prints of a true report: the recipe's digest, and for each compared stage its comparison and the dependencies of its
--- artefact, by name, length and digest. The text is a function of the recipe and the report alone. docs/reference/provenance.md says the same for people.
+-- What `provenance RECIPE REPORT` prints of a true report: the recipe's digest, and for each compared stage its comparison and the
+-- dependencies of its artefact, by name, length and digest. The text is a function of the recipe and the report alone.
+-- docs/reference/provenance.md says the same for people.
 use Rattle.std.specs.Prelude.{ℕ, Option, Some, None, List, [], ◌∷◌, ◌++◌, bytes_eq, codes, decimal, flat_map, if◌then◌else◌}
 use Rattle.std.specs.List.{list_any}
 use Rattle.hex.specs.Hex.{encode_lower}
