@@ -69,8 +69,9 @@ pub fn verified<M: Meaning>()
     a_true_report_shows::<M>();
 }
 
-/// `verify` returns 0 exactly where a report has no fault and all its comparisons say equal, 3 exactly where it has no fault and a
-/// comparison differs, and 1 exactly where it has a fault. The files hold a valid recipe, a valid report and the recipe's inputs.
+/// On a valid recipe and report (`HoldsReport`), `verify` returns 0 exactly where no fault is found and all comparisons are equal, 3
+/// exactly where only a comparison differs, 1 exactly where a fault is found. The files hold the recipe, the report and the recipe's
+/// inputs.
 pub fn verdicts()
     ensures yes { (recipe report : List ℕ) (files : NamedFiles) (said : Recipe) (inputs : List (List ℕ)) (made : Report)
         → HoldsReport recipe report files said inputs made
@@ -83,8 +84,8 @@ pub fn verdicts()
         → ((verify recipe report files).status ≡ Refuted) ↔ ((one : Part × ℕ) × (first_fault said inputs made ≡ Some one)) }
 {}
 
-/// The headline: `verify` returns 0 exactly where the report is true and the artefact of each compared stage is the audited binary. The
-/// files hold a valid recipe, a valid report and the recipe's inputs. The report is true where:
+/// The headline: on a valid recipe and report (`HoldsReport`), `verify` returns 0 exactly where the report is true and the artefact of each
+/// compared stage is the audited binary. The files hold the recipe, the report and the recipe's inputs. The report is true where:
 ///
 /// - it has the digest of the recipe's file, and the name, length and digest of each input;
 /// - the line of each stage is true of its run;
@@ -107,8 +108,8 @@ pub fn compared_reports_are_true()
     no_fault_is_every_word_true();
 }
 
-/// The converse of the headline: an audit that returns 0 or 3 has written a report of which every line is true. The audit may have run
-/// undivided, in segments of any numbers of steps, or by differences from an earlier save.
+/// The converse of the headline: an audit on files of bytes that returns 0 or 3 has written a report of which every line is true. The audit
+/// may have run undivided, in segments of any numbers of steps, or by differences from an earlier save.
 pub fn audits_write_true_reports()
     ensures undivided { (recipe report : List ℕ) (files : NamedFiles) → LoadsBytes (plan_of (codes "audit" ∷ recipe ∷ report ∷ [])) files
         → IsTrue (is_compared (audit recipe report files).status)
@@ -146,8 +147,8 @@ pub fn chains_verified()
     ensures text { (list : List ℕ) (files : NamedFiles) (all : AllVerified list files) → (chain list files).text ≡ chain_text all.links }
 {}
 
-/// For a report without a fault, `provenance` returns the status of its comparisons, the recipe and the report alone determine the text,
-/// and no file changes. The files hold a valid recipe, that report and the recipe's inputs.
+/// On a valid recipe and a report without a fault (`HoldsReport`), `provenance` returns the status of the comparisons, the recipe and the
+/// report alone determine the text, and no file changes.
 pub fn a_true_report_is_told()
     ensures { (recipe report : List ℕ) (files : NamedFiles) (said : Recipe) (inputs : List (List ℕ)) (made : Report)
         → HoldsReport recipe report files said inputs made → first_fault said inputs made ≡ None
@@ -167,9 +168,9 @@ pub fn accounted<M: Meaning>()
     a_true_report_is_told();
 }
 
-/// Two audits for which `provenance` prints the same lines of a stage below its comparison have the same artefact of that stage, or two
-/// different contents with one digest are known. Both audits complete, and their recipe files are valid and have one digest. If the stage
-/// is checked in M1, the artefacts have the same items.
+/// Two completed audits of recipe files with one digest have the same artefact of a stage if `provenance` prints the same lines for it, or
+/// two different contents with one digest are known. The lines are those below the stage's comparison, and both recipe files are valid. If
+/// the stage is checked in M1, the artefacts have the same items.
 pub fn printed_digests_settle_it()
     ensures { (bytes other_bytes : List ℕ) (said other_said : Recipe) (inputs others : List (List ℕ)) (made other : Report) (name : List ℕ) (stage : Stage)
         → recipe_of bytes ≡ Ok said → recipe_of other_bytes ≡ Ok other_said → said.digest ≡ other_said.digest
@@ -181,14 +182,15 @@ pub fn printed_digests_settle_it()
     what_is_printed_settles_it();
 }
 
-/// `part` pauses after exactly STEPS steps and leaves the save of that position, or its status, text and REPORT are those of `audit`.
+/// On valid words (`AreWords`), `part` pauses after exactly STEPS steps and leaves the save of that position, or its status, text and
+/// REPORT are those of `audit`.
 pub fn parts()
     ensures { (recipe save report : List ℕ) (steps : ℕ) (files : NamedFiles) → AreWords recipe save report files → IsStepCount steps
         → Pieces recipe save report files steps (part recipe save report steps files) }
 {}
 
-/// `resume` pauses after exactly STEPS more steps and leaves the save of that position, or its status, text and REPORT are those of `audit`
-/// on these files. The files are bytes and hold the save of the position after `count` steps.
+/// On files of bytes that hold the save after `count` steps, `resume` pauses after exactly STEPS more and leaves the save of that position,
+/// or its status, text and REPORT are those of `audit`.
 pub fn resumes()
     ensures { (recipe save report : List ℕ) (count steps : ℕ) (files : NamedFiles) → AreWords recipe save report files → IsStepCount steps
         → LoadsBytes (plan_of (codes "audit" ∷ recipe ∷ report ∷ [])) files
@@ -215,8 +217,8 @@ pub fn unwritten_stays()
         → map.get (in_pieces recipe save report steps counts files).files report ≡ map.get files report }
 {}
 
-/// An audit on files of bytes, in any segments, has the status, text and REPORT of the undivided audit, or pauses after all its steps. If
-/// it returns 0 or 3, `verify` on the files afterwards returns the same status.
+/// On valid words (`AreWords`), an audit on files of bytes, in any segments, has the status, text and REPORT of the undivided audit, or
+/// pauses after all its steps. If it returns 0 or 3, `verify` on the files afterwards returns the same status.
 pub fn pauses()
     ensures same { (recipe save report : List ℕ) (steps : ℕ) (counts : List ℕ) (files : NamedFiles) → AreWords recipe save report files
         → All IsStepCount (steps ∷ counts) → LoadsBytes (plan_of (codes "part" ∷ recipe ∷ save ∷ report ∷ decimal steps ∷ [])) files
@@ -228,17 +230,16 @@ pub fn pauses()
         ≡ (in_pieces recipe save report steps counts files).status }
 {}
 
-/// `delta-start` pauses after exactly STEPS more steps and leaves the delta against BASE, or its status, text and REPORT are those of
-/// `audit` on these files. The files are bytes, and BASE holds the save of the position after `first` steps.
+/// On files of bytes whose BASE is a save, `delta-start` pauses after exactly STEPS more steps and leaves the delta against BASE, or its
+/// status, text and REPORT are those of `audit`. The save is that of the position after `first` steps.
 pub fn delta_starts()
     ensures { (recipe base patch report : List ℕ) (first steps : ℕ) (files : NamedFiles) → AreDeltaWords recipe base patch report files
         → IsStepCount steps → LoadsBytes (plan_of (codes "audit" ∷ recipe ∷ report ∷ [])) files → IsSavedAt recipe base files first
         → DeltaPieces recipe base patch report files first (first + steps) (delta_start recipe base patch report steps files) }
 {}
 
-/// `delta-resume` pauses after exactly STEPS more steps and leaves the delta against BASE, or its status, text and REPORT are those of
-/// `audit` on these files. The files are bytes, BASE holds a save, and PATCH holds the delta of the position after `count` steps against
-/// it.
+/// On files of bytes with a save BASE and its delta PATCH, `delta-resume` pauses after exactly STEPS more steps and leaves the delta
+/// against BASE, or its status, text and REPORT are those of `audit`. The delta is that of the position after `count` steps.
 pub fn delta_resumes()
     ensures { (recipe base patch report : List ℕ) (first count steps : ℕ) (files : NamedFiles) → AreDeltaWords recipe base patch report files
         → IsStepCount steps → LoadsBytes (plan_of (codes "audit" ∷ recipe ∷ report ∷ [])) files → IsSavedRelative recipe base patch files first count
@@ -264,8 +265,8 @@ pub fn deltas_leave_unwritten()
         → LeavesUnwritten patch report files (delta_resume recipe base patch report steps files) }
 {}
 
-/// An audit by differences on files of bytes, in any segments, has the status, text and REPORT of the undivided audit, or pauses after all
-/// its steps. If it returns 0 or 3, `verify` on the files afterwards returns the same status.
+/// On valid words (`AreDeltaWords`), an audit by differences on files of bytes, in any segments, has the status, text and REPORT of the
+/// undivided audit, or pauses after all its steps. If it returns 0 or 3, `verify` on the files afterwards returns the same status.
 pub fn differences()
     ensures same { (recipe base patch report : List ℕ) (steps : ℕ) (counts : List ℕ) (files : NamedFiles)
         → AreDeltaWords recipe base patch report files → All IsStepCount (steps ∷ counts)
@@ -279,16 +280,16 @@ pub fn differences()
         ≡ (in_differences recipe base patch report steps counts files).status }
 {}
 
-/// The outcome of `kaem` is that of its script's commands, run one after another on the listed files, each for at most STEPS steps. If all
-/// ran, REPORT holds their report. If one stopped the script, no file changes.
+/// On a valid script and list (`HoldsScript`), the outcome of `kaem` is that of the script's commands, run one after another on the listed
+/// files, each for at most STEPS steps. If all ran, REPORT holds their report. If one stopped the script, no file changes.
 pub fn scripts_fold()
     ensures { (script list report : List ℕ) (steps : ℕ) (files : NamedFiles) (said : ScriptContents) (listed : FilesListed)
         → HoldsScript script list report files said listed → IsStepCount steps
         → kaem script list report steps files ≡ kaem_ended report files said listed (folded steps listed.world said.commands) }
 {}
 
-/// `kaem-verify` returns 0 exactly where REPORT holds the text of what the script's commands did, on files of bytes that hold a valid
-/// script. Its text then has the number of commands.
+/// On files of bytes that hold a valid script and list (`HoldsScript`), `kaem-verify` returns 0 exactly where REPORT holds the text of what
+/// the script's commands did. Its text then has the number of commands.
 pub fn scripts_verified()
     ensures yes { (script list report : List ℕ) (steps : ℕ) (files : NamedFiles) (said : ScriptContents) (listed : FilesListed)
         → HoldsScript script list report files said listed → IsStepCount steps

@@ -58,8 +58,8 @@ pub fn ends_are_reported()
     ensures shown { (text : List ℕ) (limit : ℕ) → EndShows text limit (end_after text limit) }
 {}
 
-/// `segment` returns 0 exactly where its two names are of two files that hold a segment, and then prints the segment's number of steps.
-/// That 0 shows a segment requires that what it loads is bytes.
+/// On files of bytes, `segment` returns 0 exactly where its two names are of two files that hold a segment, and then prints the segment's
+/// number of steps.
 pub fn segments_are_reported()
     ensures shown { (from to : List ℕ) (files : NamedFiles) → LoadsBytes (segment_plan (from ∷ to ∷ [])) files
         → (segment_over from to files).status ≡ Yes
@@ -77,8 +77,8 @@ pub fn checked_pieces_are_the_run()
         → AreChecked recipe stage prefix count files → IsRunReported recipe stage prefix files (ends_over recipe stage prefix count files) }
 {}
 
-/// The texts of two valid states of one run are a segment if the latter is reached from the former by 1 to 2^48 steps. So `segment` returns
-/// 0 for any two neighbours that `cut` saved.
+/// The texts of two valid states of one run, below 2^64 steps, are a segment if the latter is reached from the former by 1 to 2^48 steps.
+/// So `segment` returns 0 for any two neighbours that `cut` saved.
 pub fn neighbours_are_pieces()
     ensures { (first last : GuestState) (steps : ℕ) → IsValid first → IsValid last → last.steps < 2 ^ 64 → 1 ≤ steps → steps ≤ 2 ^ 48
         → after first steps ≡ Some last → piece_of (second_text first) (second_text last) ≡ Ok steps }

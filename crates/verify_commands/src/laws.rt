@@ -18,8 +18,9 @@ ghost use Rattle.audit_rules.specs.declared.answer.AuditAnswer.TheVariants.{Comp
 
 use audit_chain::origin::laws::the_marks_settle_it;
 
-/// Two true reports of one recipe with the same lines of `provenance` below a comparison have the same artefact of that stage, or two
-/// different contents with one length and one digest are known. If the stage is checked in M1, the artefacts have the same items.
+/// Two completed audits of one recipe have the same artefact of a stage if `provenance` prints the same lines for it, or two different
+/// contents with one length and one digest are known. The lines are those below the stage's comparison. If the stage is checked in M1, the
+/// artefacts have the same items.
 pub fn what_is_printed_settles_it()
     ensures { (recipe : RecipeContents) (inputs others : List (List ℕ)) (report other : Report) (name : List ℕ) (stage : Stage)
         → IsRecipe recipe → IsInputs recipe inputs → IsInputs recipe others
