@@ -70,7 +70,7 @@ binary = \"bin\"
     )?)
 }
 
-/// A shelf with the recipe of a row and its files, of which this is the binary.
+/// A file store with the recipe of a row and its files, of which this is the binary.
 fn shelf_of(alloc: Global, row: &Row, binary: &[u8]) -> Result<MemShelf, OutOfMemory> {
     let mut shelf = MemShelf::new(alloc);
     shelf.set("copy.elf", decoded(alloc, COPY)?.as_slice())?;

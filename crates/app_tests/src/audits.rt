@@ -1,5 +1,5 @@
-//! Audits of one recipe over the files of a worked program, and of that recipe with one change.
-//! What they come to was written down from the rules, and the digests are those of `sha256sum`.
+//! Audits of one recipe on the files of a worked program, and of that recipe with one change. The expected answers were written down from
+//! the rules, and the digests are those of `sha256sum`.
 
 use crate::scenes::{Step, holds, over_worked, says};
 use crate::worked::{COPY, EXIT, decoded, with};
@@ -203,7 +203,7 @@ static ROWS: [Row; 23] = [
     ),
 ];
 
-/// A shelf with the recipe, changed once, and the files.
+/// A file store with the recipe, changed once, and the files.
 pub(crate) fn audit_shelf(alloc: Global, old: &str, new: &str) -> Result<MemShelf, OutOfMemory> {
     let mut shelf = MemShelf::new(alloc);
     shelf.set("exit.elf", &EXIT)?;
@@ -353,7 +353,8 @@ fn saves_under_word(rt: &impl Abort, alloc: Global, report: &str) -> Result<(), 
     saves_under(rt, alloc, &mut shelf, report)
 }
 
-/// A word of which nothing is left after `./` clashes with no other, and only leading `./` are taken off. A report is saved under its word.
+/// A word of which nothing is left after `./` names the same file as no other, and only leading `./` are removed. A report is saved under
+/// its word.
 #[test]
 fn reports_are_saved_under_their_words(rt: HostRuntime) -> Result<(), Fail> {
     for report in REPORT_WORDS {

@@ -221,7 +221,7 @@ static GOOD: [(&str, &str, &str, &str); 7] = [
     ("m1", "", "# nothing\n", "10"),
 ];
 
-/// A shelf with a recipe that is changed once, a program, a source and the file that the program is given.
+/// A file store with a recipe that is changed once, a program, a source and the file that the program is given.
 fn stage_shelf(
     alloc: Global,
     change: (&str, &str),
@@ -247,7 +247,7 @@ fn joined(alloc: Global, pieces: &[&str]) -> Result<String, OutOfMemory> {
     Ok(text)
 }
 
-/// Makes the audit on a shelf, and compares its status and its line, in a few pieces, and whether it saved a report.
+/// Makes the audit on a file store. Compares its status and its line, in a few pieces, and whether it saved a report.
 fn answers(
     rt: &impl Abort,
     alloc: Global,
@@ -363,7 +363,7 @@ fn large(alloc: Global) -> Result<Bytes, OutOfMemory> {
     Ok(data)
 }
 
-/// A shelf with the recipe of these files.
+/// A file store with the recipe of these files.
 fn large_shelf(alloc: Global) -> Result<MemShelf, OutOfMemory> {
     let files = many_files(alloc)?;
     let old = "files = [{ path = \"in\", from = \"data\" }]";

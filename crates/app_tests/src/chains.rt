@@ -1,4 +1,5 @@
-//! Audits that are composed. What `chain` comes to was written down from docs/reference/chain.md and docs/reference/command-line.md.
+//! Audits that are composed. The expected answers of `chain` were written down from docs/reference/chain.md and
+//! docs/reference/command-line.md.
 
 use crate::audits::RECIPE;
 use crate::scenes::{Step, ends, says, walk};

@@ -1,5 +1,5 @@
-//! Calls of the outside that fail in audits by differences, and the same call again.
-//! What they come to was written down from docs/reference/command-line.md.
+//! Calls of the outside that fail in audits by differences, and the same call again. The expected answers were written down from
+//! docs/reference/command-line.md.
 
 use crate::differences::{EQUAL, Piece, based, differing, pieces};
 use crate::scenes::{content, holds, saves, unheard};
@@ -19,7 +19,7 @@ static START_LOADS: [(u64, &str); 6] = [
     (11, "shelf fault b.bin\n"),
 ];
 
-/// The load of a number fails in a piece, after so many saves, and the same call again goes on.
+/// The load of a number fails in a segment, after so many saves, and the same call again continues.
 fn load_passes(
     rt: &impl Abort,
     alloc: Global,
@@ -75,7 +75,7 @@ static START_SAVES: [Piece; 2] = [
     ("delta-start", "32", Status::ShelfFault, "shelf fault r\n"),
 ];
 
-/// A failed load sets nothing, and a failed save nothing but its own name; the same call again goes on.
+/// A failed load sets nothing, and a failed save nothing but its own name; the same call again continues.
 #[test]
 fn faults_of_delta_start_are_said_and_pass(rt: HostRuntime) -> Result<(), Fail> {
     for load in START_LOADS {

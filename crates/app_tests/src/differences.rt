@@ -1,5 +1,5 @@
-//! Audits by differences from a whole save, with the worked recipe, whose two stages take 32 steps each.
-//! What they come to was written down from docs/reference/command-line.md and docs/reference/delta.md; the lengths are those of the differences that
+//! Audits by differences from a whole save, with the worked recipe, whose two stages take 32 steps each. The expected answers were written
+//! down from docs/reference/command-line.md and docs/reference/delta.md. The lengths are those of the differences that
 //! tests/saves/write_delta.py writes.
 
 use crate::audits::{REPORT, audit_shelf};
@@ -38,7 +38,7 @@ pub(crate) fn pieces(
     Ok(())
 }
 
-/// A shelf whose audit paused after 32 steps.
+/// A file store whose audit paused after 32 steps.
 pub(crate) fn based(alloc: Global) -> Result<MemShelf, OutOfMemory> {
     let mut shelf = audit_shelf(alloc, "", "")?;
     match ends(alloc, &mut shelf, &["part", "a.toml", "s", "r", "32"])? {
@@ -147,7 +147,7 @@ static PIECES: [&[Piece]; 5] = [
         ("delta-resume", "31", Status::Paused, "paused two 31\n"),
         ("delta-resume", "281474976710656", Status::Yes, EQUAL),
     ],
-    // A difference is begun anew, and goes on by what it says then.
+    // A difference is begun anew, and the audit continues from the new one.
     &[
         ("part", "32", Status::Paused, "paused two 0\n"),
         ("delta-start", "31", Status::Paused, "paused two 31\n"),
@@ -499,7 +499,7 @@ static WORDS: [&[&str]; 25] = [
     &["a.toml", "s\0", "p", "r", "1"],
     &["a.toml", "s", "p\0", "r", "1"],
     &["a.toml", "s", "p", "r\0", "1"],
-    // No two clash.
+    // No two may name the same file.
     &["a.toml", "a.toml", "p", "r", "1"],
     &["a.toml", "s", "a.toml", "r", "1"],
     &["a.toml", "s", "p", "a.toml", "1"],

@@ -1,5 +1,5 @@
-//! Files that are cut, and calls of the outside that fail, each with the same call again over what it left.
-//! What they come to was written down from docs/reference/command-line.md.
+//! Files that are cut, and calls of the outside that fail, each with the same call again on what it left. The expected answers were written
+//! down from docs/reference/command-line.md.
 
 use crate::audits::{REPORT, audit_shelf};
 use crate::scenes::holds;
@@ -17,7 +17,7 @@ const LINES: &[u8] = b"where\nwhere\n";
 /// A status and a text.
 type Answer = (Status, &'static str);
 
-/// Runs words with a prompt, and compares their status and text.
+/// Runs words with a standard input, and compares their status and text.
 fn says(
     rt: &impl Abort,
     alloc: Global,
@@ -184,7 +184,7 @@ static LOADS: [(u64, &str); 5] = [
     (5, "shelf fault b.bin\n"),
 ];
 
-/// Whether two shelves hold the same under each of these names.
+/// Whether two file stores hold the same under each of these names.
 fn are_alike(one: &MemShelf, other: &MemShelf, names: &[&str]) -> bool {
     names.iter().all(|name| one.get(name) == other.get(name))
 }
@@ -369,7 +369,7 @@ fn failed_put_passes(rt: &impl Abort, alloc: Global, call: &Call) -> Result<(), 
     passes(rt, alloc, &mut shelf, call)
 }
 
-/// The first put fails after half of its piece; the same call on the same shelf, output and input then has its good answer.
+/// The first write fails after half of its piece; the same call on the same file store, output and input then has its good answer.
 #[test]
 fn a_failed_put_passes(rt: HostRuntime) -> Result<(), Fail> {
     for call in &GOOD {

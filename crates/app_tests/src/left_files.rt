@@ -336,14 +336,14 @@ static WORDS: [Step; 1] = [Step::Usage(&[
     &["left", "a.toml", "two", "", "o"],
     &["left", "a.toml", "two", "././", "o"],
     &["left", "a.toml", "two", "o\0", "o"],
-    // OUT clashes with RECIPE
+    // OUT and RECIPE name the same file
     &["left", "a.toml", "two", "out", "a.toml"],
     &["left", "a.toml", "two", "out", "./a.toml"],
     &["left", "././a.toml", "two", "out", "a.toml"],
     &["lefts", "a.toml", "two", "out", "o"],
 ])];
 
-/// OUT clashes with an input: the recipe is loaded, and nothing more.
+/// OUT and an input name the same file: the recipe is loaded, and nothing more.
 static CLASH: [Step; 3] = [
     Step::Calls(0),
     Step::Usage(&[&["left", "a.toml", "two", "out", "./b.bin"]]),

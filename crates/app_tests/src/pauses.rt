@@ -1,5 +1,5 @@
-//! Audits in pieces: the worked recipe, whose two stages take 32 steps each, and that recipe with one change.
-//! What they come to was written down from docs/reference/command-line.md and docs/reference/save.md.
+//! Audits in segments: the worked recipe, whose two stages take 32 steps each, and that recipe with one change. The expected answers were
+//! written down from docs/reference/command-line.md and docs/reference/save.md.
 
 use crate::audits::{REPORT, audit_shelf};
 use crate::scenes::{
@@ -30,7 +30,7 @@ fn pieces(
     Ok(())
 }
 
-/// The names of a shelf that no piece changes.
+/// The names in the file store that no segment changes.
 static OTHERS: [&str; 10] = [
     "exit.elf",
     "copy.elf",
@@ -44,7 +44,7 @@ static OTHERS: [&str; 10] = [
     "a.toml",
 ];
 
-/// Whether all other files of the worked shelf stand as they were.
+/// Whether all other files of the worked file store are unchanged.
 fn others_stay(alloc: Global, shelf: &MemShelf) -> Result<bool, OutOfMemory> {
     let fresh = audit_shelf(alloc, "", "")?;
     Ok(OTHERS.iter().all(|name| shelf.get(name) == fresh.get(name)))
@@ -85,7 +85,7 @@ static PIECES: [&[Piece]; 7] = [
     ],
 ];
 
-/// Runs pieces that come to the worked report, which is then true.
+/// Runs segments that end in the worked report, which is then true.
 fn reports(
     rt: &impl Abort,
     alloc: Global,
@@ -226,7 +226,7 @@ fn pieces_come_to_what_the_audit_does(rt: HostRuntime) -> Result<(), Fail> {
     Ok(())
 }
 
-/// A shelf with the audit that paused after so many steps.
+/// A file store with the audit that paused after so many steps.
 fn paused(alloc: Global, steps: &str) -> Result<MemShelf, OutOfMemory> {
     let mut shelf = audit_shelf(alloc, "", "")?;
     match ends(alloc, &mut shelf, &["part", "a.toml", "s", "r", steps])? {
@@ -504,7 +504,7 @@ static ABSENT: [Step; 4] = [
     ),
 ];
 
-/// An input that is not there is said before a save that is none, and after a save that is not there.
+/// An absent input is answered before a save that is invalid, and after a save that is absent.
 #[test]
 fn saves_are_loaded_before_inputs(rt: HostRuntime) -> Result<(), Fail> {
     over(&rt, rt.alloc(), ("\"a.bin\"", "\"none\""), &ABSENT)?;
@@ -520,7 +520,7 @@ static PART_LOADS: [(u64, &str); 5] = [
     (5, "shelf fault b.bin\n"),
 ];
 
-/// A load of `part` fails, and the same call again goes on.
+/// A load of `part` fails, and the same call again continues.
 fn part_load_passes(
     rt: &impl Abort,
     alloc: Global,
@@ -596,7 +596,7 @@ static RESUME_LOADS: [(u64, &str); 6] = [
     (11, "shelf fault b.bin\n"),
 ];
 
-/// A load of `resume` fails, and the same call again goes on.
+/// A load of `resume` fails, and the same call again continues.
 fn resume_load_passes(
     rt: &impl Abort,
     alloc: Global,

@@ -1,5 +1,5 @@
-//! Calls of the outside that fail in runs in pieces, and the same call again.
-//! What they come to was written down from docs/reference/command-line.md.
+//! Calls of the outside that fail in runs in segments, and the same call again. The expected answers were written down from
+//! docs/reference/command-line.md.
 
 use crate::audits::audit_shelf;
 use crate::pieces::{CUT, CUT_WORDS, ENDS_WORDS, cut_shelf, says_all, states};
@@ -25,7 +25,7 @@ static CUT_SAVES: [(u64, &str); 4] = [
     (4, "shelf fault c.3\n"),
 ];
 
-/// A load of `cut` fails, and the same call again goes on.
+/// A load of `cut` fails, and the same call again continues.
 fn load_passes(
     rt: &impl Abort,
     alloc: Global,
@@ -63,7 +63,7 @@ fn stands_before(found: Option<&[u8]>, held: Option<&[u8]>, number: u64, save: u
     }
 }
 
-/// A save of `cut` fails, and the same call again goes on.
+/// A save of `cut` fails, and the same call again continues.
 fn save_passes(
     rt: &impl Abort,
     alloc: Global,

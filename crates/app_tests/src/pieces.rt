@@ -1,5 +1,5 @@
-//! Runs in pieces: the worked recipe, whose two stages take 32 steps each, and that recipe with one change.
-//! What they come to was written down from docs/reference/command-line.md, docs/reference/segments.md and docs/reference/save.md.
+//! Runs in segments: the worked recipe, whose two stages take 32 steps each, and that recipe with one change. The expected answers were
+//! written down from docs/reference/command-line.md, docs/reference/segments.md and docs/reference/save.md.
 
 use crate::audits::{RECIPE, REPORT, audit_shelf};
 use crate::scenes::{Step, alter, are_usage, ends, holds, over_worked, says, walk};
@@ -33,7 +33,7 @@ pub(crate) const CUT: &[Row] = &[(
     "cut 4 step 32\n",
 )];
 
-/// A shelf with the four states of that cut.
+/// A file store with the four states of that cut.
 pub(crate) fn cut_shelf(rt: &impl Abort, alloc: Global) -> Result<MemShelf, OutOfMemory> {
     let mut shelf = audit_shelf(alloc, "", "")?;
     says_all(rt, alloc, &mut shelf, CUT)?;
@@ -51,7 +51,7 @@ static WORKED: [Row; 9] = [
         Status::Refuted,
         "refuted segment later\n",
     ),
-    // A name that begins as an input's does is no clash.
+    // A name that begins as an input's does names another file.
     (
         &["cut", "a.toml", "two", "10", "copy"],
         Status::Yes,
@@ -396,7 +396,7 @@ static CHANGES: [Change; 6] = [
     ),
 ];
 
-/// How many states stand on the shelf.
+/// The number of states in the file store.
 pub(crate) fn states(shelf: &MemShelf) -> usize {
     ["c.0", "c.1", "c.2", "c.3", "c.4"]
         .iter()
@@ -502,7 +502,7 @@ fn cuts_endless(
     Ok(())
 }
 
-/// A shelf whose stages have this limit.
+/// A file store whose stages have this limit.
 fn limited_shelf(alloc: Global, limit: &str) -> Result<MemShelf, OutOfMemory> {
     let keys = format!(in alloc; "steps = {limit}")?;
     audit_shelf(alloc, "steps = 100000", keys.as_str())
@@ -598,7 +598,7 @@ fn prefixes_have_at_most_250_bytes(rt: HostRuntime) -> Result<(), Fail> {
     Ok(())
 }
 
-/// An input's path, a prefix, and whether a state's name clashes with it.
+/// An input's path, a prefix, and whether a state's name names the same file as the path.
 static CLASHES: [(&str, &str, bool); 8] = [
     ("c.0", "c", true),
     ("c.999", "c", true),
@@ -610,7 +610,7 @@ static CLASHES: [(&str, &str, bool); 8] = [
     ("c/../c.7", "c", false),
 ];
 
-/// A shelf with a file under this path, which is an input's.
+/// A file store with a file under this path, which is an input's.
 fn clash_shelf(alloc: Global, path: &str) -> Result<MemShelf, OutOfMemory> {
     let keys = format!(in alloc; "\"{path}\"")?;
     audit_shelf(alloc, "\"b.bin\"", keys.as_str())
@@ -657,7 +657,7 @@ static NO_STATES: [Step; 2] = [
     Step::Calls(0),
 ];
 
-/// RECIPE clashes as an input does, before anything is loaded.
+/// As an input, RECIPE must not name the same file as a state, which is answered before anything is loaded.
 #[test]
 fn the_recipe_is_no_state(rt: HostRuntime) -> Result<(), Fail> {
     let mut shelf = MemShelf::new(rt.alloc());

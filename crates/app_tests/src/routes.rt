@@ -1,5 +1,5 @@
-//! Audits and replays of recipes of format 2, which compare several stages with one binary.
-//! What they come to was written down from docs/reference/verify.md and docs/reference/argument.md.
+//! Audits and replays of recipes of format 2, which compare several stages with one binary. The expected answers were written down from
+//! docs/reference/verify.md and docs/reference/argument.md.
 
 use crate::audits::{RECIPE, REPORT, audit_shelf};
 use crate::scenes::says;
@@ -35,7 +35,7 @@ stages = ["two", "three"]"#,
     )
 }
 
-/// A shelf with that recipe, changed once, and its files.
+/// A file store with that recipe, changed once, and its files.
 fn shelf_of(alloc: Global, old: &str, new: &str) -> Result<MemShelf, OutOfMemory> {
     let mut shelf = audit_shelf(alloc, "", "")?;
     let recipe = two_routes(alloc)?;
@@ -54,14 +54,14 @@ fn comes_to(
     says(rt, alloc, shelf, &[command, "a.toml", "r"], ending)
 }
 
-/// Replaces one piece of the report on a shelf.
+/// Replaces one piece of the report in a file store.
 fn alter(alloc: Global, shelf: &mut MemShelf, old: &str, new: &str) -> Result<(), OutOfMemory> {
     let report = with(alloc, text_of(shelf, "r"), old, new)?;
     shelf.set("r", report.as_bytes())?;
     Ok(())
 }
 
-/// What a shelf holds under a name, as text.
+/// What a file store holds under a name, as text.
 fn text_of<'s>(shelf: &'s MemShelf, name: &str) -> &'s str {
     std::str::from_utf8(shelf.get(name).unwrap_or(&[])).unwrap_or("no text")
 }
@@ -122,7 +122,7 @@ static RECIPES: [Row; 7] = [
         "differs one bin 0 232 3\nequal three bin 3\n",
         "route one\nroute three\nassumes implements prog copy_src\n",
     ),
-    // `one` is not checked but made of the seed: the route of `two` goes on to it
+    // `one` is not checked but made of the seed: the route of `two` continues to it
     (
         "check = \"copy_src\"",
         "becomes = \"copy_src\"",
@@ -297,7 +297,7 @@ fn one_comparison_has_a_place(rt: HostRuntime) -> Result<(), Fail> {
     Ok(())
 }
 
-/// What stands in a recipe or a text for each of sixteen stages.
+/// What a recipe or a text has for each of sixteen stages.
 #[derive(Clone, Copy)]
 enum Part {
     Stage,

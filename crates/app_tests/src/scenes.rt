@@ -1,5 +1,5 @@
-//! What a test does with a shelf and what the shelf holds then, a step a row.
-//! A shelf's drop is proved at each exit of the function that owns it, and again in each loop: one short function owns it, and hands it on.
+//! What a test does with a file store and what the store holds then, one step in each row. A store's drop is proved at each exit of the
+//! function that owns it, and again in each loop: one short function owns it, and hands it on.
 
 use crate::audits::audit_shelf;
 use crate::worked::run;
@@ -8,7 +8,7 @@ use ddc_base::{Bytes, Call, MemShelf, MemSink, OutOfMemory};
 use std::alloc::Global;
 use std::process::Abort;
 
-/// What is done with a shelf, or asked of it.
+/// What is done with a file store, or asked of it.
 #[derive(Clone, Copy)]
 pub(crate) enum Step {
     /// Runs words, and compares their status and text.
@@ -175,7 +175,7 @@ pub(crate) fn are_calls(calls: &[Call], wanted: &[Wanted]) -> bool {
             .all(|(call, wanted)| is_call(call, *wanted))
 }
 
-/// Asks what a step says of a shelf.
+/// Asks what a step says of a file store.
 fn stands(rt: &impl Abort, shelf: &MemShelf, step: Step) {
     match step {
         Step::Holds(name, text) => assert!(rt; holds(shelf, name, text.as_bytes()), "{name}"),

@@ -1,5 +1,5 @@
-//! The words and the calls of `kaem` and `kaem-verify`: what is judged in which turn, and what the outside fails at.
-//! What they come to was written down from docs/reference/command-line.md.
+//! The words and the calls of `kaem` and `kaem-verify`: what is judged in which turn, and what the outside fails at. The expected answers
+//! were written down from docs/reference/command-line.md.
 
 use crate::scenes::{Step, saves, says, walk};
 use crate::scripts::{LIST, REPORT, SCRIPT, comes_to, shelf_of};
@@ -9,7 +9,7 @@ use std::alloc::Global;
 use std::process::Abort;
 use std::test::Fail;
 
-/// What the worked script comes to, and the replay of its report.
+/// The answer of the worked script, and of the replay of its report.
 const DONE: (Status, &str) = (Status::Yes, "done 2 steps 64\n");
 
 const TRUE: (Status, &str) = (Status::Yes, "yes 2\n");

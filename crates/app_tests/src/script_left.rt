@@ -337,14 +337,14 @@ static WORDS: [Step; 1] = [Step::Usage(&[
     &["kaem-left", "s", "l", "9", "1", "o\0", "o"],
     &["kaem-left", "s", "l", "9", "1", "o\nleft", "o"],
     &["kaem-left", "s", "l", "9", "1", "o\x7f", "o"],
-    // SCRIPT, LIST and OUT clash
+    // two of SCRIPT, LIST and OUT name the same file
     &["kaem-left", "s", "./s", "9", "1", "out", "o"],
     &["kaem-left", "s", "l", "9", "1", "out", "s"],
     &["kaem-left", "s", "l", "9", "1", "out", "././l"],
     &["kaem-lefts", "s", "l", "9", "1", "out", "o"],
 ])];
 
-/// A command that is none: the script is loaded, and nothing more. A listed OUT: the list too.
+/// A command that does not exist: the script is loaded, and nothing more. A listed OUT: the list too.
 static TURNS: [Step; 8] = [
     Step::Calls(0),
     Step::Usage(&[&["kaem-left", "s", "none", "9", "3", "out", "o"]]),

@@ -1,5 +1,5 @@
-//! Replays of a script's report, of the report with one change, and over changed files, by `kaem-verify`.
-//! What they come to was written down from docs/reference/kaem.md and docs/reference/kaem-report.md.
+//! Replays of a script's report, of the report with one change, and on changed files, by `kaem-verify`. The expected answers were written
+//! down from docs/reference/kaem.md and docs/reference/kaem-report.md.
 
 use crate::scenes::{saves, says};
 use crate::scripts::{LIST, SCRIPT, shelf_of};
@@ -76,7 +76,7 @@ fn status_of(text: &str) -> Status {
     }
 }
 
-/// Runs `kaem-verify s l r` over a shelf with this report, and compares its status and text.
+/// Runs `kaem-verify s l r` on a file store with this report, and compares its status and text.
 fn judged(
     rt: &impl Abort,
     alloc: Global,

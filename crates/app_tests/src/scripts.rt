@@ -1,4 +1,4 @@
-//! Scripts of commands, by `kaem` over listed files. What they come to was written down from docs/reference/kaem.md,
+//! Scripts of commands, by `kaem` on listed files. The expected answers were written down from docs/reference/kaem.md,
 //! docs/reference/kaem-report.md and docs/reference/command-line.md.
 
 use crate::scenes::{holds, saves, says};
@@ -48,7 +48,7 @@ fn set_program(
     shelf.set(name, program_of(alloc, code)?.as_slice())
 }
 
-/// The copier, its bytes once more as `in`, the programs, a text that is none, and a script and a list.
+/// The copier, its bytes once more as `in`, the programs, a text that is not a program, and a script and a list.
 pub(crate) fn shelf_of(alloc: Global, script: &[u8], list: &[u8]) -> Result<MemShelf, OutOfMemory> {
     let mut shelf = MemShelf::new(alloc);
     set_copier(alloc, &mut shelf)?;

@@ -27,7 +27,7 @@ const REPLIES: [&str; 5] = [
     "end exited 0 step 32\n",
 ];
 
-/// The top call with a prompt.
+/// The top call with a standard input.
 fn run(
     alloc: Global,
     words: &[&str],
@@ -47,7 +47,7 @@ fn are_pieces(found: &[Bytes], wanted: &[&str]) -> bool {
             .all(|(piece, text)| piece.as_slice() == text.as_bytes())
 }
 
-/// What a session is given and comes to: its words, its lines, which line and which put fail, its status, its replies, and what is left.
+/// A session: its words, its lines, which line and which write fail, its status, its replies, and what is left.
 #[derive(Clone, Copy)]
 struct Talk<'t> {
     words: &'t [&'t str],
@@ -59,7 +59,7 @@ struct Talk<'t> {
     left: &'t [u8],
 }
 
-/// Holds a session over a shelf.
+/// Holds a session on a file store.
 fn holds_talk(
     rt: &impl Abort,
     alloc: Global,
@@ -75,7 +75,7 @@ fn holds_talk(
     Ok(())
 }
 
-/// Compares what a session came to.
+/// Compares how a session ended.
 fn comes_to(rt: &impl Abort, talk: &Talk<'_>, status: Status, out: &MemSink, prompt: &MemPrompt) {
     assert_eq!(rt; status, talk.status);
     assert!(rt; are_pieces(out.pieces(), talk.replies), "{:?}", talk.words);
@@ -148,7 +148,7 @@ static ROWS: [Row; 9] = [
             "6f757400\n",
         ],
     ),
-    // a break is met twice, then the program ends, and the session goes on
+    // a break is met twice, then the program ends, and the session continues
     (
         "two",
         "break 100ac\ngo\ngo\ngo\nwhere\nback 31\nback 1\nbreak 0\n",
@@ -358,7 +358,7 @@ fn a_failed_put_ends_the_session(rt: HostRuntime) -> Result<(), Fail> {
     Ok(())
 }
 
-/// What a command says in one text, with a prompt that is not asked.
+/// What a command says in one text, with a standard input that is not read.
 fn says(
     rt: &impl Abort,
     alloc: Global,
@@ -660,7 +660,7 @@ fn fails_over_worked(
     fails_over(rt, alloc, &mut shelf, file, ending)
 }
 
-/// Nothing is on the shelf, and then the program alone.
+/// Nothing is in the file store, and then the program alone.
 fn fails_bare(rt: &impl Abort, alloc: Global, shelf: &mut MemShelf) -> Result<(), OutOfMemory> {
     let absent = (Status::FileRefused, "file refused copy.elf absent\n");
     says(rt, alloc, shelf, DEMO, absent)?;
@@ -668,7 +668,7 @@ fn fails_bare(rt: &impl Abort, alloc: Global, shelf: &mut MemShelf) -> Result<()
     fails_over(rt, alloc, shelf, ("copy.elf", &EXIT), absent)
 }
 
-/// Another program, or another source, stands in a demonstration's place.
+/// Another program, or another source, replaces that of a demonstration.
 #[test]
 fn demonstrations_fail(rt: HostRuntime) -> Result<(), Fail> {
     let alloc = rt.alloc();

@@ -33,7 +33,7 @@ fn altered(offset: usize, word: u32) -> [u8; 132] {
     file
 }
 
-/// A shelf with the files of the worked examples.
+/// A file store with the files of the worked examples.
 fn worked_shelf(alloc: Global) -> Result<MemShelf, OutOfMemory> {
     let mut shelf = MemShelf::new(alloc);
     shelf.set("commented", b"# a\n7F 4\n5;x")?;
@@ -60,7 +60,7 @@ fn answers(rt: &impl Abort, alloc: Global, table: &[Row]) -> Result<(), OutOfMem
     answers_on(rt, alloc, &mut shelf, table)
 }
 
-/// The same on a shelf.
+/// Runs each line of words on a file store, and compares their status and text.
 fn answers_on(
     rt: &impl Abort,
     alloc: Global,
@@ -342,7 +342,7 @@ fn is_done(done: &Result<Answer, Stop>, text: &[u8]) -> bool {
     matches!(done, Ok(answer) if answer.text.as_slice() == text)
 }
 
-/// Whether a call of the shelf failed, with this text.
+/// Whether a call of the file store failed, with this text.
 fn is_fault(done: &Result<Answer, Stop>, text: &[u8]) -> bool {
     matches!(done, Err(Stop::ShelfFault(fault)) if fault.as_slice() == text)
 }

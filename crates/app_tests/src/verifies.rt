@@ -1,5 +1,5 @@
-//! Replays of one report, of the report with one change, and over changed files.
-//! What they come to was written down from docs/reference/verify.md and docs/reference/report.md.
+//! Replays of one report, of the report with one change, and on changed files. The expected answers were written down from
+//! docs/reference/verify.md and docs/reference/report.md.
 
 use crate::audits::{REPORT, audit_shelf};
 use crate::scenes::{Step, content, ends, over_worked, says, unheard};

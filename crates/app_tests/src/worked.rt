@@ -6,7 +6,7 @@ use prompt::MemPrompt;
 use std::alloc::Global;
 use wheeler::Assembly;
 
-/// The top call with a prompt that has nothing left.
+/// The top call with a standard input that has nothing left.
 pub(crate) fn run(
     alloc: Global,
     words: &[&str],
@@ -57,7 +57,7 @@ pub(crate) fn program_of(alloc: Global, code: &str) -> Result<Bytes, OutOfMemory
     Ok(file)
 }
 
-/// A text with another in place of the first piece that is `old`. Where there is none it is no recipe.
+/// A text with another in place of the first piece that is `old`. Without such a piece the result is no recipe.
 pub(crate) fn with(alloc: Global, text: &str, old: &str, new: &str) -> Result<String, OutOfMemory> {
     match text.split_once(old) {
         Some((before, after)) => Ok(format!(in alloc; "{before}{new}{after}")?),

@@ -59,7 +59,7 @@ stage = "two"
 binary = "bin"
 "#;
 
-/// The texts of a shelf.
+/// The texts of a file store.
 static TEXTS: [(&str, &str); 4] = [
     ("copy.hex0", COPY),
     ("a.bin", "abc"),
@@ -88,7 +88,7 @@ fn fill(alloc: Global, shelf: &mut MemShelf) -> Result<(), OutOfMemory> {
     put_texts(shelf, &TEXTS)
 }
 
-/// An audit of a recipe, whose inputs a shelf has.
+/// An audit of a recipe, whose inputs a file store has.
 fn audit_of(alloc: Global, shelf: &mut MemShelf, recipe: Recipe) -> Result<Audit, OutOfMemory> {
     match fetch_inputs(alloc, shelf, &recipe) {
         Ok(inputs) => Ok(Audit::new(alloc, recipe, inputs)),
@@ -100,7 +100,7 @@ fn audit_of(alloc: Global, shelf: &mut MemShelf, recipe: Recipe) -> Result<Audit
     }
 }
 
-/// An audit of the recipe that a shelf has.
+/// An audit of the recipe that a file store has.
 fn audit_in(alloc: Global, shelf: &mut MemShelf) -> Result<Audit, OutOfMemory> {
     match fetch_recipe(alloc, shelf, &FileName::of("a.toml")) {
         Ok(recipe) => audit_of(alloc, shelf, recipe),
@@ -138,7 +138,7 @@ fn has_text(alloc: Global, audit: &Audit, text: &[u8]) -> bool {
     }
 }
 
-/// The text of the report of an audit that goes on to its end.
+/// The text of the report of an audit that continues to its end.
 fn last_text(alloc: Global, audit: &mut Audit) -> Result<Bytes, OutOfMemory> {
     audit.advance(u64::MAX);
     report_text(alloc, audit)
@@ -166,7 +166,7 @@ fn stands_after(audit: &mut Audit, steps: u64) -> bool
         && audit.report().is_some() != is_paused
 }
 
-/// Whether it stands there, and comes to an end with this report.
+/// Whether an audit is after so many steps, and then ends with this report.
 fn goes_on(alloc: Global, audit: &mut Audit, steps: u64, text: &[u8]) -> bool
     requires { 1 ≤ steps }
 {
@@ -208,7 +208,7 @@ fn is_over(alloc: Global, audit: &Audit, text: &[u8]) -> bool {
     audit.place() == (0, 0) && has_text(alloc, audit, text)
 }
 
-/// Whether an audit that is handed on comes to its end, with this report.
+/// Whether an audit that is handed on ends with this report.
 fn ends_handed_on(alloc: Global, audit: Audit, text: &[u8]) -> bool {
     match audit.advanced(64) {
         Ok(audit) => {
@@ -231,7 +231,7 @@ fn takes_last(alloc: Global, audit: Audit, steps: u64, text: &[u8]) -> bool {
     ends_handed_on(alloc, audit, text) && stands
 }
 
-/// Whether an audit that is handed on stands after so many steps where they lead, and then comes to its end with this report.
+/// Whether an audit that is handed on is, after so many steps, where they lead, and then ends with this report.
 fn takes_pieces(alloc: Global, audit: Audit, steps: u64, text: &[u8]) -> bool {
     match audit.advanced(steps) {
         Ok(audit) => takes_last(alloc, audit, steps, text),

@@ -1,4 +1,4 @@
-//! Tests of saving and resuming audits. What they come to was written down from docs/reference/save.md and audit.md.
+//! Tests of saving and resuming audits. The expected answers were written down from docs/reference/save.md and audit.md.
 
 ghost use Rattle.std.specs.Prelude.{◌↔◌, All, IsTrue};
 ghost use Rattle.mem_files.specs.Outputs.{IsContent};

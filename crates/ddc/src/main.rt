@@ -1,5 +1,5 @@
-//! The program ddc: it hands its words and the host's files, input and output to the top call, and ends with its status. The meaning of sources
-//! that it names is the one that needs no belief; the program does the same under every other.
+//! The program `ddc`: passes its arguments, the host's files, output and input to the top call, and ends with its status. The meaning of
+//! sources that it names needs no assumption; the program does the same under every other.
 #![tactic(auto)]
 
 ghost use Rattle.std.specs.Prelude.{◌≡◌, IfOk, drop, map, string_bytes};
@@ -16,7 +16,7 @@ use std::io::{self, ErrorKind, Input};
 use std::process::ExitCode;
 use wheeler::Assembly;
 
-/// All that the process was called with, the program's own name first. It is nothing where a word is not UTF-8.
+/// The process's arguments, the program's own name first; no arguments at all where one is not UTF-8. Error: out of memory.
 fn command_line(rt: &HostRuntime) -> Result<Vec<String>, OutOfMemory> {
     let mut words = Vec::new(rt.alloc());
     match env::args(rt) {
@@ -31,7 +31,7 @@ fn command_line(rt: &HostRuntime) -> Result<Vec<String>, OutOfMemory> {
     }
 }
 
-/// The words after the program's own name.
+/// The arguments after the program's own name.
 fn after_name(arguments: &[String]) -> &[String]
     ensures { result.now ≡ drop 1 arguments.now }
 {
@@ -41,7 +41,7 @@ fn after_name(arguments: &[String]) -> &[String]
     }
 }
 
-/// Words as the top call takes them.
+/// The arguments as the top call takes them.
 fn borrowed<'a>(alloc: Global, owned: &'a [String]) -> Result<Vec<&'a str>, OutOfMemory>
     ensures { IfOk result (λ words. word_bytes words.items ≡ map string_bytes owned.now) }
 {
@@ -52,7 +52,7 @@ fn borrowed<'a>(alloc: Global, owned: &'a [String]) -> Result<Vec<&'a str>, OutO
     Ok(words)
 }
 
-/// Runs the words over the host's files, standard output and standard input.
+/// Runs the arguments on the host's files, standard output and standard input.
 fn run_on_host(rt: &HostRuntime) -> Result<Status, OutOfMemory> {
     let alloc = rt.alloc();
     let owned = command_line(rt)?;
@@ -63,7 +63,7 @@ fn run_on_host(rt: &HostRuntime) -> Result<Status, OutOfMemory> {
     Ok(run::<Assembly, _, _, _>(alloc, words.as_slice(), &mut shelf, &mut out, &mut prompt))
 }
 
-/// The process's exit code at a status.
+/// The process's exit code for a status.
 fn exit_code(status: Status) -> ExitCode
     ensures { process.exit_status result ≡ exit_status status }
 {

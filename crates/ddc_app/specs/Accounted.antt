@@ -1,4 +1,5 @@
--- What an answer of `provenance RECIPE REPORT` says, whatever sources mean. docs/reference/provenance.md says the same for people.
+-- What an answer of `provenance RECIPE REPORT` shows, under every meaning of sources. docs/reference/provenance.md says the same for
+-- people.
 use Rattle.std.specs.Prelude.{◌≡◌, ◌≢◌, ℕ, List}
 use Rattle.sha2.specs.Sha256.{sha256}
 use Rattle.ddc_base.specs.Outside.{NamedFiles}
@@ -8,8 +9,8 @@ use Rattle.verify_commands.specs.Provenance.{provenance_text}
 use Rattle.ddc_app.specs.Accepting.{verify}
 use Rattle.ddc_app.specs.Verified.{Verified}
 
--- `verify` answers the same files with the same status, and shows all that it shows by itself; the text is the one that the recipe and the report
--- determine; and no file changes
+-- `verify` returns the same status on these files and shows what it shows by itself. The recipe and the report determine the text, and no
+-- file changes
 pub record Accounted (prescribes : Prescribes) (compiles : Compiles) (recipe report : List ℕ) (files : NamedFiles) (answer : Outcome) : Type 0 where
   pub verified : Verified prescribes compiles recipe report files (verify recipe report files)
   pub status : answer.status ≡ (verify recipe report files).status

@@ -1,4 +1,4 @@
--- Over which files `chain LIST` comes to a yes, by what `verify` comes to over the same files. docs/reference/chain.md says the same for people.
+-- On which files `chain LIST` returns 0, in terms of `verify` on the same files. docs/reference/chain.md says the same for people.
 use Rattle.std.specs.Prelude.{◌≡◌, ◌≢◌, ℕ, IsTrue, All, Ok, List, [], ◌∷◌}
 use Rattle.ddc_base.specs.declared.outside.Loaded.TheVariants.{Bytes}
 use Rattle.ddc_base.specs.Outside.{NamedFiles, loaded}
@@ -13,26 +13,26 @@ use Rattle.verify_commands.specs.Chain.{pair_of, room_after}
 use Rattle.ddc_app.specs.Accepting.{verify}
 use Rattle.ddc_app.specs.Holding.{AreHeld}
 
--- `verify` says yes of the recipe and the report of a line
+-- `verify` returns 0 for the recipe and the report of a line
 abbrev pub SaysYes : NamedFiles → Pair → Type 0
 SaysYes files pair = (verify pair.recipe pair.report files).status ≡ Yes
 
--- the files hold the recipe of a line, which reads, and its inputs, each of at most 268,435,456 bytes and all of at most `room` together
+-- the files hold the valid recipe of a line and its inputs, each of at most 268,435,456 bytes and all together of at most `room`
 pub record HoldsInputs (room : ℕ) (files : NamedFiles) (pair : Pair) (link : Link) : Type 0 where
   pub recipe_bytes : List ℕ
   pub recipe_held : loaded files pair.recipe 1_048_576 ≡ Bytes recipe_bytes
   pub recipe_reads : recipe_of recipe_bytes ≡ Ok link.recipe
   pub inputs_held : AreHeld 268_435_456 room files (paths link.recipe) link.inputs
 
--- the same of each line, within what those before it leave
+-- the files hold the recipe and the inputs of each line, within what the lines before it leave of `room`
 abbrev pub AllHoldInputs : ℕ → NamedFiles → List Pair → List Link → Type 0
 AllHoldInputs room files [] [] = Unit {0}
 AllHoldInputs room files (pair ∷ pairs) (link ∷ links) =
     HoldsInputs room files pair link × AllHoldInputs (room_after room link.inputs) files pairs links
 AllHoldInputs room files _ _ = ⊥
 
--- a word for a list; the files hold it, it reads and has a line; they hold the inputs of all lines, of at most 1,073,741,824 bytes together; and
--- `verify` says yes of each line
+-- a word names a list, and the files hold that list, which is valid and has a line. They hold the inputs of all lines, of at most
+-- 1,073,741,824 bytes together, and `verify` returns 0 for each line
 pub record AllVerified (list : List ℕ) (files : NamedFiles) : Type 0 where
   pub named : IsTrue (is_file_word list)
   pub list_bytes : List ℕ

@@ -1,4 +1,4 @@
--- What an answer of `chain LIST` says, whatever sources mean. docs/reference/chain.md says the same for people.
+-- What a 0 of `chain LIST` shows, under every meaning of sources. docs/reference/chain.md says the same for people.
 use Rattle.std.specs.Prelude.{◌≡◌, ℕ, ◌≤◌, true, None, Some, Ok, List, [], ◌∷◌, codes, sum_by, length}
 use Rattle.std.specs.List.{AllZip}
 use Rattle.std.specs.FinMap as map
@@ -21,12 +21,12 @@ use Rattle.verify_commands.specs.Chain.{pair_of}
 use Rattle.verify_commands.specs.ChainTexts.{chain_text}
 use Rattle.ddc_app.specs.Commands.{plan_of}
 
--- what `chain LIST` comes to over files
+-- the outcome of `chain LIST` on these files
 abbrev pub chain : List ℕ → NamedFiles → Outcome
 chain list files = outcome (plan_of (codes "chain" ∷ list ∷ [])) files
 
--- the files hold the audit of a line: a recipe, which keeps its rules, the contents of its inputs, within their limits, and a report without a
--- fault, which says that all comparisons are equal
+-- the files hold the audit of a line: a recipe that keeps its rules, the contents of its inputs, within their limits, and a report without
+-- a fault that says that all comparisons are equal
 pub record HoldsAudit (files : NamedFiles) (pair : Pair) (link : Link) : Type 0 where
   pub recipe_bytes : List ℕ
   pub recipe_held : map.get files pair.recipe ≡ Some recipe_bytes
@@ -45,8 +45,8 @@ pub record HoldsAudit (files : NamedFiles) (pair : Pair) (link : Link) : Type 0 
 abbrev pub bytes_of_inputs : List Link → ℕ
 bytes_of_inputs links = sum_by (λ (link : Link). sum_by length link.inputs) links
 
--- the files hold a list that reads and, for each of its lines, that audit, whose inputs fit together; the text says how many audits there are
--- and exactly what remains of them; and where each line that remains holds, each audit concludes
+-- The files hold a valid list and, for each of its lines, that audit. The inputs of all audits fit together. The text says how many audits
+-- there are, and exactly the assumptions that are left of them. If these assumptions hold, each audit concludes
 pub record Chained (prescribes : Prescribes) (compiles : Compiles) (list : List ℕ) (files : NamedFiles) (answer : Outcome) : Type 0 where
   pub list_bytes : List ℕ
   pub list_held : map.get files list ≡ Some list_bytes

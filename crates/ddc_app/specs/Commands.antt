@@ -26,7 +26,7 @@ use Rattle.verify_commands.specs.Verify.{provenance_plan, verify_plan}
 use Rattle.ddc_app.specs.Help.{help_plan}
 use Rattle.ddc_app.specs.Version.{version_plan}
 
--- what the other commands do that say one text
+-- the plan of the other commands that write one text
 unfoldable pub other_plan : List ℕ → List (List ℕ) → Plan
 other_plan command words =
     if bytes_eq command (codes "hex0") then hex0_plan words
@@ -46,7 +46,8 @@ other_plan command words =
     else (if bytes_eq command (codes "--version") then version_plan words
     else usage))))))))))))))
 
--- what the commands do that say one text: those on the report of an audit or of a script, and on what a script's command left; and the others
+-- the plan of a command that writes one text: a command on the report of an audit or of a script, or on what a script's command left, or
+-- one of the others
 abbrev pub text_plan : List (List ℕ) → Plan
 text_plan [] = usage
 text_plan (command ∷ words) =
@@ -64,11 +65,11 @@ text_plan (command ∷ words) =
     else (if bytes_eq command (codes "kaem-left") then kaem_left_plan words
     else other_plan command words)))))))))))
 
--- whether a command line is one of `step`, the command that may begin a session
+-- whether a command line is one of `step`, the only command that may begin a session
 abbrev pub is_step : List (List ℕ) → Bool
 is_step [] = false
 is_step (command ∷ words) = bytes_eq command (codes "step")
 
--- what a command line does
+-- the plan of a command line
 abbrev pub plan_of : List (List ℕ) → Plan
 plan_of words = if is_step words then step_plan (drop 1 words) else text_plan words

@@ -1,4 +1,5 @@
--- `help` and `help COMMAND`: the commands with their words, or what is said of one. docs/reference/command-line.md says the same for people.
+-- `help` and `help COMMAND`: lists the commands with their arguments, or prints what one does. docs/reference/command-line.md says the same
+-- for people.
 use Rattle.std.specs.Prelude.{ℕ, List, [], ◌∷◌, ◌++◌, Option, bytes_eq, codes, find, flat_map}
 use Rattle.ddc_base.specs.Lines.{line}
 use Rattle.command_plan.specs.declared.status.Status.TheVariants.{Yes}
@@ -66,7 +67,7 @@ command_name command.Demo = codes "demo"
 command_name command.Help = codes "help"
 command_name command.Version = codes "version"
 
--- its words, as they are called
+-- the word of a command and the names of its arguments
 unfoldable pub command_form : CommandWord → List ℕ
 command_form command.Hex0 = codes "hex0 SOURCE BINARY"
 command_form command.Asm = codes "asm LANG BASE SOURCE OUT"
@@ -95,7 +96,7 @@ command_form command.Demo = codes "demo N"
 command_form command.Help = codes "help [COMMAND]"
 command_form command.Version = codes "version"
 
--- what it does
+-- what a command does
 unfoldable pub command_answers : CommandWord → List ℕ
 command_answers command.Hex0 = codes "compares the hex0 value of SOURCE with BINARY, byte for byte"
 command_answers command.Asm = codes "saves under OUT the value of SOURCE in LANG (hex0, hex1, hex2) at the address BASE, of m1 the text of its items"
@@ -124,7 +125,7 @@ command_answers command.Demo = codes "makes and verifies an audit of N bytes wit
 command_answers command.Help = codes "lists the commands, or says of COMMAND what it answers, and with which statuses"
 command_answers command.Version = codes "names this release of ddc, and the logic that proves it"
 
--- the statuses that are its own
+-- a command's own statuses
 unfoldable pub command_statuses : CommandWord → List ℕ
 command_statuses command.Hex0 = codes "0 3"
 command_statuses command.Asm = codes "0 7"
@@ -153,22 +154,22 @@ command_statuses command.Demo = codes "0 3 6 7"
 command_statuses command.Help = codes "0"
 command_statuses command.Version = codes "0"
 
--- the command that a word names, if it names one
+-- the command that a word names, if there is one
 unfoldable pub command_named : List ℕ → Option CommandWord
 command_named word = find (λ command. bytes_eq (command_name command) word) all_commands
 
--- a line for each command
+-- the line of a command: its word and the names of its arguments
 abbrev pub form_line : CommandWord → List ℕ
 form_line command = line (command_form command ∷ [])
 
 abbrev pub help_text : List ℕ
 help_text = flat_map form_line all_commands
 
--- of one command its words, what it does, and its statuses
+-- the lines of a command: its arguments, what it does, and its statuses
 abbrev pub command_page : CommandWord → List ℕ
 command_page command = form_line command ++ line (command_answers command ∷ []) ++ line (codes "statuses" ∷ command_statuses command ∷ [])
 
--- the words after `help`
+-- the plan for the words after `help`
 abbrev pub help_plan : List (List ℕ) → Plan
 help_plan [] = answers Yes help_text
 help_plan (word ∷ []) = or_usage (command_named word) (λ command. answers Yes (command_page command))

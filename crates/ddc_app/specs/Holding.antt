@@ -3,7 +3,7 @@ use Rattle.std.specs.Prelude.{◌≡◌, ℕ, ◌-◌, List, [], ◌∷◌, leng
 use Rattle.ddc_base.specs.declared.outside.Loaded.TheVariants.{Bytes}
 use Rattle.ddc_base.specs.Outside.{NamedFiles, loaded}
 
--- these names have these contents, each of at most `most` bytes and all of at most `room` together
+-- these names have these contents, each of at most `most` bytes and all together of at most `room`
 abbrev pub AreHeld : ℕ → ℕ → NamedFiles → List (List ℕ) → List (List ℕ) → Type 0
 AreHeld most room files [] [] = Unit {0}
 AreHeld most room files (name ∷ names) (content ∷ contents) =

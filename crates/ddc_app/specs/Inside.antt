@@ -1,2 +1,2 @@
--- What serves the split of the code. No promise rests on this file being read.
+-- Definitions that serve the split of the code. No promise depends on them.
 pub mod Concluding

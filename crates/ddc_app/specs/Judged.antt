@@ -1,4 +1,4 @@
--- What `verify RECIPE REPORT` comes to where its files hold what it judges. docs/reference/verify.md says the same for people.
+-- Files on which `verify RECIPE REPORT` judges a report. docs/reference/verify.md says the same for people.
 use Rattle.std.specs.Prelude.{◌≡◌, ℕ, IsTrue, false, Ok, List}
 use Rattle.ddc_base.specs.declared.outside.Loaded.TheVariants.{Bytes}
 use Rattle.ddc_base.specs.Outside.{NamedFiles, loaded}
@@ -10,8 +10,8 @@ use Rattle.command_plan.specs.Words.{are_two_files}
 use Rattle.recipe_plan.specs.Recipes.{is_input, paths}
 use Rattle.ddc_app.specs.Holding.{AreHeld}
 
--- two words for two files. The files hold a recipe that reads, of which the report is no input, a report that reads, and the contents of the
--- recipe's inputs, within their limits; this is what they say
+-- Two words name two files. The files hold a valid recipe, whose inputs do not include the report, a valid report, and the contents of the
+-- recipe's inputs, within their limits; `said`, `inputs` and `made` are these contents
 pub record HoldsReport (recipe report : List ℕ) (files : NamedFiles) (said : RecipeContents) (inputs : List (List ℕ)) (made : Report) : Type 0 where
   pub two : IsTrue (are_two_files recipe report)
   pub recipe_bytes : List ℕ

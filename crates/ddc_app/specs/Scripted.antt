@@ -1,4 +1,4 @@
--- What `kaem SCRIPT LIST REPORT STEPS` and `kaem-verify SCRIPT LIST REPORT` come to. docs/reference/kaem.md says the same for people.
+-- The outcomes of `kaem SCRIPT LIST REPORT STEPS` and `kaem-verify SCRIPT LIST REPORT`. docs/reference/kaem.md says the same for people.
 use Rattle.std.specs.Prelude.{◌≡◌, ◌≢◌, ℕ, ◌^◌, IsTrue, false, Some, Ok, List, [], ◌∷◌, codes, decimal, length}
 use Rattle.std.specs.List.{list_any}
 use Rattle.std.specs.FinMap as map
@@ -20,21 +20,21 @@ use Rattle.tool_commands.specs.ScriptTexts.{command_failed_line, commands_true_l
 use Rattle.ddc_app.specs.Commands.{plan_of}
 use Rattle.ddc_app.specs.Holding.{AreHeld}
 
--- what both commands come to over files
+-- the outcomes of `kaem` and `kaem-verify` on these files
 abbrev pub kaem : List ℕ → List ℕ → List ℕ → ℕ → NamedFiles → Outcome
 kaem script list report most files = outcome (plan_of (codes "kaem" ∷ script ∷ list ∷ report ∷ decimal most ∷ [])) files
 
 abbrev pub kaem_verify : List ℕ → List ℕ → List ℕ → NamedFiles → Outcome
 kaem_verify script list report files = outcome (plan_of (codes "kaem-verify" ∷ script ∷ list ∷ report ∷ [])) files
 
--- and `kaem-left`, of any words
+-- the outcome of `kaem-left` on these files, for any words
 abbrev pub kaem_left : List ℕ → List ℕ → List ℕ → List ℕ → List ℕ → List ℕ → NamedFiles → Outcome
 kaem_left script list steps command file out files = outcome (plan_of (codes "kaem-left" ∷ script ∷ list ∷ steps ∷ command ∷ file ∷ out ∷ [])) files
 
--- ---- what is asked of words and files
+-- ---- the conditions on words and files
 
--- three words for three files. The files hold a script that reads, a list that reads, none of whose words stands for the report's file, and
--- the contents of these words, within their limits; this is what the script says, and these are the listed files
+-- Three words name three files. The files hold a valid script, and a valid list none of whose words names the report's file. They hold the
+-- contents of these words, within their limits. `said` is the script, and `listed` are the listed files
 pub record HoldsScript (script list report : List ℕ) (files : NamedFiles) (said : ScriptContents) (listed : FilesListed) : Type 0 where
   pub three : IsTrue (are_three_files script list report)
   pub script_bytes : List ℕ
@@ -49,9 +49,9 @@ pub record HoldsScript (script list report : List ℕ) (files : NamedFiles) (sai
   pub contents_held : AreHeld 268_435_456 536_870_912 files words contents
   pub listed_are : listed ≡ and_files no_files words contents
 
--- ---- what they come to
+-- ---- the outcomes
 
--- `kaem` by how its commands end: all ran, and the report is held; or one stopped the script, and nothing is changed
+-- the outcome of `kaem`, by how its commands ended: all ran and REPORT holds their report, or one stopped the script and no file changes
 abbrev pub kaem_ended : List ℕ → NamedFiles → ScriptContents → FilesListed → Folded → Outcome
 kaem_ended report files said listed (RanAll ran world) = record {
   status = Yes;
@@ -61,15 +61,16 @@ kaem_ended report files said listed (RanAll ran world) = record {
 kaem_ended report files said listed (Stopped number cause step) =
     record { status = RunFailed; text = command_failed_line number cause step; files = files }
 
--- what is held as the report is exactly the text of what these commands come to: each exits with 0 at its recorded step, which is the first end
--- and at most 2^48, and leaves the recorded streams, and the last one leaves the recorded files
+-- REPORT holds exactly the text of what these commands did. Each exits with 0 at its recorded step, at most 2^48, and leaves the recorded
+-- streams. The last one leaves the recorded files
 pub record IsScriptTrue (report : List ℕ) (files : NamedFiles) (said : ScriptContents) (listed : FilesListed) : Type 0 where
   pub ran : List Ran
   pub world : World
   pub all_ran : folded (2 ^ 48) listed.world said.commands ≡ RanAll ran world
   pub held : map.get files report ≡ Some (script_report_text (script_report said listed ran world))
 
--- what a yes of `kaem-verify` shows: the files hold such a script and such a list, and the report is true of them; the text says how many commands ran
+-- what a 0 of `kaem-verify` shows: the files hold a valid script and a valid list, and the report is true of them; the text says how many
+-- commands ran
 pub record ScriptVerified (script list report : List ℕ) (files : NamedFiles) (answer : Outcome) : Type 0 where
   pub said : ScriptContents
   pub listed : FilesListed
@@ -77,7 +78,7 @@ pub record ScriptVerified (script list report : List ℕ) (files : NamedFiles) (
   pub is_true : IsScriptTrue report files said listed
   pub text : answer.text ≡ commands_true_line (length said.commands)
 
--- what a yes of `kaem` shows: the files hold such a script and such a list, and all commands ran, each within the steps that the word says
+-- what a 0 of `kaem` shows: the files hold a valid script and a valid list, and all commands ran, each for at most STEPS steps
 pub record ScriptReported (script list report steps : List ℕ) (files : NamedFiles) (answer : Outcome) : Type 0 where
   pub most : ℕ
   pub counted : as_steps steps ≡ Some most
@@ -89,12 +90,12 @@ pub record ScriptReported (script list report steps : List ℕ) (files : NamedFi
   pub all_ran : folded most listed.world said.commands ≡ RanAll ran world
   pub answer_is : answer ≡ kaem_ended report files said listed (RanAll ran world)
 
--- a command leaves every name as it was but the report's, and that too unless it comes to a yes
+-- a command changes no name except REPORT, and REPORT only if it returns 0
 pub record ChangesReportAlone (report : List ℕ) (files : NamedFiles) (answer : Outcome) : Type 0 where
   pub others : (name : List ℕ) → name ≢ report → map.get answer.files name ≡ map.get files name
   pub unless_yes : answer.status ≢ Yes → answer.files ≡ files
 
--- `kaem-left` leaves every name as it was but OUT, and that too unless it comes to a yes, or to a run that failed
+-- `kaem-left` changes no name except OUT, and OUT only if it returns 0 or 6
 pub record ChangesOutAlone (out : List ℕ) (files : NamedFiles) (answer : Outcome) : Type 0 where
   pub others : (name : List ℕ) → name ≢ out → map.get answer.files name ≡ map.get files name
   pub unless_left : answer.status ≢ Yes → answer.status ≢ RunFailed → answer.files ≡ files

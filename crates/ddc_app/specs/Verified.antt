@@ -1,4 +1,4 @@
--- What an answer of `verify RECIPE REPORT` says, whatever sources mean. docs/reference/argument.md says the same for people.
+-- What an answer of `verify RECIPE REPORT` shows, under every meaning of sources. docs/reference/argument.md says the same for people.
 use Rattle.std.specs.Prelude.{◌≡◌, ℕ, None, Some, Ok, List, All}
 use Rattle.std.specs.List.{AllZip}
 use Rattle.std.specs.FinMap as map
@@ -27,9 +27,9 @@ ShownBy prescribes compiles said inputs lines Yes = ConcludesYes prescribes comp
 ShownBy prescribes compiles said inputs lines Differs = Concludes prescribes compiles said inputs lines
 ShownBy prescribes compiles said inputs lines _ = Unit {0}
 
--- the files hold a recipe, which keeps its rules and has its compared stages, the contents of its inputs, within their limits, and a report
--- without a fault; the text is the report's comparisons with exactly the lines of what is assumed, in format 2 under each route; and the
--- status shows the conclusions that belong to the comparisons
+-- The files hold a recipe that keeps its rules and has its compared stages, the contents of its inputs, within their limits, and a report
+-- without a fault. The text has the report's comparisons and exactly the lines of its assumptions, in format 2 under each route. The status
+-- shows the conclusions that belong to the comparisons
 pub record Verified (prescribes : Prescribes) (compiles : Compiles) (recipe report : List ℕ) (files : NamedFiles) (answer : Outcome) : Type 0 where
   pub recipe_bytes : List ℕ
   pub recipe_held : map.get files recipe ≡ Some recipe_bytes

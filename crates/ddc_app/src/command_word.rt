@@ -1,9 +1,9 @@
-//! The commands by the words that name them, and what is said of each.
+//! The commands by the words that name them, and what `help` prints of each.
 
 ghost use Rattle.std.specs.Prelude.{◌≡◌, bytes_eq, find, option_map};
 ghost use Rattle.ddc_app.specs.Help.{all_commands, command_answers, command_form, command_name, command_named, command_statuses};
 
-/// A command of the program, in the order in which they are listed.
+/// A command of the program. The variants are in the order in which `help` lists them.
 #[derive(Clone, Copy, PartialEq, Eq)]
 pub enum CommandWord {
     Hex0,
@@ -34,7 +34,7 @@ pub enum CommandWord {
     Version,
 }
 
-/// All commands, in order.
+/// All commands, in the order of `help`.
 static COMMANDS: [CommandWord; 26] = [
     CommandWord::Hex0,
     CommandWord::Asm,
@@ -65,7 +65,7 @@ static COMMANDS: [CommandWord; 26] = [
 ];
 
 impl CommandWord {
-    /// All of them, in order.
+    /// All commands, in the order of `help`.
     #[tactic(auto, unfolding(crate::specs::Help::all_commands))]
     pub fn all() -> &'static [CommandWord; 26]
         ensures { result.now ≡ all_commands }
@@ -73,7 +73,7 @@ impl CommandWord {
         &COMMANDS
     }
 
-    /// The command that a word names, and `None` for every other word.
+    /// The command that a word names; `None` where it names no command.
     #[tactic(auto, unfolding(crate::specs::Help::command_named))]
     pub fn named(word: &str) -> Option<CommandWord>
         ensures { result ≡ command_named word.now }
@@ -84,7 +84,7 @@ impl CommandWord {
         }
     }
 
-    /// The word that names it.
+    /// The word that names the command.
     #[tactic(auto, unfolding(crate::specs::Help::command_name))]
     pub fn name(self) -> &'static str
         ensures { result.now ≡ command_name self }
@@ -119,7 +119,7 @@ impl CommandWord {
         }
     }
 
-    /// Its words, as they are called.
+    /// The command's word and the names of its arguments.
     #[tactic(auto, unfolding(crate::specs::Help::command_form))]
     pub fn form(self) -> &'static str
         ensures { result.now ≡ command_form self }
@@ -154,7 +154,7 @@ impl CommandWord {
         }
     }
 
-    /// What it does.
+    /// What the command does, as `help` prints it.
     #[tactic(auto, unfolding(crate::specs::Help::command_answers))]
     pub fn answers(self) -> &'static str
         ensures { result.now ≡ command_answers self }
@@ -203,7 +203,7 @@ impl CommandWord {
         }
     }
 
-    /// The statuses that are its own.
+    /// The command's own statuses, as `help` prints them.
     #[tactic(auto, unfolding(crate::specs::Help::command_statuses))]
     pub fn statuses(self) -> &'static str
         ensures { result.now ≡ command_statuses self }
@@ -239,7 +239,7 @@ impl CommandWord {
     }
 }
 
-/// The one of these commands that a word names.
+/// The first of these commands that a word names; `None` where it names none of them.
 fn named_in<'c>(commands: &'c [CommandWord], word: &str) -> Option<&'c CommandWord>
     ensures { option_map (λ x. x.now) result ≡ find (λ command. bytes_eq (command_name command) word.now) commands.now }
 {

@@ -1,4 +1,4 @@
-//! `help [COMMAND]`: the commands with their words, or what is said of one.
+//! `help [COMMAND]`: lists the commands with their arguments, or prints what one does.
 
 ghost use Rattle.std.specs.Prelude.{◌≡◌, ◌++◌, ◌∷◌, [], IfOk, OnOk, flat_map, map};
 ghost use Rattle.ddc_base.specs.Lines.{line};
@@ -13,7 +13,7 @@ use command_plan::{Answer, Status, Stop, usage};
 use ddc_base::{Bytes, OutOfMemory};
 use std::alloc::Global;
 
-/// Performs the command on the words after its name.
+/// `help [COMMAND]`: lists the commands, or prints what COMMAND does. Statuses 0, 2, 13.
 pub fn perform(alloc: Global, words: &[&str]) -> Result<Answer, Stop>
     ensures { Says (help_plan (map (λ w. w.now) words.now)) result }
 {
@@ -34,7 +34,7 @@ fn help(alloc: Global) -> Result<Answer, Stop>
     })
 }
 
-/// The command on a word.
+/// The answer on a word: what the command of that name does, or a usage answer.
 fn on_word(alloc: Global, word: &str) -> Result<Answer, Stop>
     ensures { Says (or_usage (command_named word.now) (λ command. answers Yes (command_page command))) result }
 {
@@ -44,7 +44,7 @@ fn on_word(alloc: Global, word: &str) -> Result<Answer, Stop>
     }
 }
 
-/// The answer that says what a command does.
+/// The answer that prints what a command does.
 fn page(alloc: Global, command: CommandWord) -> Result<Answer, Stop>
     ensures { Says (answers Yes (command_page command)) result }
 {
@@ -54,7 +54,7 @@ fn page(alloc: Global, command: CommandWord) -> Result<Answer, Stop>
     })
 }
 
-/// A line for each command.
+/// The lines of all commands, one each.
 fn list(alloc: Global) -> Result<Bytes, OutOfMemory>
     ensures { IfOk result (λ text. text ≡ help_text) }
 {
@@ -63,7 +63,7 @@ fn list(alloc: Global) -> Result<Bytes, OutOfMemory>
     Ok(text)
 }
 
-/// Adds a line for each of these commands.
+/// Appends a line for each of these commands.
 fn put_forms(text: &mut Bytes, commands: &[CommandWord]) -> Result<(), OutOfMemory>
     ensures { OnOk result (text.new ≡ text.old ++ flat_map form_line commands.now) }
 {
@@ -73,7 +73,7 @@ fn put_forms(text: &mut Bytes, commands: &[CommandWord]) -> Result<(), OutOfMemo
     Ok(())
 }
 
-/// What is said of a command.
+/// The lines of a command: its arguments, what it does, and its statuses.
 #[tactic(auto, using(crate::proofs::Written::written))]
 fn text_of(alloc: Global, command: CommandWord) -> Result<Bytes, OutOfMemory>
     ensures { IfOk result (λ text. text ≡ command_page command) }
@@ -86,7 +86,7 @@ fn text_of(alloc: Global, command: CommandWord) -> Result<Bytes, OutOfMemory>
     Ok(text)
 }
 
-/// Adds a line.
+/// Appends a line of these words.
 #[tactic(auto, using(crate::proofs::Written::written))]
 fn put_line(text: &mut Bytes, words: &str) -> Result<(), OutOfMemory>
     ensures { OnOk result (text.new ≡ text.old ++ line (words.now ∷ [])) }

@@ -1,6 +1,7 @@
-//! Laws of what commands come to. Each law is the contract of a function that does nothing.
+//! Laws about the outcomes of commands. Each law is the contract of a function that does nothing.
 //!
-//! Where a law asks that what a command loads is bytes (`LoadsBytes` of its plan), a call of `run` with the command's words says so: its clause `calls`.
+//! A law on files of bytes requires that what a command loads is bytes (`LoadsBytes` of its plan). Clause `calls` of `run` shows that for a
+//! call with the command's words.
 
 ghost use Rattle.ddc_app.specs.Accepting.{audit, is_compared, provenance, verify};
 ghost use Rattle.ddc_app.specs.Accounted.{Accounted, DigestCollision};
@@ -50,17 +51,16 @@ use verifier::laws::{a_yes_in_its_own_words, no_fault_is_every_word_true};
 use verify_commands::laws::{it_judges_as_verify, what_is_printed_settles_it};
 use wheeler::Meaning;
 
-/// An audit's own report is accepted: where `audit RECIPE REPORT` over files, of which those that it loads are found to be bytes, comes to 0 or 3,
-/// `verify RECIPE REPORT` over the files afterwards comes to the same.
+/// `verify` accepts an audit's own report: after an `audit RECIPE REPORT` on files of bytes that returns 0 or 3, `verify RECIPE REPORT`
+/// returns the same status.
 pub fn accepted()
     ensures { (recipe report : List ℕ) (files : NamedFiles) → LoadsBytes (plan_of (codes "audit" ∷ recipe ∷ report ∷ [])) files
         → IsTrue (is_compared (audit recipe report files).status)
         → (verify recipe report (audit recipe report files).files).status ≡ (audit recipe report files).status }
 {}
 
-/// Wheeler's argument on the answer of `verify`, whatever sources mean: where `verify RECIPE REPORT` over files, of which those that it loads are
-/// found to be bytes, comes to 0 or 3, the report is true, the text ends in exactly the lines of what is assumed, and the status shows the
-/// conclusion that belongs to it.
+/// If `verify RECIPE REPORT` on files of bytes returns 0 or 3, the report is true, and Wheeler's argument holds under every meaning of
+/// sources. The text ends in exactly the lines of its assumptions, and the status shows the conclusion that belongs to it.
 pub fn verified<M: Meaning>()
     ensures { (recipe report : List ℕ) (files : NamedFiles) → LoadsBytes (plan_of (codes "verify" ∷ recipe ∷ report ∷ [])) files
         → IsTrue (is_compared (verify recipe report files).status)
@@ -69,8 +69,9 @@ pub fn verified<M: Meaning>()
     a_true_report_shows::<M>();
 }
 
-/// `verify` both ways, over files that hold a recipe and a report that read, and the recipe's inputs: it comes to 0 exactly where the report has no
-/// fault and all its comparisons say equal, to 3 exactly where it has none and a comparison says that it differs, and is refuted exactly where it has one.
+/// On a valid recipe and report (`HoldsReport`), `verify` returns 0 exactly where no fault is found and all comparisons are equal, 3
+/// exactly where only a comparison differs, 1 exactly where a fault is found. The files hold the recipe, the report and the recipe's
+/// inputs.
 pub fn verdicts()
     ensures yes { (recipe report : List ℕ) (files : NamedFiles) (said : Recipe) (inputs : List (List ℕ)) (made : Report)
         → HoldsReport recipe report files said inputs made
@@ -83,9 +84,12 @@ pub fn verdicts()
         → ((verify recipe report files).status ≡ Refuted) ↔ ((one : Part × ℕ) × (first_fault said inputs made ≡ Some one)) }
 {}
 
-/// The headline: over files that hold a recipe and a report that read, and the recipe's inputs, `verify` returns 0 exactly where the report has the digest
-/// of the recipe's file and the name, length and digest of each input, the line of each stage is true of its run, each checked artefact is what its source
-/// stands for, and the artefact of each compared stage is the audited binary.
+/// The headline: on a valid recipe and report (`HoldsReport`), `verify` returns 0 exactly where the report is true and the artefact of each
+/// compared stage is the audited binary. The files hold the recipe, the report and the recipe's inputs. The report is true where:
+///
+/// - it has the digest of the recipe's file, and the name, length and digest of each input;
+/// - the line of each stage is true of its run;
+/// - each checked artefact is what its source denotes.
 pub fn the_headline()
     ensures { (recipe report : List ℕ) (files : NamedFiles) (said : Recipe) (inputs : List (List ℕ)) (made : Report)
         → (held : HoldsReport recipe report files said inputs made)
@@ -96,7 +100,7 @@ pub fn the_headline()
     verdicts();
 }
 
-/// Over any files, where `verify RECIPE REPORT` returns 0 or 3, every line of the report is true, clause by clause.
+/// On any files, if `verify RECIPE REPORT` returns 0 or 3, every line of the report is true, clause by clause.
 pub fn compared_reports_are_true()
     ensures { (recipe report : List ℕ) (files : NamedFiles) → IsTrue (is_compared (verify recipe report files).status)
         → HoldsTrueReport recipe report files }
@@ -104,8 +108,8 @@ pub fn compared_reports_are_true()
     no_fault_is_every_word_true();
 }
 
-/// The converse of the headline: an audit that returns 0 or 3 has written a report of which every line is true. It may have run undivided, in pieces of any
-/// number of steps, or by differences from an earlier save.
+/// The converse of the headline: an audit on files of bytes that returns 0 or 3 has written a report of which every line is true. The audit
+/// may have run undivided, in segments of any numbers of steps, or by differences from an earlier save.
 pub fn audits_write_true_reports()
     ensures undivided { (recipe report : List ℕ) (files : NamedFiles) → LoadsBytes (plan_of (codes "audit" ∷ recipe ∷ report ∷ [])) files
         → IsTrue (is_compared (audit recipe report files).status)
@@ -126,10 +130,9 @@ pub fn audits_write_true_reports()
     compared_reports_are_true();
 }
 
-/// Composed audits, on the answer of `chain`, whatever sources mean: where `chain LIST` over files, of which those that it loads are found to be
-/// bytes, comes to 0, each line of the list is a true audit whose comparisons are equal, and the text has exactly what remains of all of them.
-/// Where each of these lines holds, every line that is assumed of every audit does, every stage follows, and each audited binary implements the
-/// source of each compared stage that has one.
+/// If `chain LIST` on files of bytes returns 0, each line is a true audit whose comparisons are equal, and the text has exactly the
+/// assumptions that are left of all audits. Under every meaning of sources, if these assumptions hold, every assumption of every audit
+/// holds, and so does the conclusion of every stage. Each audited binary then implements the source of each compared stage that has one.
 pub fn chained<M: Meaning>()
     ensures { (list : List ℕ) (files : NamedFiles) → LoadsBytes (plan_of (codes "chain" ∷ list ∷ [])) files → (chain list files).status ≡ Yes
         → Chained M.prescribes M.compiles list files (chain list files) }
@@ -137,15 +140,15 @@ pub fn chained<M: Meaning>()
     composed::<M>();
 }
 
-/// `chain` by `verify` over the same files: it comes to 0 exactly where LIST reads and has a line, the inputs of all lines are held within what is left
-/// for them, and `verify` comes to 0 on each line. Its text is then that of these audits.
+/// `chain` returns 0 exactly where LIST is valid and has a line, the inputs of all lines fit the limit that they share, and `verify`
+/// returns 0 for each line. Its text is then that of these audits.
 pub fn chains_verified()
     ensures yes { (list : List ℕ) (files : NamedFiles) → ((chain list files).status ≡ Yes) ↔ AllVerified list files }
     ensures text { (list : List ℕ) (files : NamedFiles) (all : AllVerified list files) → (chain list files).text ≡ chain_text all.links }
 {}
 
-/// What `provenance` answers: over files that hold a recipe and a report that read, and the recipe's inputs, where the report has no fault, it returns the
-/// status of the comparisons, its text is determined by the recipe and the report alone, and no file changes.
+/// On a valid recipe and a report without a fault (`HoldsReport`), `provenance` returns the status of the comparisons, the recipe and the
+/// report alone determine the text, and no file changes.
 pub fn a_true_report_is_told()
     ensures { (recipe report : List ℕ) (files : NamedFiles) (said : Recipe) (inputs : List (List ℕ)) (made : Report)
         → HoldsReport recipe report files said inputs made → first_fault said inputs made ≡ None
@@ -153,8 +156,8 @@ pub fn a_true_report_is_told()
         ≡ record { status = compared_status made.compare; text = provenance_text said made; files = files } }
 {}
 
-/// What an answer of `provenance` shows, whatever sources mean: where `provenance RECIPE REPORT` over files, of which those that it loads are found to be
-/// bytes, returns 0 or 3, `verify` returns the same and shows what `verified` says, the text is determined by the recipe and the report, and no file changes.
+/// If `provenance RECIPE REPORT` on files of bytes returns 0 or 3, `verify` returns the same status and shows what `verified` says, under
+/// every meaning of sources. The recipe and the report determine the text, and no file changes.
 pub fn accounted<M: Meaning>()
     ensures { (recipe report : List ℕ) (files : NamedFiles) → LoadsBytes (plan_of (codes "provenance" ∷ recipe ∷ report ∷ [])) files
         → IsTrue (is_compared (provenance recipe report files).status)
@@ -165,9 +168,9 @@ pub fn accounted<M: Meaning>()
     a_true_report_is_told();
 }
 
-/// For a reader of digests: two recipe files that read and have one digest, with audits that complete, and of a stage the same lines of `provenance` below its
-/// comparison. The artefact of the stage is then the same in both, of a stage that is checked in M1 it has the same items, or two different contents with
-/// one digest are at hand.
+/// Two completed audits of recipe files with one digest have the same artefact of a stage if `provenance` prints the same lines for it, or
+/// two different contents with one digest are known. The lines are those below the stage's comparison, and both recipe files are valid. If
+/// the stage is checked in M1, the artefacts have the same items.
 pub fn printed_digests_settle_it()
     ensures { (bytes other_bytes : List ℕ) (said other_said : Recipe) (inputs others : List (List ℕ)) (made other : Report) (name : List ℕ) (stage : Stage)
         → recipe_of bytes ≡ Ok said → recipe_of other_bytes ≡ Ok other_said → said.digest ≡ other_said.digest
@@ -179,15 +182,15 @@ pub fn printed_digests_settle_it()
     what_is_printed_settles_it();
 }
 
-/// A piece of an audit: `part` by some steps over files pauses after as many and leaves the save of that position, or it comes to the same
-/// as `audit`.
+/// On valid words (`AreWords`), `part` pauses after exactly STEPS steps and leaves the save of that position, or its status, text and
+/// REPORT are those of `audit`.
 pub fn parts()
     ensures { (recipe save report : List ℕ) (steps : ℕ) (files : NamedFiles) → AreWords recipe save report files → IsStepCount steps
         → Pieces recipe save report files steps (part recipe save report steps files) }
 {}
 
-/// A further piece: over files that hold the save of the position after `count` steps, and of which those that `audit` loads are bytes, `resume` by
-/// some steps pauses after as many more, or it comes to the same as `audit` over these files.
+/// On files of bytes that hold the save after `count` steps, `resume` pauses after exactly STEPS more and leaves the save of that position,
+/// or its status, text and REPORT are those of `audit`.
 pub fn resumes()
     ensures { (recipe save report : List ℕ) (count steps : ℕ) (files : NamedFiles) → AreWords recipe save report files → IsStepCount steps
         → LoadsBytes (plan_of (codes "audit" ∷ recipe ∷ report ∷ [])) files
@@ -195,7 +198,7 @@ pub fn resumes()
         → Pieces recipe save report files (count + steps) (resume recipe save report steps files) }
 {}
 
-/// Neither `part` nor `resume` changes a name but SAVE and REPORT, whatever the files hold, and so no audit in pieces does.
+/// Neither `part` nor `resume`, nor an audit in segments, changes a name other than SAVE and REPORT, whatever the files hold.
 pub fn others_stay()
     ensures part { (recipe save report : List ℕ) (steps : ℕ) (files : NamedFiles) → LeavesOthers save report files (part recipe save report steps files) }
     ensures resume { (recipe save report : List ℕ) (steps : ℕ) (files : NamedFiles) → LeavesOthers save report files (resume recipe save report steps files) }
@@ -203,8 +206,8 @@ pub fn others_stay()
         → LeavesOthers save report files (in_pieces recipe save report steps counts files) }
 {}
 
-/// Of SAVE and REPORT the one that a piece does not write is as before, whatever the files hold: REPORT where it pauses, and so as long as an
-/// audit in pieces pauses, and SAVE where the audit is over.
+/// A segment leaves REPORT unchanged if it pauses, and SAVE if it does not, whatever the files hold. So REPORT is unchanged as long as an
+/// audit in segments pauses.
 pub fn unwritten_stays()
     ensures part { (recipe save report : List ℕ) (steps : ℕ) (files : NamedFiles) → LeavesUnwritten save report files (part recipe save report steps files) }
     ensures resume { (recipe save report : List ℕ) (steps : ℕ) (files : NamedFiles)
@@ -214,8 +217,8 @@ pub fn unwritten_stays()
         → map.get (in_pieces recipe save report steps counts files).files report ≡ map.get files report }
 {}
 
-/// An audit in any pieces, whose first one finds bytes in what it loads, comes to the same as the undivided audit, or pauses after all the steps that
-/// were asked for. Its report is accepted: where it comes to 0 or 3, so does `verify` over the files afterwards.
+/// On valid words (`AreWords`), an audit on files of bytes, in any segments, has the status, text and REPORT of the undivided audit, or
+/// pauses after all its steps. If it returns 0 or 3, `verify` on the files afterwards returns the same status.
 pub fn pauses()
     ensures same { (recipe save report : List ℕ) (steps : ℕ) (counts : List ℕ) (files : NamedFiles) → AreWords recipe save report files
         → All IsStepCount (steps ∷ counts) → LoadsBytes (plan_of (codes "part" ∷ recipe ∷ save ∷ report ∷ decimal steps ∷ [])) files
@@ -227,24 +230,24 @@ pub fn pauses()
         ≡ (in_pieces recipe save report steps counts files).status }
 {}
 
-/// A piece after a whole save: over files whose BASE holds the save of the position after `first` steps, and of which those that `audit` loads are
-/// bytes, `delta-start` by some steps pauses after as many more and leaves their delta against that save, or it comes to the same as `audit` over these files.
+/// On files of bytes whose BASE is a save, `delta-start` pauses after exactly STEPS more steps and leaves the delta against BASE, or its
+/// status, text and REPORT are those of `audit`. The save is that of the position after `first` steps.
 pub fn delta_starts()
     ensures { (recipe base patch report : List ℕ) (first steps : ℕ) (files : NamedFiles) → AreDeltaWords recipe base patch report files
         → IsStepCount steps → LoadsBytes (plan_of (codes "audit" ∷ recipe ∷ report ∷ [])) files → IsSavedAt recipe base files first
         → DeltaPieces recipe base patch report files first (first + steps) (delta_start recipe base patch report steps files) }
 {}
 
-/// A further piece: over such files whose BASE holds such a save, and PATCH the delta of the position after `count` steps against it,
-/// `delta-resume` by some steps pauses after as many more and leaves their delta, or it comes to the same as `audit` over these files.
+/// On files of bytes with a save BASE and its delta PATCH, `delta-resume` pauses after exactly STEPS more steps and leaves the delta
+/// against BASE, or its status, text and REPORT are those of `audit`. The delta is that of the position after `count` steps.
 pub fn delta_resumes()
     ensures { (recipe base patch report : List ℕ) (first count steps : ℕ) (files : NamedFiles) → AreDeltaWords recipe base patch report files
         → IsStepCount steps → LoadsBytes (plan_of (codes "audit" ∷ recipe ∷ report ∷ [])) files → IsSavedRelative recipe base patch files first count
         → DeltaPieces recipe base patch report files first (count + steps) (delta_resume recipe base patch report steps files) }
 {}
 
-/// Neither `delta-start` nor `delta-resume` changes a name but PATCH and REPORT, whatever the files hold; so BASE stays, and an audit by differences
-/// changes BASE, PATCH and REPORT alone.
+/// Neither `delta-start` nor `delta-resume` changes a name other than PATCH and REPORT, whatever the files hold. So BASE is unchanged, and
+/// an audit by differences changes only BASE, PATCH and REPORT.
 pub fn deltas_leave_others()
     ensures start { (recipe base patch report : List ℕ) (steps : ℕ) (files : NamedFiles)
         → LeavesOthers patch report files (delta_start recipe base patch report steps files) }
@@ -254,8 +257,7 @@ pub fn deltas_leave_others()
         → LeavesAllBut base patch report files (in_differences recipe base patch report steps counts files) }
 {}
 
-/// Of PATCH and REPORT the one that such a piece does not write is as before, whatever the files hold: REPORT where it pauses, and PATCH where
-/// the audit is over or the piece is refused.
+/// A segment by differences leaves REPORT unchanged if it pauses, and PATCH if it does not, whatever the files hold.
 pub fn deltas_leave_unwritten()
     ensures start { (recipe base patch report : List ℕ) (steps : ℕ) (files : NamedFiles)
         → LeavesUnwritten patch report files (delta_start recipe base patch report steps files) }
@@ -263,8 +265,8 @@ pub fn deltas_leave_unwritten()
         → LeavesUnwritten patch report files (delta_resume recipe base patch report steps files) }
 {}
 
-/// An audit by differences in any pieces, whose first one finds bytes in what it loads, comes to the same as the undivided audit, or pauses after all
-/// the steps that were asked for. Its report is accepted: where it comes to 0 or 3, so does `verify` over the files afterwards.
+/// On valid words (`AreDeltaWords`), an audit by differences on files of bytes, in any segments, has the status, text and REPORT of the
+/// undivided audit, or pauses after all its steps. If it returns 0 or 3, `verify` on the files afterwards returns the same status.
 pub fn differences()
     ensures same { (recipe base patch report : List ℕ) (steps : ℕ) (counts : List ℕ) (files : NamedFiles)
         → AreDeltaWords recipe base patch report files → All IsStepCount (steps ∷ counts)
@@ -278,16 +280,16 @@ pub fn differences()
         ≡ (in_differences recipe base patch report steps counts files).status }
 {}
 
-/// `kaem` ends exactly as the fold of its script's commands over the listed files does, each command within STEPS: where all ran, their report is
-/// held, and where one stopped the script, nothing is changed.
+/// On a valid script and list (`HoldsScript`), the outcome of `kaem` is that of the script's commands, run one after another on the listed
+/// files, each for at most STEPS steps. If all ran, REPORT holds their report. If one stopped the script, no file changes.
 pub fn scripts_fold()
     ensures { (script list report : List ℕ) (steps : ℕ) (files : NamedFiles) (said : ScriptContents) (listed : FilesListed)
         → HoldsScript script list report files said listed → IsStepCount steps
         → kaem script list report steps files ≡ kaem_ended report files said listed (folded steps listed.world said.commands) }
 {}
 
-/// `kaem-verify` over files that hold a script, and of which those that `kaem` loads are bytes, says yes exactly where what is held as the report is the
-/// text of what the script's commands come to, and its yes says how many they are.
+/// On files of bytes that hold a valid script and list (`HoldsScript`), `kaem-verify` returns 0 exactly where REPORT holds the text of what
+/// the script's commands did. Its text then has the number of commands.
 pub fn scripts_verified()
     ensures yes { (script list report : List ℕ) (steps : ℕ) (files : NamedFiles) (said : ScriptContents) (listed : FilesListed)
         → HoldsScript script list report files said listed → IsStepCount steps
@@ -298,8 +300,8 @@ pub fn scripts_verified()
         → (kaem_verify script list report files).text ≡ commands_true_line (length said.commands) }
 {}
 
-/// A yes of either command comes only where the files hold such a script: of `kaem`, where all commands ran, and of `kaem-verify`, where the report
-/// is true.
+/// `kaem` returns 0 only where the files hold a valid script and list and all commands ran, and `kaem-verify` only where they hold such a
+/// script and list and the report is true.
 pub fn scripts_shown()
     ensures reported { (script list report : List ℕ) (steps : ℕ) (files : NamedFiles) → (kaem script list report steps files).status ≡ Yes
         → ScriptReported script list report (decimal steps) files (kaem script list report steps files) }
@@ -307,8 +309,8 @@ pub fn scripts_shown()
         → ScriptVerified script list report files (kaem_verify script list report files) }
 {}
 
-/// A script's own report is accepted: where `kaem` over files, of which those that it loads are found to be bytes, comes to 0, `kaem-verify` over the
-/// files afterwards does too, and says how many commands the script has.
+/// `kaem-verify` accepts a script's own report: after a `kaem` on files of bytes that returns 0, it returns 0 and prints the number of
+/// commands.
 pub fn scripts_accepted()
     ensures yes { (script list report : List ℕ) (steps : ℕ) (files : NamedFiles)
         → LoadsBytes (plan_of (codes "kaem" ∷ script ∷ list ∷ report ∷ decimal steps ∷ [])) files → (kaem script list report steps files).status ≡ Yes
@@ -319,8 +321,8 @@ pub fn scripts_accepted()
         → (kaem_verify script list report (kaem script list report steps files).files).text ≡ commands_true_line (length said.commands) }
 {}
 
-/// `kaem` changes no name but REPORT, and that only where it comes to 0; `kaem-verify` changes nothing; `kaem-left` changes no name but OUT, and
-/// that only where it comes to 0 or says that a run failed. This holds whatever the files hold.
+/// `kaem` changes only REPORT, and only if it returns 0; `kaem-verify` changes nothing; `kaem-left` changes only OUT, and only if it
+/// returns 0 or 6. This holds whatever the files hold.
 pub fn scripts_leave_others()
     ensures report { (script list report : List ℕ) (steps : ℕ) (files : NamedFiles) → ChangesReportAlone report files (kaem script list report steps files) }
     ensures none { (script list report : List ℕ) (files : NamedFiles) → (kaem_verify script list report files).files ≡ files }
@@ -328,7 +330,7 @@ pub fn scripts_leave_others()
         → ChangesOutAlone out files (kaem_left script list steps command file out files) }
 {}
 
-/// What `run` prints of a stream or of a file that is left is the line of a report, with the mark of its content.
+/// The line that `run` prints of a stream or of a file that was left is that of a report, with the length and digest of the content.
 pub fn lines_of_a_run()
     ensures first { (bytes : List ℕ) → stream_line 1 bytes ≡ line (line_words (Stream1 (mark_of bytes))) }
     ensures second { (bytes : List ℕ) → stream_line 2 bytes ≡ line (line_words (Stream2 (mark_of bytes))) }

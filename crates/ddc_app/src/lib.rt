@@ -1,4 +1,4 @@
-//! The top call: everything that the program ddc does.
+//! The top call: everything that the program `ddc` does.
 #![tactic(auto)]
 
 mod command_word;

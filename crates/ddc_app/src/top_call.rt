@@ -28,17 +28,16 @@ use tool_commands::{asm, hex0, kaem, kaem_left, kaem_verify, list, refusal_place
 use verify_commands::{Explanation, chain, rests, verify};
 use wheeler::Meaning;
 
-/// Everything that the program does: it takes the words of the command line, without the program's own name, and answers the
-/// status that the program ends with. docs/reference/command-line.md has the commands and the statuses.
+/// Everything that the program does: runs one command line, without the program's own name, and returns the exit status. The commands and
+/// statuses are in docs/reference/command-line.md.
 ///
-/// What the command does is a plan over the files that the shelf holds. Where the shelf tells what it holds, or the plan asks
-/// nothing of it, the call comes to the plan's outcome, unless it ends in a fault that was counted in this call or for want of
-/// memory.
+/// A command is a plan on the files that the file store (`Shelf`) holds. If the contents of the store are known, or the plan loads nothing,
+/// the call has the plan's outcome. The exceptions are a fault that was counted in this call, and out of memory.
 ///
-/// Every command says one text, and does not ask the prompt, but `step`: where its plan comes to a session, the prompt's lines are
-/// answered one by one, each by a piece of its own.
+/// Every command writes one text and does not read standard input (`Prompt`), except `step`. If its plan is a session, the lines of
+/// standard input are answered one by one, each by a reply of its own.
 ///
-/// `M` is what sources mean. The call does the same under every meaning, and what follows from an answer of `verify` holds under each.
+/// `M` is what sources mean. The call does the same under every meaning. What follows from an answer of `verify` holds under each.
 pub fn run<M: Meaning, S: Shelf, K: Sink, P: Prompt>(
     alloc: Global,
     words: &[&str],
@@ -46,7 +45,7 @@ pub fn run<M: Meaning, S: Shelf, K: Sink, P: Prompt>(
     out: &mut K,
     prompt: &mut P,
 ) -> Status
-    // An answer is the plan's outcome, given after exactly the plan's calls, none of which failed, and in one piece where it is a text.
+    // An answer is the plan's outcome. Exactly the plan's calls were made before, and none failed. A text was written in one piece.
     ensures status { IsExpected words.now (S.state shelf.old) → IsTrue (is_answer result)
         → result ≡ (expected words.now (S.state shelf.old)).status }
     ensures text { IsOneText words.now (S.state shelf.old) → IsExpected words.now (S.state shelf.old) → IsTrue (is_answer result)
@@ -55,7 +54,7 @@ pub fn run<M: Meaning, S: Shelf, K: Sink, P: Prompt>(
         → Completes (plan_for words.now) (S.state shelf.old) (S.state shelf.new) }
     ensures one_put { IsOneText words.now (S.state shelf.old) → IsTrue (is_answer result) → TakesOne (K.state out.old) (K.state out.new) }
 
-    // A session that is answered was held to its end: each reply in a piece of its own, in order, and the lines taken.
+    // A session that is answered was held to its end: each reply was written whole and in order, and exactly its lines were read.
     ensures session { IsExpected words.now (S.state shelf.old) → (talk : List ℕ → Talk)
         → talk_of (plan_for words.now) (S.state shelf.old).files ≡ Some talk → IsTrue (is_answer result)
         → SaysAll talk (K.state out.old) (K.state out.new) (P.state prompt.old) (P.state prompt.new) }
@@ -64,20 +63,23 @@ pub fn run<M: Meaning, S: Shelf, K: Sink, P: Prompt>(
         ⊎ HoldsTalk (plan_for words.now) (outside (S.state shelf.old) (K.state out.old) (P.state prompt.old))
         (outside (S.state shelf.new) (K.state out.new) (P.state prompt.new)) (Ok tt) }
 
-    // A fault is a call that failed and was counted: the shelf's after a front part of the plan's calls, the sink's in the one put.
+    // A fault is a call that failed and was counted. A failed call of the store follows the first calls of the plan; a failed write is the
+    // one write.
     ensures shelf_fault { result ≡ Status.ShelfFault
         → NamesFault (plan_for words.now) (S.state shelf.old) (S.state shelf.new) (K.state out.old) (K.state out.new) }
     ensures out_fault { IsOneText words.now (S.state shelf.old) → result ≡ Status.OutFault
         → LosesText (plan_for words.now) (S.state shelf.old) (S.state shelf.new) (K.state out.old) (K.state out.new) }
 
-    // In a session the sink failed in a reply after whole ones, or the prompt after whole replies, and nothing more was put.
+    // In a session, writing a reply failed after whole replies, or reading a line failed after whole replies. Nothing was written after
+    // that.
     ensures talk_fault { result ≡ Status.OutFault
         → (LosesText (plan_for words.now) (S.state shelf.old) (S.state shelf.new) (K.state out.old) (K.state out.new)
         × (P.state prompt.new ≡ P.state prompt.old))
         ⊎ HoldsTalk (plan_for words.now) (outside (S.state shelf.old) (K.state out.old) (P.state prompt.old))
         (outside (S.state shelf.new) (K.state out.new) (P.state prompt.new)) (Err putting.Failed) }
 
-    // Want of memory says nothing, or nothing after the whole replies of a session, and comes after a front part of the plan's calls.
+    // Out of memory: nothing is written, or in a session nothing after whole replies. The first calls of the plan were made; the last may
+    // have failed.
     ensures silent { IsOneText words.now (S.state shelf.old) → result ≡ Status.OutOfMemory → K.state out.new ≡ K.state out.old }
     ensures talk_want { result ≡ Status.OutOfMemory
         → ((K.state out.new ≡ K.state out.old) × (P.state prompt.new ≡ P.state prompt.old))
@@ -86,27 +88,27 @@ pub fn run<M: Meaning, S: Shelf, K: Sink, P: Prompt>(
     ensures want { result ≡ Status.OutOfMemory
         → WantsMemory (plan_for words.now) (S.state shelf.old) (S.state shelf.new) }
 
-    // What an answer of `verify` shows, whatever sources mean.
+    // What a 0 or 3 of `verify` shows, under every meaning of sources.
     ensures shown { IsExpected words.now (S.state shelf.old) → (recipe report : List ℕ)
         → map (λ word. word.now) words.now ≡ codes "verify" ∷ recipe ∷ report ∷ [] → IsTrue (is_compared result)
         → Verified M.prescribes M.compiles recipe report (S.state shelf.old).files (expected words.now (S.state shelf.old)) }
 
-    // What an answer of `provenance` shows: all that `verify` shows, and a text that the recipe and the report determine.
+    // What a 0 or 3 of `provenance` shows: all that `verify` shows, and a text that the recipe and the report determine.
     ensures accounted { IsExpected words.now (S.state shelf.old) → (recipe report : List ℕ)
         → map (λ word. word.now) words.now ≡ codes "provenance" ∷ recipe ∷ report ∷ [] → IsTrue (is_compared result)
         → Accounted M.prescribes M.compiles recipe report (S.state shelf.old).files (expected words.now (S.state shelf.old)) }
 
-    // What `audit` accepts, `verify` accepts: a 0 or a 3 is what it comes to over the files that are left.
+    // If `audit` returns 0 or 3, `verify` returns the same status on the files that it left.
     ensures accepted { IsExpected words.now (S.state shelf.old) → (recipe report : List ℕ)
         → map (λ word. word.now) words.now ≡ codes "audit" ∷ recipe ∷ report ∷ [] → IsTrue (is_compared result)
         → (verify recipe report (expected words.now (S.state shelf.old)).files).status ≡ result }
 
-    // What a yes of `chain` shows.
+    // What a 0 of `chain` shows.
     ensures chained { IsExpected words.now (S.state shelf.old) → (list : List ℕ) → map (λ word. word.now) words.now ≡ codes "chain" ∷ list ∷ []
         → result ≡ Status.Yes
         → Chained M.prescribes M.compiles list (S.state shelf.old).files (expected words.now (S.state shelf.old)) }
 
-    // What a yes of `kaem` and of `kaem-verify` shows.
+    // What a 0 of `kaem` and of `kaem-verify` shows.
     ensures reported { IsExpected words.now (S.state shelf.old) → (script list report steps : List ℕ)
         → map (λ word. word.now) words.now ≡ codes "kaem" ∷ script ∷ list ∷ report ∷ steps ∷ [] → result ≡ Status.Yes
         → ScriptReported script list report steps (S.state shelf.old).files (expected words.now (S.state shelf.old)) }
@@ -114,12 +116,12 @@ pub fn run<M: Meaning, S: Shelf, K: Sink, P: Prompt>(
         → map (λ word. word.now) words.now ≡ codes "kaem-verify" ∷ script ∷ list ∷ report ∷ [] → result ≡ Status.Yes
         → ScriptVerified script list report (S.state shelf.old).files (expected words.now (S.state shelf.old)) }
 
-    // And what `kaem` accepts, `kaem-verify` accepts.
+    // If `kaem` returns 0, `kaem-verify` returns 0 on the files that it left.
     ensures replays { IsExpected words.now (S.state shelf.old) → (script list report steps : List ℕ)
         → map (λ word. word.now) words.now ≡ codes "kaem" ∷ script ∷ list ∷ report ∷ steps ∷ [] → result ≡ Status.Yes
         → (kaem_verify script list report (expected words.now (S.state shelf.old)).files).status ≡ Status.Yes }
 
-    // The prompt is asked in a session alone.
+    // Standard input is read only in a session.
     ensures prompt_stays { IsOneText words.now (S.state shelf.old) ⊎ (result ≡ Status.ShelfFault)
         → P.state prompt.new ≡ P.state prompt.old }
 
@@ -133,7 +135,7 @@ pub fn run<M: Meaning, S: Shelf, K: Sink, P: Prompt>(
     act::<M, S, K, P>(alloc, shelf, out, prompt, words)
 }
 
-/// Hands over to `step`, which may begin a session, or to a command that says one text.
+/// Runs `step`, which may begin a session, or a command that writes one text.
 fn act<M: Meaning, S: Shelf, K: Sink, P: Prompt>(
     alloc: Global,
     shelf: &mut S,
@@ -157,7 +159,7 @@ fn act<M: Meaning, S: Shelf, K: Sink, P: Prompt>(
     }
 }
 
-/// The words after `step`, where it is the first.
+/// The words after `step`; `None` where the first word is another one.
 fn after_step<'a, 'w>(words: &'a [&'w str]) -> Option<&'a [&'w str]>
     ensures { MatchOption result (IsFalse (is_step (map (λ word. word.now) words.now)))
         (λ rest. IsTrue (is_step (map (λ word. word.now) words.now))
@@ -169,8 +171,8 @@ fn after_step<'a, 'w>(words: &'a [&'w str]) -> Option<&'a [&'w str]>
     }
 }
 
-/// Hands over to the command that the first word names, of those that say one text: here those on the report of an audit or of a script, and on
-/// what a script's command left.
+/// Runs the command that the first word names. This function knows the commands on the report of an audit or of a script, and on what a
+/// script's command left.
 #[tactic(auto, using(command_plan::proofs::Performing::performing))]
 fn perform<M: Meaning, S: Shelf>(
     alloc: Global,
@@ -199,7 +201,7 @@ fn perform<M: Meaning, S: Shelf>(
     }
 }
 
-/// The same for the other commands.
+/// Runs the command that this word names, of all other commands that write one text.
 #[tactic(auto, using(command_plan::proofs::Performing::performing), unfolding(crate::specs::Commands::other_plan))]
 fn perform_other<M: Meaning, S: Shelf>(
     alloc: Global,
@@ -229,7 +231,7 @@ fn perform_other<M: Meaning, S: Shelf>(
     }
 }
 
-/// The status of a session that was held, or says what ended the command before it.
+/// The status of a session that was held; otherwise writes what ended the command before the session.
 fn close<K: Sink>(out: &mut K, ended: Result<Result<(), PutFail>, Stop>) -> Status
     ensures { Closes (K.state out.old) ended (K.state out.new) result }
 {
@@ -239,7 +241,7 @@ fn close<K: Sink>(out: &mut K, ended: Result<Result<(), PutFail>, Stop>) -> Stat
     }
 }
 
-/// Says how the command ended.
+/// Writes how the command ended, and returns its status.
 fn conclude<K: Sink>(out: &mut K, ending: Result<Answer, Stop>) -> Status
     ensures { SaysEnding (K.state out.old) ending (K.state out.new) result }
 {
@@ -251,14 +253,14 @@ fn conclude<K: Sink>(out: &mut K, ending: Result<Answer, Stop>) -> Status
     }
 }
 
-/// Puts the whole text, and gives the status unless that fails.
+/// Writes the whole text, and returns this status unless the write fails.
 fn put<K: Sink>(out: &mut K, text: &[u8], status: Status) -> Status
     ensures { PutEnds (K.state out.old) text.now (K.state out.new) status result }
 {
     unless_lost(out.put(text), status)
 }
 
-/// This status, unless what was put was lost.
+/// This status, or that of the failed write.
 fn unless_lost(put: Result<(), PutFail>, status: Status) -> Status
     ensures { result ≡ unless_lost put status }
 {

@@ -1,4 +1,4 @@
-//! `version`: this release of ddc, and the logic in which it is proved.
+//! `version`: prints the release of `ddc`, and the logic in which it is proved.
 
 ghost use Rattle.std.specs.Prelude.{◌≡◌, IfOk, map};
 ghost use Rattle.command_plan.specs.declared.status.Status.TheVariants.{Yes};
@@ -10,7 +10,7 @@ use command_plan::{Answer, Status, Stop, usage};
 use ddc_base::{Bytes, OutOfMemory};
 use std::alloc::Global;
 
-/// Performs the command on the words after its name.
+/// `version`: prints the release and the logic. Statuses 0, 2, 13.
 pub fn perform(alloc: Global, words: &[&str]) -> Result<Answer, Stop>
     ensures { Says (version_plan (map (λ w. w.now) words.now)) result }
 {
@@ -20,7 +20,7 @@ pub fn perform(alloc: Global, words: &[&str]) -> Result<Answer, Stop>
     }
 }
 
-/// The answer that names the release and the logic.
+/// The answer with the release and the logic.
 fn version(alloc: Global) -> Result<Answer, Stop>
     ensures { Says (answers Yes version_text) result }
 {
@@ -30,7 +30,7 @@ fn version(alloc: Global) -> Result<Answer, Stop>
     })
 }
 
-/// The lines of both.
+/// The two lines of the release and the logic.
 fn text_of(alloc: Global) -> Result<Bytes, OutOfMemory>
     ensures { IfOk result (λ text. text ≡ version_text) }
 {

@@ -217,7 +217,7 @@ static NO_MORE_DESCRIPTORS: [Row; 10] = [
     (Call::Open(b"f", O_RDONLY), 1023),
 ];
 
-/// What goes on with 4,096 names, and what does not.
+/// What is served with 4,096 names, and what is not.
 static NO_MORE_NAMES: [Row; 10] = [
     (Call::PlaceAll, 0),
     (Call::Place(b"f", b""), 3),

@@ -345,7 +345,8 @@ fn check_reservations(rt: &impl Abort, alloc: Global) -> Result<(), AllocError> 
     check_reserving(rt, alloc, 57, 77)
 }
 
-/// A call that goes on ends a reservation: one that is served, as brk(0), and one that is refused, as the close of no descriptor.
+/// A call after which the program continues ends a reservation: one that is served, as brk(0), and one that is refused, as the close of no
+/// descriptor.
 #[test]
 fn calls_end_a_reservation(rt: HostRuntime) -> Result<(), Fail> {
     Ok(check_reservations(&rt, rt.alloc())?)

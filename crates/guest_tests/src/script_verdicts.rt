@@ -209,7 +209,8 @@ fn the_first_part_that_fails_is_named(rt: HostRuntime) {
     }
 }
 
-/// Scripts of one command over copy.elf and a file `in` of the bytes `abc`, with their digests by sha256sum: the program is not there, or is none.
+/// Scripts of one command on copy.elf and a file `in` of the bytes `abc`, with their digests by sha256sum: the program is absent, or is not
+/// a program.
 static NO_RUNS: [(&[u8], &str); 2] = [
     (
         b"out\n",

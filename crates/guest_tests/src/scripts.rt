@@ -370,8 +370,8 @@ fn a_script_stops_where_its_steps_are_spent(rt: HostRuntime) {
     assert!(rt; ends(&rt, rt.alloc(), b"copy.elf", Some(b"abc"), 31, wanted));
 }
 
-/// A word of exit.elf, what it is changed to, and the cause and the step at which the program ends: addi x10, x0, 7 in the place of addi x10, x0, 0;
-/// addi x17, x0, 999 in that of addi x17, x0, 93; no instruction.
+/// A word of exit.elf, what it is changed to, and the cause and the step at which the program ends. The first row has addi x10, x0, 7 in
+/// place of addi x10, x0, 0. The second has addi x17, x0, 999 in place of addi x17, x0, 93. The third has no instruction.
 static OTHERWISE: [(usize, u32, CommandCause, u64); 3] = [
     (120, 0x0070_0513, CommandCause::Status(7), 3),
     (124, 0x3e70_0893, CommandCause::Call(999), 3),

@@ -135,7 +135,7 @@ fn give(rt: &impl Abort, setting: &mut RunBox<'_>) {
     assert!(rt; setting.place(b"in", b"abc").is_ok());
 }
 
-/// Holds a session of a program in a setting over a prompt.
+/// Holds a session of a program in a setting, with a standard input.
 fn hold_in<'a>(
     rt: &impl Abort,
     alloc: Global,
@@ -187,12 +187,12 @@ fn lines_of(text: &[u8]) -> usize {
     count
 }
 
-/// Whether a sink has a text, and one piece for each of its lines.
+/// Whether an output has a text, and one piece for each of its lines.
 fn has_lines(out: &MemSink, text: &[u8]) -> bool {
     out.written() == text && out.pieces().len() == lines_of(text)
 }
 
-/// Whether a session over a prompt prints this.
+/// Whether a session with a standard input prints this.
 fn prints(rt: &impl Abort, alloc: Global, prompt: &mut MemPrompt, limit: u32, want: &str) -> bool {
     let mut out = MemSink::new(alloc);
     let end = hold(rt, alloc, prompt, limit, &mut out);
@@ -229,7 +229,7 @@ fn registers_are_shown(rt: HostRuntime) {
     assert!(rt; are_answered(&rt, rt.alloc(), "step 5\nregs\n", 100, REGISTERS));
 }
 
-/// How many pieces a session over a prompt puts; nothing where it is cut.
+/// How many pieces a session writes; `None` where it is cut.
 fn pieces(rt: &impl Abort, alloc: Global, prompt: &mut MemPrompt) -> Option<usize> {
     let mut out = MemSink::new(alloc);
     let end = hold(rt, alloc, prompt, 100, &mut out);
@@ -240,7 +240,7 @@ fn pieces(rt: &impl Abort, alloc: Global, prompt: &mut MemPrompt) -> Option<usiz
     }
 }
 
-/// Whether a session over a prompt, of which the line of this number is to fail, puts so many pieces and leaves this.
+/// Whether a session writes so many pieces and leaves this, where the line of this number fails.
 fn leaves_of(
     rt: &impl Abort,
     alloc: Global,
@@ -285,14 +285,14 @@ static FAULTS: [(u64, u64, usize); 5] = [(1, 0, 0), (2, 0, 1), (3, 0, 2), (0, 1,
 /// The line that each `where` is answered by.
 const LINE: &str = "at 0 0000000000010078 addi x10, x0, -100\n";
 
-/// Whether a sink has so many lines whole, and half of one where a put failed.
+/// Whether an output has so many lines whole, and half of one where a write failed.
 fn has_whole(out: &MemSink, put_fails: u64, count: usize) -> bool {
     let half = if put_fails == 0 { 0 } else { LINE.len() / 2 };
     let whole = LINE.len().saturating_mul(count);
     out.pieces().len() == count && out.written().len() == whole.saturating_add(half)
 }
 
-/// Whether a session over a prompt into a sink is cut after so many whole lines.
+/// Whether a session is cut in its output after so many whole lines.
 fn is_cut_into(
     rt: &impl Abort,
     alloc: Global,
@@ -306,7 +306,7 @@ fn is_cut_into(
         && has_whole(out, put_fails, count)
 }
 
-/// The same over a prompt of which the line of this number is to fail.
+/// Whether a session is cut after so many whole lines, where the line of this number fails.
 fn is_cut_over(
     rt: &impl Abort,
     alloc: Global,

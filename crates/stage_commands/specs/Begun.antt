@@ -1,4 +1,4 @@
--- With what a command on one stage begins, as the files say it. docs/reference/segments.md says the same for people.
+-- What a command on one stage starts from, given the files. docs/reference/segments.md says the same for people.
 use Rattle.std.specs.Prelude.{◌≡◌, ℕ, Some, Ok, List, [], length, map, take}
 use Rattle.std.specs.FinMap as finite
 use Rattle.ddc_base.specs.declared.outside.Loaded.TheVariants.{Bytes}
@@ -9,8 +9,8 @@ use Rattle.audit_run.specs.Earlier.{done_in_order}
 use Rattle.recipe_plan.specs.Recipes.{paths}
 use Rattle.stage_commands.specs.declared.ready.Ready.{Ready}
 
--- the recipe is what its file says, and the inputs are what their files hold; what is done are the stages before the one of this name, as the bench
--- runs them
+-- The recipe and the inputs are those in their files. The finished stages are those before the one of this name, run as the audit's
+-- definition (`bench`) runs them
 pub record IsBegun (recipe stage : List ℕ) (files : NamedFiles) (ready : Ready) : Type 0 where
   pub text : List ℕ
   pub held : loaded files recipe 1_048_576 ≡ Bytes text

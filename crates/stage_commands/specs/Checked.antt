@@ -1,4 +1,5 @@
--- What `segment` with 0 says, and what `ends` and all `segment`s with 0 say together. docs/reference/segments.md says the same for people.
+-- What a 0 of `segment` shows, and what a 0 of `ends` and of all `segment`s shows together. docs/reference/segments.md says the same for
+-- people.
 use Rattle.std.specs.Prelude.{◌≡◌, ℕ, ◌+◌, ◌<◌, ◌≤◌, Option, None, Some, Result, Ok, Err, List}
 use Rattle.ddc_base.specs.declared.outside.Loaded.TheVariants.{Bytes}
 use Rattle.ddc_base.specs.Outside.{NamedFiles, loaded}
@@ -18,7 +19,7 @@ use Rattle.stage_commands.specs.Texts.{run_record, segment_line}
 
 -- ---- two texts, and the last one
 
--- two names hold texts that are a piece of so many steps
+-- two names hold texts that are a segment of so many steps
 pub record HoldPiece (from to : List ℕ) (files : NamedFiles) (steps : ℕ) : Type 0 where
   pub former : List ℕ
   pub former_is : loaded files from 4_294_967_296 ≡ Bytes former
@@ -26,11 +27,11 @@ pub record HoldPiece (from to : List ℕ) (files : NamedFiles) (steps : ℕ) : T
   pub latter_is : loaded files to 4_294_967_296 ≡ Bytes latter
   pub piece : IsSegment former latter steps
 
--- what `segment` with 0 comes to
+-- the outcome of `segment` with status 0
 abbrev pub piece_reported_yes : ℕ → NamedFiles → Outcome
 piece_reported_yes steps files = record { status = Yes; text = segment_line steps; files = files }
 
--- what the end after a text says of the bytes
+-- the end of a run, as the machine's interface names it
 abbrev pub run_end : End → RunEnd
 run_end (Exited status) = run.Exited status
 run_end (Trapped cause) = run.Trapped cause
@@ -43,13 +44,14 @@ EndShows text limit (Ok (Some (end, guest))) = EndsWith text limit guest (run_en
 
 -- ---- all together
 
--- `ends` comes to 0, and so does `segment` of each two neighbours
+-- `ends` returns 0, and so does `segment` of every two neighbours
 pub record AreChecked (recipe stage prefix : List ℕ) (count : ℕ) (files : NamedFiles) : Type 0 where
   pub few : count ≤ 1_000
   pub both_ends : (ends_over recipe stage prefix count files).status ≡ Yes
   pub pieces : (number : ℕ) → number + 1 < count → (segment_over (piece_name prefix number) (piece_name prefix (number + 1)) files).status ≡ Yes
 
--- what is printed is the stage's run from its start: its steps in all, its exit with 0, and what it left; which is the bench's record where that has one
+-- What is printed is the stage's run from its start: its steps in all, its exit with 0, and what it left. It is the record of the audit's
+-- definition (`bench`), if that finishes the stage
 pub record IsRunReported (recipe stage prefix : List ℕ) (files : NamedFiles) (came : Outcome) : Type 0 where
   pub run : CutRun recipe stage prefix files
   pub reported : came ≡ record { status = Yes; text = run_record run.start.named.name (finished (run.last.steps + 1) run.last.world run.made); files = files }

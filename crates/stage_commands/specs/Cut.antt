@@ -1,4 +1,4 @@
--- `cut RECIPE STAGE EVERY PREFIX`: states along a stage's run are saved. docs/reference/command-line.md and docs/reference/segments.md say the
+-- `cut RECIPE STAGE EVERY PREFIX`: saves states along a stage's run. docs/reference/command-line.md and docs/reference/segments.md say the
 -- same for people.
 use Rattle.std.specs.Prelude.{ℕ, zero, suc, ◌+◌, ◌-◌, Option, None, Some, Result, Ok, Err, List, [], ◌∷◌, length, min, nat_lt, slice_get, if◌then◌else◌}
 use Rattle.guest_run.specs.Run.{End, first_end}
@@ -18,16 +18,16 @@ use Rattle.stage_commands.specs.States.{state_after}
 use Rattle.stage_commands.specs.Texts.{cut_line, too_many_line}
 use Rattle.stage_commands.specs.declared.ready.Ready.{Ready}
 
--- how many steps follow a saved state: EVERY, but none beyond the stage's limit
+-- the number of steps after a saved state: EVERY, but not beyond the stage's limit
 abbrev pub next_steps : Stage → ℕ → GuestState → ℕ
 next_steps stage every guest = min every (stage.steps - guest.steps)
 
--- what follows so many saved states: the run ended; or it goes on from the state that it came to, unless that stands at the limit
+-- after so many saved states the run ended, or it continues from the state that it reached unless that is at the limit
 abbrev pub came_on : Stage → ℕ → Option (End × GuestState) → GuestState → (GuestState → Plan) → Plan
 came_on stage saved (Some (end, guest)) to next = run_ended stage end guest (λ _. answers Yes (cut_line saved (guest.steps + 1)))
 came_on stage saved None to next = if nat_lt to.steps stage.steps then next to else run_failed stage run.Spent stage.steps
 
--- the present state is saved under the name of its number, and then those along the run, at most so many in all
+-- saves the present state under the name of its number, and then those along the run, at most so many in all
 unfoldable pub saved_from : Stage → ℕ → List ℕ → ℕ → ℕ → GuestState → Plan
 saved_from stage every prefix zero number guest = answers TooManySegments too_many_line
 saved_from stage every prefix (suc left) number guest =
@@ -35,12 +35,12 @@ saved_from stage every prefix (suc left) number guest =
     (came_on stage (number + 1) (first_end guest (next_steps stage every guest)) (state_after guest (next_steps stage every guest))
     (λ to. saved_from stage every prefix left (number + 1) to))
 
--- the stage starts, and at most 1,000 states of its run are saved
+-- starts the stage, and saves at most 1,000 states of its run
 abbrev pub cut_from : Stage → ℕ → List ℕ → Result GuestState Refusal → Plan
 cut_from stage every prefix (Ok guest) = saved_from stage every prefix 1_000 0 guest
 cut_from stage every prefix (Err why) = run_failed stage (run.Start (start_cause why)) 0
 
--- the stage after those that are done is cut
+-- cuts the run of the stage after the finished ones
 unfoldable pub cut_ready : ℕ → List ℕ → Ready → Plan
 cut_ready every prefix ready =
     or_usage (slice_get ready.recipe.stages (length ready.done)) (λ stage.
@@ -49,7 +49,7 @@ cut_ready every prefix ready =
 unfoldable pub cut_files : List ℕ → List ℕ → ℕ → List ℕ → Plan
 cut_files recipe stage every prefix = needs_ready recipe stage prefix (cut_ready every prefix)
 
--- the words after `cut`
+-- the plan for the words after `cut`
 abbrev pub cut_plan : List (List ℕ) → Plan
 cut_plan (recipe ∷ stage ∷ every ∷ prefix ∷ []) =
     or_usage (as_steps every) (λ steps. if are_stage_words recipe stage prefix then cut_files recipe stage steps prefix else usage)

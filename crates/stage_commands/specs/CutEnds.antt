@@ -1,4 +1,4 @@
--- How a cut ends, told without the loop that saves the states. docs/reference/segments.md says the same for people.
+-- How a cut ends, defined without the loop that saves the states. docs/reference/segments.md says the same for people.
 use Rattle.std.specs.Prelude.{◌≡◌, ℕ, ◌+◌, ◌*◌, ◌/◌, Option, None, Some, min, nat_le, if◌then◌else◌}
 use Rattle.guest_run.specs.Run.{End, first_end}
 use Rattle.guest_run.specs.State.{GuestState}
@@ -9,8 +9,8 @@ use Rattle.command_plan.specs.Plan.{Outcome, Plan, answers}
 use Rattle.stage_commands.specs.Exits.{run_ended, run_failed}
 use Rattle.stage_commands.specs.Texts.{cut_line, too_many_line}
 
--- by the first end within 1,000 times EVERY steps and the stage's limit: how the run ended, with one state for each EVERY steps before; else that the
--- limit is used up, or that 1,000 states are too few
+-- The run ends within 1,000 times EVERY steps and the stage's limit, and one state was saved for each EVERY steps before. Otherwise the
+-- limit is exhausted, or 1,000 states are too few
 abbrev pub cut_end : Stage → ℕ → Option (End × GuestState) → Plan
 cut_end stage every (Some (end, guest)) = run_ended stage end guest (λ _. answers Yes (cut_line (guest.steps / every + 1) (guest.steps + 1)))
 cut_end stage every None = if nat_le stage.steps (1_000 * every) then run_failed stage run.Spent stage.steps else answers TooManySegments too_many_line

@@ -1,4 +1,4 @@
--- What a cut with status 0 leaves, and what `segment` and `ends` come to over it. docs/reference/segments.md says the same for people.
+-- What a cut with status 0 leaves, and the outcomes of `segment` and `ends` on it. docs/reference/segments.md says the same for people.
 use Rattle.std.specs.Prelude.{◌≡◌, ◌≢◌, ℕ, ◌+◌, ◌*◌, ◌<◌, ◌≤◌, Some, Ok, List, [], ◌∷◌, decimal, length, slice_get}
 use Rattle.std.specs.FinMap as map
 use Rattle.ddc_base.specs.Outside.{NamedFiles}
@@ -21,7 +21,7 @@ use Rattle.stage_commands.specs.Segment.{segment_plan}
 use Rattle.stage_commands.specs.Texts.{cut_line, run_record, segment_line}
 use Rattle.stage_commands.specs.declared.ready.Ready.{Ready}
 
--- what `cut RECIPE STAGE EVERY PREFIX`, `segment FROM TO` and `ends RECIPE STAGE PREFIX COUNT` come to over files
+-- the outcomes of `cut RECIPE STAGE EVERY PREFIX`, `segment FROM TO` and `ends RECIPE STAGE PREFIX COUNT` on these files
 abbrev pub cut_over : List ℕ → List ℕ → List ℕ → List ℕ → NamedFiles → Outcome
 cut_over recipe stage every prefix files = outcome (cut_plan (recipe ∷ stage ∷ every ∷ prefix ∷ [])) files
 
@@ -31,7 +31,7 @@ segment_over from to files = outcome (segment_plan (from ∷ to ∷ [])) files
 abbrev pub ends_over : List ℕ → List ℕ → List ℕ → ℕ → NamedFiles → Outcome
 ends_over recipe stage prefix count files = outcome (ends_plan (recipe ∷ stage ∷ prefix ∷ decimal count ∷ [])) files
 
--- the stage that the words name over these files, after what the commands begin with, and its start
+-- the stage that the words name on these files, what the commands on it start from, and its start
 pub record CutStart (recipe stage prefix : List ℕ) (files : NamedFiles) : Type 0 where
   pub ready : Ready
   pub begins : IsBegun recipe stage files ready
@@ -41,7 +41,7 @@ pub record CutStart (recipe stage prefix : List ℕ) (files : NamedFiles) : Type
   pub begun : GuestState
   pub starts : start_stage ready.recipe (contents ready.inputs ready.done) named ≡ Ok begun
 
--- its run: the exit with 0, which left the stage's output. So it is the bench's own where that has the stage done
+-- the stage's run: an exit with 0 that left the stage's output. It is that of the audit's definition (`bench`), if that finishes the stage
 pub record CutRun (recipe stage prefix : List ℕ) (files : NamedFiles) : Type 0 where
   pub start : CutStart recipe stage prefix files
   pub last : GuestState
@@ -51,14 +51,14 @@ pub record CutRun (recipe stage prefix : List ℕ) (files : NamedFiles) : Type 0
   pub benched : (f : Finished) → stage_result start.ready.recipe start.ready.inputs start.ready.done start.named ≡ Ok f
       → f ≡ finished (last.steps + 1) last.world made
 
--- the state of the run after so many steps is held under a name
+-- a name holds the state of the run after so many steps
 pub record IsHeldState {recipe stage prefix : List ℕ} {files : NamedFiles} (run : CutRun recipe stage prefix files) (later : NamedFiles) (name : List ℕ) (steps : ℕ) : Type 0 where
   pub state : GuestState
   pub reached : after run.start.begun steps ≡ Some state
   pub held : map.get later name ≡ Some (second_text state)
 
--- a cut that came to 0: its states stand, and no other name is changed; every two neighbours are a piece of EVERY steps; and both ends are right, told
--- as the run's record, which is the bench's where that has one
+-- A cut returned 0. Its states are saved, and no other name changes. Every two neighbours are a segment of EVERY steps. `ends` returns 0
+-- and prints the run's record, which is that of the audit's definition (`bench`) if that finishes the stage
 pub record IsRightCut (recipe stage every prefix : List ℕ) (files : NamedFiles) (came : Outcome) : Type 0 where
   pub run : CutRun recipe stage prefix files
   pub steps : ℕ

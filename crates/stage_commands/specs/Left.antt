@@ -1,5 +1,5 @@
--- `left RECIPE STAGE FILE OUT`: a stage's program is run, whatever it ends with, and what it left at one place is saved.
--- docs/reference/command-line.md says the same for people.
+-- `left RECIPE STAGE FILE OUT`: runs a stage, however it ends, and saves what it left at FILE. docs/reference/command-line.md says the same
+-- for people.
 use Rattle.std.specs.Prelude.{ℕ, ◌+◌, Bool, ◌&&◌, Option, None, Some, Result, Ok, Err, List, [], ◌∷◌, codes, decimal, length, slice_get, unwrap_or, if◌then◌else◌}
 use Rattle.ddc_base.specs.Lines.{line}
 use Rattle.guest_run.specs.Run.{End, Exited, Trapped, UnknownCall, after, first_end}
@@ -22,21 +22,21 @@ use Rattle.recipe_plan.specs.NotDone.{run_cause_text, unfinished}
 use Rattle.tool_commands.specs.GuestFiles.{bytes_left_at, is_left_word}
 use Rattle.stage_commands.specs.Earlier.{needs_earlier, needs_stage}
 
--- ---- how a run ended, and what stood then
+-- ---- how a run ended, and the files then
 
--- a run's end: the cause as an audit says it, its step, and the files before that step
+-- a run's end: the cause in an audit's words, its step, and the files before that step
 pub record RunLeft : Type 0 where
   pub cause : RunCause
   pub step : ℕ
   pub files : World
 
--- an end within the steps, which comes in the step that follows the state
+-- the cause of an end in an audit's words
 abbrev pub cause_of : End → RunCause
 cause_of (Exited status) = run.Status status
 cause_of (Trapped cause) = run.Trap cause
 cause_of (UnknownCall number) = run.Call number
 
--- the first end within so many steps, else that they are spent and what stands after them
+-- the first exit, trap or unknown call within so many steps, or else the exhausted limit, with the files then
 abbrev pub run_left_by : GuestState → ℕ → Option (End × GuestState) → RunLeft
 run_left_by start most (Some (end, guest)) = record { cause = cause_of end; step = guest.steps + 1; files = guest.world }
 run_left_by start most None = record { cause = run.Spent; step = most; files = (unwrap_or (after start most) start).world }
@@ -44,9 +44,9 @@ run_left_by start most None = record { cause = run.Spent; step = most; files = (
 unfoldable pub run_left : GuestState → ℕ → RunLeft
 run_left start most = run_left_by start most (first_end start most)
 
--- ---- what is answered
+-- ---- the answers
 
--- an exit answers the question with any status, and no other end does
+-- an exit with any status is a yes; every other end is not
 abbrev pub left_status : RunCause → Status
 left_status (run.Status status) = Yes
 left_status _ = RunFailed
@@ -55,7 +55,7 @@ abbrev pub absent_status : RunCause → Status
 absent_status (run.Status status) = FileRefused
 absent_status _ = RunFailed
 
--- how the run ended, after what it left, or did not leave
+-- how the run ended, where it left FILE, and where it did not
 unfoldable pub file_left_line : List ℕ → List ℕ → ℕ → RunCause → ℕ → List ℕ
 file_left_line stage file size cause step =
     line (codes "left" ∷ stage ∷ file ∷ decimal size ∷ run_cause_text cause ∷ codes "step" ∷ decimal step ∷ [])
@@ -64,7 +64,7 @@ unfoldable pub none_left_line : List ℕ → List ℕ → RunCause → ℕ → L
 none_left_line stage file cause step =
     line (codes "not" ∷ codes "left" ∷ stage ∷ file ∷ run_cause_text cause ∷ codes "step" ∷ decimal step ∷ [])
 
--- what stands there is saved, and then the end is said; where nothing does, nothing is saved
+-- saves what was left at FILE and answers with the end; where nothing was left, saves nothing
 abbrev pub saved_left : List ℕ → List ℕ → List ℕ → RunLeft → Option (List ℕ) → Plan
 saved_left stage file out end (Some content) = sets out content (answers (left_status end.cause) (file_left_line stage file (length content) end.cause end.step))
 saved_left stage file out end None = answers (absent_status end.cause) (none_left_line stage file end.cause end.step)
@@ -72,17 +72,18 @@ saved_left stage file out end None = answers (absent_status end.cause) (none_lef
 unfoldable pub ends_left : List ℕ → List ℕ → List ℕ → RunLeft → Plan
 ends_left stage file out end = saved_left stage file out end (bytes_left_at end.files file)
 
--- the stage's program runs to its end; a start that is refused is a run that failed at step 0
+-- the stage's program runs to its end; a refused start is a run that failed at step 0
 abbrev pub left_by : RecipeContents → ℕ → Stage → List ℕ → List ℕ → Result GuestState Refusal → Plan
 left_by recipe number stage file out (Ok start) = ends_left stage.name file out (run_left start stage.steps)
 left_by recipe number stage file out (Err why) = unfinished recipe number (Runs (run.Start (start_cause why)) 0)
 
--- the stage after those that are done
+-- runs the stage after the finished ones
 unfoldable pub left_of_stage : RecipeContents → List (List ℕ) → List Finished → List ℕ → List ℕ → Plan
 left_of_stage recipe inputs done file out =
     or_usage (slice_get recipe.stages (length done)) (λ stage. left_by recipe (length done + 1) stage file out (start_stage recipe (contents inputs done) stage))
 
--- the recipe, the stage, an OUT that is none of the inputs, the inputs, the stages before that one; then it is run
+-- loads the recipe, finds the stage, checks that OUT is not an input, loads the inputs, and runs the stages before that one and then the
+-- stage
 unfoldable pub left_files : List ℕ → List ℕ → List ℕ → List ℕ → Plan
 left_files recipe stage file out =
     needs_recipe recipe (λ said.
@@ -92,7 +93,7 @@ left_files recipe stage file out =
     needs_earlier said inputs count (λ done.
     left_of_stage said inputs done file out)))))
 
--- the words after `left`: RECIPE and OUT can name two files, STAGE has no zero byte, and FILE can be asked for
+-- the words after `left`: RECIPE and OUT name two files, STAGE has no zero byte, and FILE is a guest's file or a stream
 unfoldable pub are_left_words : List ℕ → List ℕ → List ℕ → List ℕ → Bool
 are_left_words recipe stage file out = are_two_files recipe out && has_no_zero_byte stage && is_left_word file
 

@@ -1,4 +1,5 @@
--- What `left` saves of a stage's output, where the bench makes the stage. docs/reference/command-line.md says the same for people.
+-- What `left` saves of a stage's output, if the audit's definition (`bench`) finishes the stage. docs/reference/command-line.md says the
+-- same for people.
 use Rattle.std.specs.Prelude.{◌≡◌, ℕ, Some, List, [], ◌∷◌, ◌++◌, codes, length, slice_get}
 use Rattle.std.specs.FinMap as finite
 use Rattle.ddc_base.specs.Outside.{NamedFiles}
@@ -15,11 +16,11 @@ use Rattle.stage_commands.specs.Earlier.{needs_earlier, needs_stage}
 use Rattle.stage_commands.specs.Left.{file_left_line, left_plan}
 use Rattle.stage_commands.specs.declared.ready.Ready.{Ready}
 
--- what `left RECIPE STAGE FILE OUT` comes to over files
+-- the outcome of `left RECIPE STAGE FILE OUT` on these files
 abbrev pub left_over : List ℕ → List ℕ → List ℕ → List ℕ → NamedFiles → Outcome
 left_over recipe stage file out files = outcome (left_plan (recipe ∷ stage ∷ file ∷ out ∷ [])) files
 
--- the FILE that asks for a stage's output: the first stream, or the file, which `./` tells from a stream
+-- the FILE of a stage's output: `1` for standard output, or the file's path after `./`, so that it is no stream
 abbrev pub output_word : Output → List ℕ
 output_word Stream = codes "1"
 output_word (File path) = codes "./" ++ path
@@ -34,7 +35,7 @@ needs_left recipe stage out next =
     needs_earlier said inputs count (λ done.
     next (record { recipe = said; inputs = inputs; done = done }))))))
 
--- the stage of this name, after what `left` finds over these files
+-- the stage of this name, and what `left` starts from on these files
 pub record LeftRun (recipe stage out : List ℕ) (files : NamedFiles) : Type 0 where
   pub ready : Ready
   pub begins : IsBegun recipe stage files ready
@@ -42,7 +43,7 @@ pub record LeftRun (recipe stage out : List ℕ) (files : NamedFiles) : Type 0 w
   pub named : Stage
   pub there : slice_get ready.recipe.stages (length ready.done) ≡ Some named
 
--- the artefact of the bench's record is saved under OUT, and the line has its size, the exit with 0, and the step of the record
+-- the recorded artefact is saved under OUT, and the line has its size, the exit with 0, and the recorded step
 abbrev pub artefact_saved : Stage → List ℕ → Finished → NamedFiles → Outcome
 artefact_saved stage out f files = record {
   status = Yes;

@@ -1,4 +1,5 @@
--- What `cut` and `ends` begin with: the recipe, the inputs, and the stages before one. docs/reference/segments.md says the same for people.
+-- What `cut` and `ends` do first: load the recipe and the inputs, and run the stages before STAGE. docs/reference/segments.md says the same
+-- for people.
 use Rattle.std.specs.Prelude.{List, ℕ}
 use Rattle.command_plan.specs.Plan.{Plan}
 use Rattle.recipe_plan.specs.Recipes.{needs_apart, needs_inputs, needs_recipe}
@@ -6,7 +7,8 @@ use Rattle.stage_commands.specs.Earlier.{needs_earlier, needs_stage}
 use Rattle.stage_commands.specs.Names.{each_name, needs_other}
 use Rattle.stage_commands.specs.declared.ready.Ready.{Ready}
 
--- no state's name is to be RECIPE; the recipe and the stage; no state's name is to be an input; the inputs, and the stages before that one
+-- in this order: no state's name is RECIPE; loads the recipe and finds the stage; no state's name is an input; loads the inputs and runs
+-- the stages before STAGE
 unfoldable pub needs_ready : List ℕ → List ℕ → List ℕ → (Ready → Plan) → Plan
 needs_ready recipe stage prefix next =
     each_name (needs_other recipe) prefix 1_000 (λ _.

@@ -1,4 +1,5 @@
--- What texts of states say, as the commands print it: one answer for all bytes. docs/reference/segments.md says the same for people.
+-- States as read from their texts, for what the commands print: one answer for every text. docs/reference/segments.md says the same for
+-- people.
 use Rattle.std.specs.Prelude.{ℕ, ◌+◌, ◌-◌, ◌^◌, Option, None, Some, Result, Ok, Err, List, nat_le, nat_lt, unwrap_or, if◌then◌else◌}
 use Rattle.ddc_base.specs.Difference.{first_difference}
 use Rattle.save_format.specs.StateText.StateText.{StateText, parsed_state}
@@ -14,7 +15,8 @@ use Rattle.segments.specs.declared.answers.SegmentAnswer.TheVariants.{Yes, No}
 use Rattle.segments.specs.declared.answers.SegmentFault.{SegmentFault}
 use Rattle.segments.specs.declared.answers.SegmentFault.TheVariants.{From, To, NotLater, TooFar, EndsAt, Differs}
 
--- the state that a text says, or why it says none. The tests `is_in_range` and `is_joined` are the rules of texts (`laws::texts_are_read`)
+-- the state of a text, or why it is not a state. The tests `is_in_range` and `is_joined` are the rules of such texts
+-- (`laws::texts_are_read`)
 abbrev pub said_by : Result StateText ℕ → Result GuestState StateFault
 said_by (Err offset) = Err (Form offset)
 said_by (Ok said) = if is_in_range said then (if is_joined said then Ok (guest_of said) else Err FileRef) else Err Range
@@ -22,11 +24,11 @@ said_by (Ok said) = if is_in_range said then (if is_joined said then Ok (guest_o
 unfoldable pub state_said : List ℕ → Result GuestState StateFault
 state_said text = said_by (parsed_state text)
 
--- the state after so many steps that go on
+-- the state after so many steps, if the run does not end before
 abbrev pub state_after : GuestState → ℕ → GuestState
 state_after guest steps = unwrap_or (after guest steps) guest
 
--- whether the latter state is reached from the former by so many steps: the run ends before, another state is reached, or this one
+-- whether the latter state is reached from the former by so many steps: the run ends before, another state is reached, or the latter is
 abbrev pub unless_other : ℕ → Option ℕ → Result ℕ SegmentFault
 unless_other steps None = Ok steps
 unless_other steps (Some offset) = Err (Differs offset)
@@ -45,11 +47,11 @@ between_states (Err why) latter = Err (From why)
 between_states (Ok first) (Err why) = Err (To why)
 between_states (Ok first) (Ok last) = if nat_le last.steps first.steps then Err NotLater else along (last.steps - first.steps) first last
 
--- of how many steps two texts are a piece, or why they are none
+-- of how many steps two texts are a segment, or why they are not one
 unfoldable pub piece_of : List ℕ → List ℕ → Result ℕ SegmentFault
 piece_of from to = between_states (state_said from) (state_said to)
 
--- the first end of the run after a state, at a step up to the limit; or why the text says no state
+-- the first exit, trap or unknown call of the run after a state, at a step up to the limit; or why the text is not a state
 abbrev pub end_from : Result GuestState StateFault → ℕ → Result (Option (End × GuestState)) StateFault
 end_from (Err why) limit = Err why
 end_from (Ok guest) limit = Ok (first_end guest (limit - guest.steps))
@@ -57,7 +59,7 @@ end_from (Ok guest) limit = Ok (first_end guest (limit - guest.steps))
 unfoldable pub end_after : List ℕ → ℕ → Result (Option (End × GuestState)) StateFault
 end_after text limit = end_from (state_said text) limit
 
--- ---- what the two answers say of the bytes
+-- ---- the two answers in terms of the bytes
 
 abbrev pub ReadsAs : List ℕ → Result GuestState StateFault → Type 0
 ReadsAs text (Ok guest) = IsStateOf text guest

@@ -1,5 +1,5 @@
--- `step RECIPE STAGE`: the stages before one are run, and then lines are answered. docs/reference/command-line.md and docs/reference/step.md
--- say the same for people.
+-- `step RECIPE STAGE`: runs the stages before STAGE, and then answers lines about its program. docs/reference/command-line.md and
+-- docs/reference/step.md say the same for people.
 use Rattle.std.specs.Prelude.{ℕ, suc, Bool, ◌&&◌, Result, Ok, Err, List, [], ◌∷◌, length, slice_get, if◌then◌else◌}
 use Rattle.guest_run.specs.State.{GuestState}
 use Rattle.guest_run.specs.Start.{Refusal}
@@ -19,7 +19,7 @@ use Rattle.recipe_plan.specs.Recipes.{needs_inputs, needs_recipe}
 use Rattle.recipe_plan.specs.NotDone.{unfinished}
 use Rattle.stage_commands.specs.Earlier.{needs_earlier, needs_stage}
 
--- a session with a stage's program, where that starts
+-- a session with a stage's program, if that starts
 abbrev pub started_session : RecipeContents → Contents → Stage → Result GuestState Refusal → Result SessionState StartCause
 started_session recipe so_far stage (Ok start) = Ok (session_start (program_of recipe so_far stage) (box_of recipe so_far stage) stage.steps start)
 started_session recipe so_far stage (Err why) = Err (start_cause why)
@@ -27,13 +27,13 @@ started_session recipe so_far stage (Err why) = Err (start_cause why)
 abbrev pub session_of : RecipeContents → Contents → Stage → Result SessionState StartCause
 session_of recipe so_far stage = started_session recipe so_far stage (start_stage recipe so_far stage)
 
--- the stage after those that are done starts; a start that is refused is a run that failed at step 0
+-- starts the stage after the finished ones; a refused start is a run that failed at step 0
 abbrev pub needs_session : RecipeContents → List (List ℕ) → List Finished → (SessionState → Plan) → Plan
 needs_session recipe inputs done next =
     or_usage (slice_get recipe.stages (length done)) (λ stage.
     unless_refused (session_of recipe (contents inputs done) stage) (λ cause. unfinished recipe (suc (length done)) (Runs (Start cause) 0)) next)
 
--- the recipe, the stage, the inputs, the stages before that one, its start; then at most 65,536 lines are answered
+-- loads the recipe, finds the stage, loads the inputs, runs the stages before that one and starts it; then answers at most 65,536 lines
 unfoldable pub step_stage : List ℕ → List ℕ → Plan
 step_stage recipe stage =
     needs_recipe recipe (λ said.
@@ -43,7 +43,7 @@ step_stage recipe stage =
     needs_session said inputs done (λ session.
     talks (talk reply_to session 65_536))))))
 
--- the words after `step`: RECIPE can name a file, and STAGE has no zero byte
+-- the words after `step`: RECIPE is a file name, and STAGE has no zero byte
 abbrev pub are_step_words : List ℕ → List ℕ → Bool
 are_step_words recipe stage = is_file_word recipe && has_no_zero_byte stage
 

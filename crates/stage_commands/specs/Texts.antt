@@ -1,4 +1,4 @@
--- The printed lines of runs in pieces. docs/reference/command-line.md says the same for people.
+-- Lines that the commands on one stage print. docs/reference/command-line.md says the same for people.
 use Rattle.std.specs.Prelude.{ℕ, List, [], ◌∷◌, ◌++◌, codes, decimal, map}
 use Rattle.ddc_base.specs.Lines.{line}
 use Rattle.report.specs.Lines.{lines_text}
@@ -10,15 +10,15 @@ use Rattle.segments.specs.declared.answers.SegmentFault.TheVariants.{From, To, N
 use Rattle.report.specs.Marks.{mark_of}
 use Rattle.audit_rules.specs.declared.answer.Finished.{Finished}
 
--- so many states are saved of a run that ended at this step
+-- the line of a cut: how many states were saved, and the step at which the run ended
 unfoldable pub cut_line : ℕ → ℕ → List ℕ
 cut_line saved step = line (codes "cut" ∷ decimal saved ∷ codes "step" ∷ decimal step ∷ [])
 
--- as many states are saved as there may be
+-- the line where 1,000 states were saved and the run is not over
 unfoldable pub too_many_line : List ℕ
 too_many_line = line (codes "too" ∷ codes "many" ∷ codes "segments" ∷ [])
 
--- two texts are a piece of so many steps, or are none
+-- the line of a segment, by its number of steps, and of two texts that are not one
 unfoldable pub segment_line : ℕ → List ℕ
 segment_line steps = line (codes "segment" ∷ codes "yes" ∷ decimal steps ∷ [])
 
@@ -33,7 +33,8 @@ segment_words (Differs offset) = codes "differs" ∷ decimal offset ∷ []
 unfoldable pub refuted_segment_line : SegmentFault → List ℕ
 refuted_segment_line why = line (codes "refuted" ∷ codes "segment" ∷ segment_words why)
 
--- the first text says no state, or another one than the start's; the last text says none
+-- the lines of a first text that is not a state, of a first text that is another state than the start, and of a last text that is not a
+-- state
 unfoldable pub refuted_first_line : ℕ → List ℕ
 refuted_first_line number = line (codes "refuted" ∷ codes "first" ∷ decimal number ∷ [])
 
@@ -43,7 +44,7 @@ other_first_line offset = line (codes "refuted" ∷ codes "first" ∷ codes "dif
 unfoldable pub refuted_last_line : ℕ → List ℕ
 refuted_last_line number = line (codes "refuted" ∷ codes "last" ∷ decimal number ∷ [])
 
--- what a run did, as in a report's block of a stage, but for the line on its check
+-- what a run did, as in a report's block of a stage, without the line of its check
 abbrev pub run_record_lines : List ℕ → Finished → List ReportLine
 run_record_lines name f = (Stage name f.steps ∷ Stream1 f.stream1 ∷ Stream2 f.stream2 ∷ map Left f.left) ++ Made (mark_of f.made) ∷ []
 

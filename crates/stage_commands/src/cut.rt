@@ -1,4 +1,4 @@
-//! `cut RECIPE STAGE EVERY PREFIX`: states along a stage's run are saved.
+//! `cut RECIPE STAGE EVERY PREFIX`: saves states along a stage's run.
 
 ghost use Rattle.std.specs.Prelude.{◌≤◌, ◌<◌, ◌+◌, ◌^◌, map};
 ghost use Rattle.guest_run.specs.Run.{first_end};
@@ -33,7 +33,7 @@ use mem_files::Files;
 use recipe::Stage;
 use std::alloc::Global;
 
-/// Performs the command on the words after its name.
+/// `cut RECIPE STAGE EVERY PREFIX`: saves STAGE's states as PREFIX.0, PREFIX.1 and so on. Statuses 0, 2, 4, 6, 7, 10, 11, 13, 14.
 pub fn perform<S: Shelf>(alloc: Global, shelf: &mut S, words: &[&str]) -> Result<Answer, Stop>
     ensures { Performs (cut_plan (map (λ w. w.now) words.now)) (S.state shelf.old) (S.state shelf.new) result }
 {
@@ -43,7 +43,7 @@ pub fn perform<S: Shelf>(alloc: Global, shelf: &mut S, words: &[&str]) -> Result
     cut(alloc, shelf, &words)
 }
 
-/// The command on its words.
+/// Runs `cut` on its words.
 fn cut<S: Shelf>(alloc: Global, shelf: &mut S, words: &CutWords<'_>) -> Result<Answer, Stop>
     ensures { Performs (cut_files words.now.place.recipe words.now.place.stage words.now.spacing.every words.now.spacing.prefix)
         (S.state shelf.old) (S.state shelf.new) result }
@@ -52,7 +52,7 @@ fn cut<S: Shelf>(alloc: Global, shelf: &mut S, words: &CutWords<'_>) -> Result<A
     cut_ready(alloc, shelf, &ready, &words.spacing)
 }
 
-/// Cuts the stage after those that are done.
+/// Cuts the run of the stage after the finished ones.
 fn cut_ready<S: Shelf>(
     alloc: Global,
     shelf: &mut S,
@@ -89,7 +89,7 @@ fn cut_stage<S: Shelf>(
     }
 }
 
-/// Saves the present state of a stage's run, and then those along it.
+/// Saves the present state of a stage's run, and then those along the run, at most 1,000 in all.
 fn save_along<S: Shelf>(
     alloc: Global,
     shelf: &mut S,
@@ -115,7 +115,7 @@ fn save_along<S: Shelf>(
     })
 }
 
-/// Saves the present state under the name of a number.
+/// Saves the present state as PREFIX.K for the number K.
 fn save_state<S: Shelf>(
     alloc: Global,
     shelf: &mut S,
@@ -131,7 +131,7 @@ fn save_state<S: Shelf>(
     store(alloc, shelf, &FileName::of(name.as_str()), text.as_slice())
 }
 
-/// Takes the steps that follow so many saved states. None where the run goes on after them.
+/// Runs the stage by EVERY more steps, or up to its limit. `None` where the run is not over; otherwise the answer to its end.
 fn go_on(
     alloc: Global,
     stage: &Stage,

@@ -1,4 +1,4 @@
-//! The stages before one.
+//! Finds a stage and runs the stages before it.
 
 ghost use Rattle.std.specs.Prelude.{◌≡◌, ◌<◌, IfOk, IfSome, length};
 ghost use Rattle.ddc_base.specs.Outside.{ShelfState};
@@ -16,7 +16,7 @@ use recipe::{Inputs, Recipe};
 use recipe_plan::unfinished;
 use std::alloc::Global;
 
-/// How many stages come before the one of a name.
+/// The number of stages before the one of this name. Stops with a usage answer where no stage has the name.
 pub(crate) fn stages_before(
     alloc: Global,
     recipe: &Recipe,
@@ -31,7 +31,7 @@ pub(crate) fn stages_before(
     }
 }
 
-/// The index of the stage of a name.
+/// The index of the stage of a name, from 0; `None` where no stage has the name.
 fn stage_at(recipe: &Recipe, stage: &StageWord<'_>) -> Option<usize>
     ensures value { result ≡ stage_at recipe.now.stages stage.now }
     ensures index { IfSome result (λ index. index < length recipe.now.stages) }
@@ -44,7 +44,7 @@ fn stage_at(recipe: &Recipe, stage: &StageWord<'_>) -> Option<usize>
         .position(|stage| stage.name.bytes() == name)
 }
 
-/// Runs so many stages; one that is not done ends the command.
+/// Runs the first `count` stages. Stops with 6 or 7 at the first one that fails.
 pub(crate) fn run_before(
     alloc: Global,
     recipe: &Recipe,

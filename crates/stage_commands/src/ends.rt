@@ -1,4 +1,5 @@
-//! `ends RECIPE STAGE PREFIX COUNT`: whether the first saved state is that of the stage's start, and how the run after the last one ends.
+//! `ends RECIPE STAGE PREFIX COUNT`: checks that the first saved state is the stage's start, and reports how the run after the last one
+//! ends.
 
 ghost use Rattle.std.specs.Prelude.{◌≡◌, ◌≤◌, ◌<◌, ◌+◌, ◌-◌, ◌^◌, ℕ, Err, List, map};
 ghost use Rattle.audit_run.specs.Stage.Rules.{IsStageOf};
@@ -34,7 +35,7 @@ use recipe::Stage;
 use segments::{EndAnswer, StartAnswer, StartFault, StateFault, check_end, check_start};
 use std::alloc::Global;
 
-/// Performs the command on the words after its name.
+/// `ends RECIPE STAGE PREFIX COUNT`: checks both ends of COUNT saved states. Statuses 0, 1, 2, 4, 6, 7, 10, 11, 13.
 pub fn perform<S: Shelf>(alloc: Global, shelf: &mut S, words: &[&str]) -> Result<Answer, Stop>
     ensures { Performs (ends_plan (map (λ w. w.now) words.now)) (S.state shelf.old) (S.state shelf.new) result }
 {
@@ -44,7 +45,7 @@ pub fn perform<S: Shelf>(alloc: Global, shelf: &mut S, words: &[&str]) -> Result
     ends(alloc, shelf, &words)
 }
 
-/// The command on its words.
+/// Runs `ends` on its words.
 fn ends<S: Shelf>(alloc: Global, shelf: &mut S, words: &EndsWords<'_>) -> Result<Answer, Stop>
     ensures { Performs (ends_files words.now.place.recipe words.now.place.stage words.now.prefix words.now.states) (S.state shelf.old) (S.state shelf.new) result }
 {
@@ -52,7 +53,7 @@ fn ends<S: Shelf>(alloc: Global, shelf: &mut S, words: &EndsWords<'_>) -> Result
     judge_states(alloc, shelf, &ready, &words.prefix, words.states)
 }
 
-/// The command on what it begins with.
+/// Fetches the first and the last state, and judges both.
 fn judge_states<S: Shelf>(
     alloc: Global,
     shelf: &mut S,
@@ -70,7 +71,7 @@ fn judge_states<S: Shelf>(
     judge(alloc, ready, first.as_slice(), last.as_slice())
 }
 
-/// Judges both texts by the stage after those that are done.
+/// Judges both texts by the stage after the finished ones.
 fn judge(alloc: Global, ready: &Ready, first: &[u8], last: &[u8]) -> Result<Answer, Stop>
     requires { IsReady ready.now }
     ensures { Says (ends_judged ready.now first.now last.now) result }
@@ -102,7 +103,7 @@ fn judge_stage(
     judge_first(alloc, stage, found, last)
 }
 
-/// Judges the first text by what its check found, and then the last one.
+/// Judges the last text, or answers that the first one is refuted or the stage did not start.
 fn judge_first(
     alloc: Global,
     stage: &Stage,
@@ -123,7 +124,7 @@ fn judge_first(
     }
 }
 
-/// Why a program does not start, as a stage's cause.
+/// The cause in an audit's words why a program did not start.
 fn cause_of(why: StartFault) -> StartCause
     ensures { start_cause (start_refusal_of why) ≡ result }
 {
@@ -134,7 +135,7 @@ fn cause_of(why: StartFault) -> StartCause
     }
 }
 
-/// The answer to a first text that says no state.
+/// The answer to a first text that is not a state.
 fn refuted_first(alloc: Global, why: StateFault) -> Result<Answer, Stop>
     ensures { Says (answers Refuted (refuted_first_line (state_fault_number why))) result }
 {
@@ -144,7 +145,7 @@ fn refuted_first(alloc: Global, why: StateFault) -> Result<Answer, Stop>
     })
 }
 
-/// The answer to a first text that says another state than the start's.
+/// The answer to a first text that is another state than the start, by the first byte offset at which they differ.
 fn other_first(alloc: Global, offset: u64) -> Result<Answer, Stop>
     ensures { Says (answers Refuted (other_first_line offset)) result }
 {
@@ -154,7 +155,7 @@ fn other_first(alloc: Global, offset: u64) -> Result<Answer, Stop>
     })
 }
 
-/// Judges the last text, and tells what the run after it left.
+/// Judges the last text, and reports what the run after it left.
 fn judge_last(alloc: Global, stage: &Stage, last: &[u8]) -> Result<Answer, Stop>
     requires output { kept.IsOutput stage.now.output }
     requires few { stage.now.steps ≤ 2 ^ 48 }
@@ -168,7 +169,7 @@ fn judge_last(alloc: Global, stage: &Stage, last: &[u8]) -> Result<Answer, Stop>
     }
 }
 
-/// The answer to a last text that says no state.
+/// The answer to a last text that is not a state.
 fn refuted_last(alloc: Global, why: StateFault) -> Result<Answer, Stop>
     ensures { Says (answers Refuted (refuted_last_line (state_fault_number why))) result }
 {
@@ -178,7 +179,7 @@ fn refuted_last(alloc: Global, why: StateFault) -> Result<Answer, Stop>
     })
 }
 
-/// Tells the end of the run after the last state.
+/// Reports the end of the run after the last state.
 fn ended(
     alloc: Global,
     stage: &Stage,
@@ -201,7 +202,7 @@ fn ended(
     }
 }
 
-/// Tells an exit: what the run did, where it left the stage's output.
+/// Reports an exit: what the run did, if it left the stage's output, or else why it failed.
 fn exited(alloc: Global, stage: &Stage, exit: Exit, files: &Files) -> Result<Answer, Stop>
     requires { kept.IsOutput stage.now.output }
     ensures { Says (unless_refused (output_left stage.now exit.status files.now) (λ cause. run_failed stage.now cause exit.step)

@@ -12,7 +12,7 @@ use mem_files::Files;
 use recipe::Stage;
 use std::alloc::Global;
 
-/// What stands at the stage's output after an exit with a status, or why nothing does.
+/// The contents of the stage's output after an exit with this status, or why it left no output.
 pub(crate) fn output_left<'a>(
     stage: &Stage,
     status: u8,
@@ -30,7 +30,7 @@ pub(crate) fn output_left<'a>(
     }
 }
 
-/// The answer to a run that made nothing.
+/// The answer to a run that left no output: status 6, the cause and the step.
 pub(crate) fn run_failed(
     alloc: Global,
     stage: &Stage,

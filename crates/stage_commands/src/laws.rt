@@ -28,22 +28,23 @@ ghost use Rattle.segments.specs.declared.answers.SegmentFault.{SegmentFault};
 ghost use Rattle.segments.specs.declared.answers.StateFault.{StateFault};
 ghost use Rattle.stage_commands.specs.States.{ReadsAs, end_after, piece_answer, piece_of, state_said};
 
-/// What a text says as a state is what the rules of texts say.
+/// The state that is read from a text, or the reason why none is, follows the rules of such texts.
 pub fn texts_are_read()
     ensures { (text : List ℕ) → ReadsAs text (state_said text) }
 {}
 
-/// What is printed of two texts is what the check of a piece answers.
+/// What `segment` prints of two texts is what the check of a segment answers.
 pub fn pieces_are_reported()
     ensures { (from to : List ℕ) (result : Result ℕ SegmentFault) → ChecksPiece from to (piece_answer result) → piece_of from to ≡ result }
 {}
 
-/// What is printed of two texts of bytes is so: it is what the check of a piece may answer of them.
+/// What `segment` prints of two texts of bytes is true: it is an answer that the check of a segment may give.
 pub fn pieces_are_shown()
     ensures { (from to : List ℕ) → AreBytes from → AreBytes to → ChecksPiece from to (piece_answer (piece_of from to)) }
 {}
 
-/// What is said of a first text is so: `ends` goes on to the last one exactly where the bytes say the state in which the program starts.
+/// What `ends` prints of a first text is true: it judges the last text exactly where the first one is the state in which the program
+/// starts.
 pub fn firsts_are_reported()
     ensures reported { (stage : Stage) (program : List ℕ) (setting : Setting) (text : List ℕ) (next : Plan) → BeginsWith program setting text
         → needs_first stage (start_of program setting) (state_said text) next ≡ next }
@@ -51,14 +52,14 @@ pub fn firsts_are_reported()
         → ((next : Plan) → needs_first stage (start_of program setting) (state_said text) next ≡ next) → BeginsWith program setting text }
 {}
 
-/// What is said of the run after a last text is so, and nothing else that is so is said.
+/// What `ends` prints of the run after a last text is true, and nothing else would be.
 pub fn ends_are_reported()
     ensures reported { (text : List ℕ) (limit : ℕ) (result : Result (Option (End × GuestState)) StateFault) → EndShows text limit result → end_after text limit ≡ result }
     ensures shown { (text : List ℕ) (limit : ℕ) → EndShows text limit (end_after text limit) }
 {}
 
-/// `segment` that loads bytes comes to 0 only where the two names hold a piece, and always where they do and are words of two files, and says of
-/// how many steps it is.
+/// On files of bytes, `segment` returns 0 exactly where its two names are of two files that hold a segment, and then prints the segment's
+/// number of steps.
 pub fn segments_are_reported()
     ensures shown { (from to : List ℕ) (files : NamedFiles) → LoadsBytes (segment_plan (from ∷ to ∷ [])) files
         → (segment_over from to files).status ≡ Yes
@@ -76,8 +77,8 @@ pub fn checked_pieces_are_the_run()
         → AreChecked recipe stage prefix count files → IsRunReported recipe stage prefix files (ends_over recipe stage prefix count files) }
 {}
 
-/// The texts of two valid states of one run, of which the latter is reached from the former by some steps that go on, are told as a piece of
-/// so many steps: so `segment` answers 0 of any two neighbours that `cut` saved.
+/// The texts of two valid states of one run, below 2^64 steps, are a segment if the latter is reached from the former by 1 to 2^48 steps.
+/// So `segment` returns 0 for any two neighbours that `cut` saved.
 pub fn neighbours_are_pieces()
     ensures { (first last : GuestState) (steps : ℕ) → IsValid first → IsValid last → last.steps < 2 ^ 64 → 1 ≤ steps → steps ≤ 2 ^ 48
         → after first steps ≡ Some last → piece_of (second_text first) (second_text last) ≡ Ok steps }
@@ -92,8 +93,9 @@ pub fn cuts()
         → (cut_over recipe stage every prefix files).status ≡ Yes → IsRightCut recipe stage every prefix files (cut_over recipe stage every prefix files) }
 {}
 
-/// How a cut ends: where the stage is found and starts, the status and the text are told by the first end of its run within 1,000 times EVERY steps
-/// and its limit. 14 comes exactly where so many steps go on, below the limit.
+/// Where the stage is found and starts, the status and text of `cut` follow from the first exit, trap or unknown call within 1,000 times
+/// EVERY steps and the stage's limit. The status is 14 exactly where 1,000 times EVERY is below the limit and the run is not over after as
+/// many steps.
 pub fn cuts_end()
     ensures reported { (recipe stage every prefix : List ℕ) (files : NamedFiles) (start : CutStart recipe stage prefix files) (steps : ℕ) → as_steps every ≡ Some steps
         → IsTrue (are_stage_words recipe stage prefix)
@@ -104,9 +106,9 @@ pub fn cuts_end()
         ↔ ((first_end start.begun (1_000 * steps) ≡ None) × (1_000 * steps < start.named.steps)) }
 {}
 
-/// What `left` saves of a stage's output is the artefact: where the bench has the stage done, `left RECIPE STAGE FILE OUT`, with the FILE that asks for the
-/// output, comes to 0, saves what the bench made under OUT and changes no other name, and says its size, the exit with 0 and the step of the bench's
-/// record. A `left` with 0 has found the stage so.
+/// Where the audit's definition (`bench`) finishes a stage, `left` with the FILE of its output returns 0, saves the artefact under OUT and
+/// changes no other name. It prints the size, the exit with 0 and the recorded step. A `left` that returns 0 has found the stage and
+/// finished those before it.
 pub fn artefacts_are_left()
     ensures made { (recipe stage out : List ℕ) (files : NamedFiles) (run : LeftRun recipe stage out files) (f : Finished)
         → IsTrue (are_left_words recipe stage (output_word run.named.output) out)

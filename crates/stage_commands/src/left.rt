@@ -1,4 +1,4 @@
-//! `left RECIPE STAGE FILE OUT`: a stage's program is run, whatever it ends with, and what it left at one place is saved.
+//! `left RECIPE STAGE FILE OUT`: runs a stage, however it ends, and saves what it left at FILE.
 
 ghost use Rattle.std.specs.Prelude.{◌≡◌, ◌+◌, ◌≤◌, ◌^◌, ℕ, IfOk, List, Some, length, map, slice_get};
 ghost use Rattle.recipe.specs.Kept.{IsRecipe};
@@ -28,7 +28,7 @@ use recipe_plan::{about_stage, apart, fetch_recipe, unfinished};
 use std::alloc::Global;
 use tool_commands::guest_file::{Wanted, bytes_left_at};
 
-/// How a run ended: the cause, the step, and the files before it.
+/// How a run ended: the cause, the step, and the files then.
 #[derive(Drop)]
 struct RunLeft<'a> {
     cause: RunCause,
@@ -36,7 +36,7 @@ struct RunLeft<'a> {
     files: &'a Files,
 }
 
-/// Performs the command on the words after its name.
+/// `left RECIPE STAGE FILE OUT`: saves what STAGE left at FILE. Statuses 0, 2, 4, 6, 7, 10, 11, 13.
 pub fn perform<S: Shelf>(alloc: Global, shelf: &mut S, words: &[&str]) -> Result<Answer, Stop>
     ensures { Performs (left_plan (map (λ w. w.now) words.now)) (S.state shelf.old) (S.state shelf.new) result }
 {
@@ -46,7 +46,7 @@ pub fn perform<S: Shelf>(alloc: Global, shelf: &mut S, words: &[&str]) -> Result
     left(alloc, shelf, &words)
 }
 
-/// The command on its words.
+/// Runs `left` on its words.
 fn left<S: Shelf>(alloc: Global, shelf: &mut S, words: &LeftWords<'_>) -> Result<Answer, Stop>
     ensures { Performs (left_files words.now.place.recipe words.now.place.stage words.now.wanted.file words.now.wanted.out)
         (S.state shelf.old) (S.state shelf.new) result }
@@ -61,7 +61,7 @@ fn left<S: Shelf>(alloc: Global, shelf: &mut S, words: &LeftWords<'_>) -> Result
     run_after(alloc, shelf, &ready, &words.wanted)
 }
 
-/// The inputs of a recipe, none of which OUT is, and its stages before STAGE, which are run.
+/// Fetches a recipe's inputs, none of which is OUT, and runs the stages before STAGE.
 fn run_apart<S: Shelf>(
     alloc: Global,
     shelf: &mut S,
@@ -80,7 +80,7 @@ fn run_apart<S: Shelf>(
     run_stages(alloc, shelf, recipe, count)
 }
 
-/// Runs the stage after those that are done.
+/// Runs the stage after the finished ones.
 fn run_after<S: Shelf>(
     alloc: Global,
     shelf: &mut S,
@@ -96,7 +96,7 @@ fn run_after<S: Shelf>(
     }
 }
 
-/// Starts a stage and runs it; a start that is refused is said.
+/// Starts a stage and runs it; answers with 6 where it does not start.
 fn start<S: Shelf>(
     alloc: Global,
     shelf: &mut S,
@@ -121,7 +121,7 @@ fn start<S: Shelf>(
     }
 }
 
-/// Takes all steps of a stage, up to the end of its run, and saves what stands then.
+/// Runs a stage to its end, and saves what is left at FILE.
 fn run_out<S: Shelf>(
     alloc: Global,
     shelf: &mut S,
@@ -145,7 +145,7 @@ fn run_out<S: Shelf>(
     }
 }
 
-/// How a run of at most so many steps ends: the cause and the step.
+/// Runs at most `most` steps, from 1 to 2^48; returns the cause and the step of the end.
 #[tactic(auto, unfolding(crate::specs::Left::run_left))]
 fn end_of(guest: &mut Guest<RunRam>, most: u64) -> Result<(RunCause, u64), OutOfMemory>
     requires fresh { guest.old.steps ≡ 0 }
@@ -162,7 +162,7 @@ fn end_of(guest: &mut Guest<RunRam>, most: u64) -> Result<(RunCause, u64), OutOf
     }
 }
 
-/// Saves what was left at FILE, and says how the run ended; where nothing was, it saves nothing.
+/// Saves the bytes left at FILE, and answers how the run ended. Where nothing was left at FILE, it saves nothing.
 #[tactic(auto, unfolding(crate::specs::Left::ends_left))]
 fn save_left<S: Shelf>(
     alloc: Global,
@@ -190,7 +190,7 @@ fn save_left<S: Shelf>(
     }
 }
 
-/// The status where FILE was left.
+/// The status where FILE was left: 0 after an exit, 6 after any other end.
 fn left_status(cause: RunCause) -> Status
     ensures { result ≡ left_status cause }
 {
@@ -200,7 +200,7 @@ fn left_status(cause: RunCause) -> Status
     }
 }
 
-/// The status where it was not.
+/// The status where FILE was not left: 10 after an exit, 6 after any other end.
 fn absent_status(cause: RunCause) -> Status
     ensures { result ≡ absent_status cause }
 {
@@ -210,7 +210,7 @@ fn absent_status(cause: RunCause) -> Status
     }
 }
 
-/// FILE was left with so many bytes, and the run ended so.
+/// The line of what a stage left at FILE: its size in bytes, and the cause and step of the run's end.
 #[tactic(auto, using(crate::proofs::Written::written), unfolding(crate::specs::Left::file_left_line))]
 fn file_left_line(
     alloc: Global,
@@ -227,7 +227,7 @@ fn file_left_line(
     about_stage(alloc, b"left ", stage.bytes(), &following)
 }
 
-/// FILE was not left, and the run ended so.
+/// The line of a stage that left nothing at FILE, with the cause and step of the run's end.
 #[tactic(auto, using(crate::proofs::Written::written), unfolding(crate::specs::Left::none_left_line))]
 fn none_left_line(
     alloc: Global,

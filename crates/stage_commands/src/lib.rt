@@ -1,7 +1,7 @@
-//! The commands on the run of one stage: `step` shows what its program does, `left` what it left; `cut` saves states along the run, `segment`
-//! checks a piece between two of them, and `ends` the beginning of the first piece and the end of the last one.
+//! The commands on the run of one stage. `step` shows what its program does, and `left` what it left. `cut` saves states along the run,
+//! `segment` checks a segment between two of them, and `ends` the start of the first and the end of the last one.
 //!
-//! Their rules for people: docs/reference/command-line.md, docs/reference/step.md and docs/reference/segments.md.
+//! The rules for people are in docs/reference/command-line.md, docs/reference/step.md and docs/reference/segments.md.
 #![tactic(auto)]
 
 pub mod cut;

@@ -1,4 +1,4 @@
-//! The names of saved states, and words.
+//! File names of saved states, and the arguments that they come from.
 
 ghost use Rattle.std.specs.Prelude.{◌≡◌, ◌≤◌, ◌<◌, IfOk, IfSome, IsTrue, string_bytes};
 ghost use Rattle.ddc_base.specs.Outside.{ShelfState};
@@ -19,7 +19,7 @@ use std::alloc::Global;
 /// The most states of a cut.
 pub(crate) const MOST_STATES: u32 = 1_000;
 
-/// The most bytes of a state that is loaded. The text of every state has fewer.
+/// The most bytes of a state that are loaded. The text of every state is shorter.
 pub(crate) const STATE_LIMIT: u64 = 4_294_967_296;
 
 /// Whether PREFIX has 1 to 250 bytes, none of them zero.
@@ -29,7 +29,7 @@ pub(crate) fn is_prefix(prefix: &str) -> bool
     1 <= prefix.len() && prefix.len() <= 250 && has_no_zero_byte(prefix)
 }
 
-/// A number of states, from 1 to 1,000.
+/// Reads a number of states, from 1 to 1,000; `None` for all other words.
 #[tactic(auto, unfolding(crate::specs::Names::as_states))]
 pub(crate) fn states_of(word: &str) -> Option<u32>
     ensures value { result ≡ as_states word.now }
@@ -43,7 +43,7 @@ pub(crate) fn states_of(word: &str) -> Option<u32>
     }
 }
 
-/// The name of the state of a number.
+/// The name PREFIX.K of the state of a number K, below 1,000.
 pub(crate) fn piece_name(
     alloc: Global,
     prefix: &Prefix<'_>,
@@ -57,7 +57,7 @@ pub(crate) fn piece_name(
     Ok(format!(in alloc; "{prefix}.{number}")?)
 }
 
-/// Fetches the state of a number.
+/// Fetches the state of a number, below 1,000.
 pub(crate) fn fetch_state<S: Shelf>(
     alloc: Global,
     shelf: &mut S,
@@ -71,7 +71,7 @@ pub(crate) fn fetch_state<S: Shelf>(
     fetch(alloc, shelf, &FileName::of(name.as_str()), STATE_LIMIT)
 }
 
-/// Ends the command where the name of a state clashes with RECIPE.
+/// Stops with a usage answer where one of PREFIX.0 to PREFIX.999 names the same file as RECIPE.
 pub(crate) fn names_other(
     alloc: Global,
     file: &FileName<'_>,
@@ -86,7 +86,7 @@ pub(crate) fn names_other(
     Ok(())
 }
 
-/// Ends the command where two words stand for one file.
+/// Stops with a usage answer where two words name the same file.
 #[tactic(auto, unfolding(crate::specs::Names::needs_other))]
 fn other(alloc: Global, file: &FileName<'_>, name: &FileName<'_>) -> Result<(), Stop>
     ensures { (shelf : ShelfState) → Obtains (needs_other file.now name.now) shelf shelf result }
@@ -97,7 +97,7 @@ fn other(alloc: Global, file: &FileName<'_>, name: &FileName<'_>) -> Result<(), 
     Ok(())
 }
 
-/// Ends the command where the name of a state clashes with an input's path.
+/// Stops with a usage answer where one of PREFIX.0 to PREFIX.999 names the same file as an input.
 pub(crate) fn names_apart(alloc: Global, recipe: &Recipe, prefix: &Prefix<'_>) -> Result<(), Stop>
     ensures { (shelf : ShelfState) → Obtains (each_name (needs_apart recipe.now) prefix.now 1_000) shelf shelf result }
 {

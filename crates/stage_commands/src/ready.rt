@@ -1,4 +1,4 @@
-//! What the commands on one stage begin with.
+//! What the commands on one stage do first: load the recipe and inputs, and run the stages before it.
 
 ghost use Rattle.std.specs.Prelude.{◌≡◌, ◌<◌, ℕ, IfOk, IfSome, List, MatchOption, None, Some, length, slice_get};
 ghost use Rattle.audit_run.specs.Stage.Rules.{IsStageOf};
@@ -23,7 +23,7 @@ use recipe::{Inputs, Recipe, Stage};
 use recipe_plan::{fetch_inputs, fetch_recipe};
 use std::alloc::Global;
 
-/// A recipe, its inputs, and the stages before one.
+/// A recipe, its inputs, and the finished stages before one.
 #[derive(Drop)]
 pub(crate) struct Ready {
     pub(crate) recipe: Recipe,
@@ -51,7 +51,7 @@ pub(crate) fn make_ready<S: Shelf>(
     })
 }
 
-/// The inputs of a recipe, none of which a state's name is, and its stages before STAGE, which are run.
+/// Fetches a recipe's inputs, none of which has a state's name, and runs the stages before STAGE.
 fn run_apart<S: Shelf>(
     alloc: Global,
     shelf: &mut S,
@@ -70,7 +70,7 @@ fn run_apart<S: Shelf>(
     run_stages(alloc, shelf, recipe, count)
 }
 
-/// The inputs of a recipe, and so many of its stages, which are run.
+/// Fetches a recipe's inputs, and runs its first `count` stages.
 pub(crate) fn run_stages<S: Shelf>(
     alloc: Global,
     shelf: &mut S,
@@ -89,7 +89,7 @@ pub(crate) fn run_stages<S: Shelf>(
     Ok((inputs, done))
 }
 
-/// The stage after those that are done.
+/// The stage after the finished ones; `None` where there is no further one.
 pub(crate) fn stage_after(ready: &Ready) -> Option<&Stage>
     requires { IsReady ready.now }
     ensures there { MatchOption result (slice_get ready.now.recipe.stages (length ready.now.done) ≡ None)
@@ -99,7 +99,7 @@ pub(crate) fn stage_after(ready: &Ready) -> Option<&Stage>
     stage_at(&ready.recipe, ready.done.as_slice())
 }
 
-/// The same, over stages that are borrowed.
+/// As `stage_after`, for finished stages that are borrowed.
 fn stage_at<'a>(recipe: &'a Recipe, done: &[Done]) -> Option<&'a Stage>
     ensures there { MatchOption result (slice_get recipe.now.stages (length done.now) ≡ None)
         (λ stage. slice_get recipe.now.stages (length done.now) ≡ Some stage.now) }

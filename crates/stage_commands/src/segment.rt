@@ -1,4 +1,4 @@
-//! `segment FROM TO`: whether two texts are a piece of a run.
+//! `segment FROM TO`: checks that the state in TO is reached from that in FROM.
 
 ghost use Rattle.std.specs.Prelude.{map};
 ghost use Rattle.command_plan.specs.Performs.{Performs};
@@ -13,7 +13,7 @@ use ddc_base::Shelf;
 use segments::{SegmentAnswer, SegmentFault, check};
 use std::alloc::Global;
 
-/// Performs the command on the words after its name.
+/// `segment FROM TO`: checks a segment of a run. Statuses 0, 1, 2, 10, 11, 13.
 #[tactic(auto, using(command_plan::proofs::Performing::performing))]
 pub fn perform<S: Shelf>(alloc: Global, shelf: &mut S, words: &[&str]) -> Result<Answer, Stop>
     ensures { Performs (segment_plan (map (λ w. w.now) words.now)) (S.state shelf.old) (S.state shelf.new) result }
@@ -27,7 +27,7 @@ pub fn perform<S: Shelf>(alloc: Global, shelf: &mut S, words: &[&str]) -> Result
     segment(alloc, shelf, &from, &to)
 }
 
-/// The command on two files.
+/// Runs `segment` on two files.
 #[tactic(auto, using(command_plan::proofs::Performing::performing), unfolding(crate::specs::Segment::segment_files))]
 fn segment<S: Shelf>(
     alloc: Global,
@@ -42,7 +42,7 @@ fn segment<S: Shelf>(
     tell(alloc, former.as_slice(), latter.as_slice())
 }
 
-/// Whether two texts are a piece.
+/// The answer on two texts: of how many steps their segment is, or why they are not one.
 fn tell(alloc: Global, from: &[u8], to: &[u8]) -> Result<Answer, Stop>
     ensures { Says (piece_reported (piece_of from.now to.now)) result }
 {
@@ -56,7 +56,7 @@ fn tell(alloc: Global, from: &[u8], to: &[u8]) -> Result<Answer, Stop>
     }
 }
 
-/// The answer to two texts that are no piece.
+/// The answer to two texts that are not a segment.
 fn refuted(alloc: Global, why: SegmentFault) -> Result<Answer, Stop>
     ensures { Says (piece_reported (Err why)) result }
 {

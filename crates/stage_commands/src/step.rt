@@ -1,4 +1,4 @@
-//! `step RECIPE STAGE`: the stages before one are run, and then lines are answered.
+//! `step RECIPE STAGE`: runs the stages before STAGE, and then answers lines about its program.
 
 ghost use Rattle.std.specs.Prelude.{◌≡◌, ℕ, All, IfOk, List, map};
 ghost use Rattle.ddc_base.specs.Outside.{ShelfState};
@@ -36,7 +36,8 @@ use step_debug::Session;
 /// The most lines of a session.
 const MOST_LINES: u32 = 65_536;
 
-/// Performs the command on the words after its name: the lines of the prompt are answered, unless the command ends before.
+/// `step RECIPE STAGE`: answers lines of standard input about STAGE's program, unless a status ends the command before. Statuses 0, 2, 4,
+/// 6, 7, 10 to 13.
 pub fn perform<S: Shelf, K: Sink, P: Prompt>(
     alloc: Global,
     shelf: &mut S,
@@ -53,14 +54,14 @@ pub fn perform<S: Shelf, K: Sink, P: Prompt>(
     step(alloc, shelf, out, prompt, &words)
 }
 
-/// Words that are no command line of ddc.
+/// The answer to wrong arguments: usage.
 fn refuse(alloc: Global) -> Result<Result<(), PutFail>, Stop>
     ensures { (state : OutsideState) → PerformsTalk usage state state result }
 {
     Err(Stop::Answered(usage(alloc)?))
 }
 
-/// The command on its words.
+/// Runs `step` on its words.
 fn step<S: Shelf, K: Sink, P: Prompt>(
     alloc: Global,
     shelf: &mut S,
@@ -85,7 +86,7 @@ fn step<S: Shelf, K: Sink, P: Prompt>(
     )
 }
 
-/// The inputs of a recipe, and its stages before STAGE, which are run.
+/// Fetches a recipe's inputs, and runs the stages before STAGE.
 fn run_named<S: Shelf>(
     alloc: Global,
     shelf: &mut S,
@@ -103,7 +104,7 @@ fn run_named<S: Shelf>(
     run_stages(alloc, shelf, recipe, count)
 }
 
-/// Answers lines about the stage after those that are done.
+/// Answers lines about the stage after the finished ones.
 fn talk<K: Sink, P: Prompt>(
     alloc: Global,
     out: &mut K,
@@ -118,7 +119,7 @@ fn talk<K: Sink, P: Prompt>(
     Ok(converse(&mut session, MOST_LINES, prompt, out))
 }
 
-/// Starts the stage after those that are done; a start that is refused ends the command.
+/// Starts the stage after the finished ones. Stops with 6 where it does not start.
 fn start_session(alloc: Global, ready: &Ready) -> Result<Session<'_>, Stop>
     requires { IsReady ready.now }
     ensures { (shelf : ShelfState) → Obtains (needs_session ready.now.recipe ready.now.inputs ready.now.done) shelf shelf result }
@@ -131,7 +132,7 @@ fn start_session(alloc: Global, ready: &Ready) -> Result<Session<'_>, Stop>
     )
 }
 
-/// The same, over inputs and stages that are borrowed.
+/// As `start_session`, for inputs and finished stages that are borrowed.
 fn start_over<'a>(
     alloc: Global,
     recipe: &'a Recipe,
@@ -155,7 +156,7 @@ fn start_over<'a>(
     }
 }
 
-/// A session with a stage's program, or why that does not start.
+/// A session with a stage's program, or why the program did not start.
 fn open<'a>(
     alloc: Global,
     recipe: &'a Recipe,

@@ -1,4 +1,4 @@
-//! The lines that the commands print.
+//! Texts of the commands on one stage.
 
 ghost use Rattle.std.specs.Prelude.{◌≡◌, ◌++◌, IfOk, OnOk, string_bytes};
 ghost use Rattle.ddc_base.specs.Lines.{line};
@@ -14,7 +14,7 @@ use segments::SegmentFault;
 use std::alloc::Global;
 use tool_commands::run_texts::put_world;
 
-/// So many states are saved of a run that ended at this step.
+/// The line of a cut: how many states were saved, and the step at which the run ended.
 #[tactic(auto, unfolding(crate::specs::Texts::cut_line))]
 pub(crate) fn cut(alloc: Global, saved: u32, step: u64) -> Result<Bytes, OutOfMemory>
     ensures { IfOk result (λ text. text ≡ cut_line saved step) }
@@ -22,7 +22,7 @@ pub(crate) fn cut(alloc: Global, saved: u32, step: u64) -> Result<Bytes, OutOfMe
     Ok(Bytes::from_vec(format!(in alloc; "cut {saved} step {step}\n")?.into_bytes()))
 }
 
-/// As many states are saved as there may be.
+/// The line where 1,000 states were saved and the run is not over.
 #[tactic(auto, unfolding(crate::specs::Texts::too_many_line))]
 pub(crate) fn too_many(alloc: Global) -> Result<Bytes, OutOfMemory>
     ensures { IfOk result (λ text. text ≡ too_many_line) }
@@ -30,7 +30,7 @@ pub(crate) fn too_many(alloc: Global) -> Result<Bytes, OutOfMemory>
     Ok(Bytes::from_vec(format!(in alloc; "too many segments\n")?.into_bytes()))
 }
 
-/// Two texts are a piece of so many steps.
+/// The line of a segment: its number of steps.
 #[tactic(auto, unfolding(crate::specs::Texts::segment_line))]
 pub(crate) fn segment(alloc: Global, steps: u64) -> Result<Bytes, OutOfMemory>
     ensures { IfOk result (λ text. text ≡ segment_line steps) }
@@ -38,14 +38,14 @@ pub(crate) fn segment(alloc: Global, steps: u64) -> Result<Bytes, OutOfMemory>
     Ok(Bytes::from_vec(format!(in alloc; "segment yes {steps}\n")?.into_bytes()))
 }
 
-/// Two texts are no piece.
+/// The line of two texts that are not a segment.
 pub(crate) fn refuted_segment(alloc: Global, why: SegmentFault) -> Result<Bytes, OutOfMemory>
     ensures { IfOk result (λ text. text ≡ refuted_segment_line why) }
 {
     Ok(Bytes::from_vec(segment_fault(alloc, why)?.into_bytes()))
 }
 
-/// The line of a fault.
+/// The text of a segment's fault.
 #[tactic(auto, unfolding(crate::specs::Texts::refuted_segment_line))]
 fn segment_fault(alloc: Global, why: SegmentFault) -> Result<String, OutOfMemory>
     ensures { IfOk result (λ text. string_bytes text ≡ refuted_segment_line why) }
@@ -68,7 +68,7 @@ fn segment_fault(alloc: Global, why: SegmentFault) -> Result<String, OutOfMemory
     }
 }
 
-/// The first text says no state.
+/// The line of a first text that is not a state.
 #[tactic(auto, unfolding(crate::specs::Texts::refuted_first_line))]
 pub(crate) fn refuted_first(alloc: Global, number: u8) -> Result<Bytes, OutOfMemory>
     ensures { IfOk result (λ text. text ≡ refuted_first_line number) }
@@ -76,7 +76,7 @@ pub(crate) fn refuted_first(alloc: Global, number: u8) -> Result<Bytes, OutOfMem
     Ok(Bytes::from_vec(format!(in alloc; "refuted first {number}\n")?.into_bytes()))
 }
 
-/// The first text says another state than the start's.
+/// The line of a first text that is another state than the start.
 #[tactic(auto, unfolding(crate::specs::Texts::other_first_line))]
 pub(crate) fn other_first(alloc: Global, offset: u64) -> Result<Bytes, OutOfMemory>
     ensures { IfOk result (λ text. text ≡ other_first_line offset) }
@@ -84,7 +84,7 @@ pub(crate) fn other_first(alloc: Global, offset: u64) -> Result<Bytes, OutOfMemo
     Ok(Bytes::from_vec(format!(in alloc; "refuted first differs {offset}\n")?.into_bytes()))
 }
 
-/// The last text says no state.
+/// The line of a last text that is not a state.
 #[tactic(auto, unfolding(crate::specs::Texts::refuted_last_line))]
 pub(crate) fn refuted_last(alloc: Global, number: u8) -> Result<Bytes, OutOfMemory>
     ensures { IfOk result (λ text. text ≡ refuted_last_line number) }
@@ -92,7 +92,7 @@ pub(crate) fn refuted_last(alloc: Global, number: u8) -> Result<Bytes, OutOfMemo
     Ok(Bytes::from_vec(format!(in alloc; "refuted last {number}\n")?.into_bytes()))
 }
 
-/// What a run did, as a report's block says it: its steps, both streams, every file that is left, and the artefact.
+/// What a run did, as in a report: its steps, both streams, every file that was left, and the artefact.
 pub(crate) fn run(
     alloc: Global,
     name: &Name,
@@ -109,7 +109,7 @@ pub(crate) fn run(
     Ok(text)
 }
 
-/// The line of a stage's steps.
+/// Appends the line of a stage's steps.
 #[tactic(auto, using(crate::proofs::Written::written))]
 fn put_stage(text: &mut Bytes, name: &Name, steps: u64) -> Result<(), OutOfMemory>
     ensures { OnOk result (text.new ≡ text.old ++ line (line_words (Stage name.now steps))) }
@@ -121,7 +121,7 @@ fn put_stage(text: &mut Bytes, name: &Name, steps: u64) -> Result<(), OutOfMemor
     text.push(b'\n')
 }
 
-/// The line of what a stage made.
+/// Appends the line of a stage's artefact.
 #[tactic(auto, using(crate::proofs::Written::written))]
 fn put_made(text: &mut Bytes, made: &[u8]) -> Result<(), OutOfMemory>
     ensures { OnOk result (text.new ≡ text.old ++ line (line_words (Made (mark_of made.now)))) }

@@ -1,4 +1,4 @@
-//! The words of the commands on one stage, each set of them as one value.
+//! The arguments of the commands on one stage, one type for each set of them.
 
 ghost use Rattle.std.specs.Prelude.{◌≡◌, ◌≤◌, IsTrue, map};
 ghost use Rattle.stage_commands.specs.Inside.Words.{as_prefix, as_stage_word, cut_words, ends_words, left_words, named_left, named_stage, stage_words};
@@ -10,7 +10,7 @@ use command_plan::{FileName, StepCount, two_files};
 use std::marker::Model;
 use tool_commands::guest_file::{GuestFile, Wanted};
 
-/// A word without a zero byte, by which a stage is looked for. Contracts see its bytes.
+/// STAGE: a word without a zero byte. Contracts see its bytes.
 #[derive(Drop)]
 pub(crate) struct StageWord<'w> {
     text: &'w str,
@@ -28,7 +28,7 @@ impl<'w> Model for StageWord<'w> {
 }
 
 impl<'w> StageWord<'w> {
-    /// The word as one that looks for a stage, and `None` for every other word.
+    /// Reads a word as STAGE; `None` where it has a zero byte.
     pub(crate) fn read(word: &'w str) -> Option<StageWord<'w>>
         ensures { result ≡ as_stage_word word.now }
     {
@@ -47,7 +47,7 @@ impl<'w> StageWord<'w> {
     }
 }
 
-/// The beginning of the names of states: 1 to 250 bytes, none of them zero, which contracts see.
+/// PREFIX, with which the names of states begin: 1 to 250 bytes, none of them zero. Contracts see the bytes.
 #[derive(Drop)]
 pub(crate) struct Prefix<'w> {
     text: &'w str,
@@ -65,7 +65,7 @@ impl<'w> Model for Prefix<'w> {
 }
 
 impl<'w> Prefix<'w> {
-    /// The word as a prefix, and `None` for every other word.
+    /// Reads a word as PREFIX; `None` for all other words.
     pub(crate) fn read(word: &'w str) -> Option<Prefix<'w>>
         ensures { result ≡ as_prefix word.now }
     {
@@ -85,7 +85,7 @@ impl<'w> Prefix<'w> {
     }
 }
 
-/// A number of states, from 1 to 1,000, which contracts see as this number.
+/// A number of states, from 1 to 1,000, both included. Contracts see the number.
 #[derive(Clone, Copy)]
 pub(crate) struct StateCount {
     count: u32,
@@ -104,7 +104,7 @@ impl Model for StateCount {
 }
 
 impl StateCount {
-    /// The number of states that a word is, and `None` for every other word.
+    /// Reads a number of states; `None` for all other words.
     pub(crate) fn read(word: &str) -> Option<StateCount>
         ensures { result ≡ as_states word.now }
     {
@@ -122,7 +122,7 @@ impl StateCount {
     }
 }
 
-/// A recipe, and the name of one of its stages.
+/// The arguments of `step`: a recipe, and the name of one of its stages.
 #[derive(Drop)]
 pub(crate) struct StageWords<'w> {
     pub recipe: FileName<'w>,
@@ -130,7 +130,7 @@ pub(crate) struct StageWords<'w> {
 }
 
 impl<'w> StageWords<'w> {
-    /// The words `RECIPE STAGE`, and `None` for every other.
+    /// Reads the arguments `RECIPE STAGE`; `None` for all others.
     pub(crate) fn read(words: &[&'w str]) -> Option<StageWords<'w>>
         ensures { result ≡ stage_words (map (λ w. w.now) words.now) }
     {
@@ -140,7 +140,7 @@ impl<'w> StageWords<'w> {
         StageWords::of(recipe, stage)
     }
 
-    /// Both words, where they are such.
+    /// Reads RECIPE and STAGE; `None` where one of them is not valid.
     fn of(recipe: &'w str, stage: &'w str) -> Option<StageWords<'w>>
         ensures { result ≡ named_stage recipe.now stage.now }
     {
@@ -150,7 +150,7 @@ impl<'w> StageWords<'w> {
     }
 }
 
-/// A stage of a recipe, and what is asked for of what its program left.
+/// The arguments of `left`: a stage of a recipe, and FILE and OUT.
 #[derive(Drop)]
 pub(crate) struct LeftWords<'w> {
     pub place: StageWords<'w>,
@@ -158,7 +158,7 @@ pub(crate) struct LeftWords<'w> {
 }
 
 impl<'w> LeftWords<'w> {
-    /// The words `RECIPE STAGE FILE OUT`, and `None` for every other.
+    /// Reads the arguments `RECIPE STAGE FILE OUT`; `None` for all others.
     pub(crate) fn read(words: &[&'w str]) -> Option<LeftWords<'w>>
         ensures { result ≡ left_words (map (λ w. w.now) words.now) }
     {
@@ -168,7 +168,7 @@ impl<'w> LeftWords<'w> {
         LeftWords::of(recipe, stage, file, out)
     }
 
-    /// All four words, where they are such.
+    /// Reads RECIPE, STAGE, FILE and OUT; `None` where one of them is not valid.
     #[tactic(auto, unfolding(crate::specs::Inside::Words::named_left))]
     fn of(recipe: &'w str, stage: &'w str, file: &'w str, out: &'w str) -> Option<LeftWords<'w>>
         ensures { result ≡ named_left recipe.now stage.now file.now out.now }
@@ -182,14 +182,14 @@ impl<'w> LeftWords<'w> {
     }
 }
 
-/// How far states of a run are apart, and how their names begin.
+/// EVERY, the steps between two saved states, and PREFIX, the beginning of their names.
 #[derive(Drop)]
 pub(crate) struct Spacing<'w> {
     pub every: StepCount,
     pub prefix: Prefix<'w>,
 }
 
-/// A stage of a recipe, and the states that are saved along its run.
+/// The arguments of `cut`: a stage of a recipe, and EVERY and PREFIX.
 #[derive(Drop)]
 pub(crate) struct CutWords<'w> {
     pub place: StageWords<'w>,
@@ -197,7 +197,7 @@ pub(crate) struct CutWords<'w> {
 }
 
 impl<'w> CutWords<'w> {
-    /// The words `RECIPE STAGE EVERY PREFIX`, and `None` for every other.
+    /// Reads the arguments `RECIPE STAGE EVERY PREFIX`; `None` for all others.
     pub(crate) fn read(words: &[&'w str]) -> Option<CutWords<'w>>
         ensures { result ≡ cut_words (map (λ w. w.now) words.now) }
     {
@@ -212,7 +212,7 @@ impl<'w> CutWords<'w> {
     }
 }
 
-/// A stage of a recipe, how the names of its states begin, and how many there are.
+/// The arguments of `ends`: a stage of a recipe, the beginning of its states' names, and their number.
 #[derive(Drop)]
 pub(crate) struct EndsWords<'w> {
     pub place: StageWords<'w>,
@@ -221,7 +221,7 @@ pub(crate) struct EndsWords<'w> {
 }
 
 impl<'w> EndsWords<'w> {
-    /// The words `RECIPE STAGE PREFIX COUNT`, and `None` for every other.
+    /// Reads the arguments `RECIPE STAGE PREFIX COUNT`; `None` for all others.
     pub(crate) fn read(words: &[&'w str]) -> Option<EndsWords<'w>>
         ensures { result ≡ ends_words (map (λ w. w.now) words.now) }
     {

@@ -1,4 +1,4 @@
--- `asm LANG BASE SOURCE OUT`: what a source comes to is saved. docs/reference/command-line.md says the same for people.
+-- `asm LANG BASE SOURCE OUT`: saves the value of a source. docs/reference/command-line.md says the same for people.
 use Rattle.std.specs.Prelude.{ℕ, ◌^◌, nat_le, Option, Some, None, List, [], ◌∷◌, length, codes, decimal, if◌then◌else◌}
 use Rattle.ddc_base.specs.Decimals.{as_decimal}
 use Rattle.ddc_base.specs.Lines.{line}
@@ -16,15 +16,15 @@ use Rattle.command_plan.specs.declared.status.Status.TheVariants.{Yes, CheckFail
 use Rattle.command_plan.specs.Words.{are_two_files, or_usage, usage}
 use Rattle.command_plan.specs.Plan.{Plan, answers, needs, sets, unless_refused}
 
--- the value has this length, and is saved
+-- the line of a saved value, by its length in bytes
 unfoldable pub made_line : ℕ → List ℕ
 made_line size = line (codes "made" ∷ decimal size ∷ [])
 
--- the source is refused, by this number and at this place
+-- the line of a refused source, by the refusal's number and its place
 unfoldable pub refused_line : ℕ → ℕ → List ℕ
 refused_line number place = line (codes "refused" ∷ decimal number ∷ decimal place ∷ [])
 
--- a base, from 0 to 2 ^ 37
+-- a base, from 0 to 2 ^ 37, both included
 abbrev pub within_bases : Option ℕ → Option ℕ
 within_bases None = None
 within_bases (Some base) = if nat_le base (2 ^ 37) then Some base else None
@@ -43,21 +43,21 @@ needs_items source next =
     unless_refused (expansion_of source) (λ refusal. answers CheckFailed (refused_line (m1_refusal_number refusal) (m1_refusal_place refusal)))
     (λ items. next (items_text items))
 
--- what a source comes to in a language, at a base, which hex0 and M1 don't know
+-- the value of a source in a language at a base, or of an M1 source the text of its items; hex0 and M1 do not use the base
 abbrev pub needs_made : Language → ℕ → List ℕ → (List ℕ → Plan) → Plan
 needs_made Hex0 base source = needs_value hex.Hex0 base source
 needs_made Hex1 base source = needs_value hex.Hex1 base source
 needs_made Hex2 base source = needs_value hex.Hex2 base source
 needs_made M1 base source = needs_items source
 
--- the source, of at most 268,435,456 bytes, and what it comes to, which is saved
+-- loads the source, of at most 268,435,456 bytes, and saves its value
 unfoldable pub asm_files : Language → ℕ → List ℕ → List ℕ → Plan
 asm_files language base source out =
     needs source 268_435_456 (λ text.
     needs_made language base text (λ made.
     sets out made (answers Yes (made_line (length made)))))
 
--- the words after `asm`
+-- the plan for the words after `asm`
 abbrev pub asm_plan : List (List ℕ) → Plan
 asm_plan (language ∷ base ∷ source ∷ out ∷ []) =
     or_usage (language_named language) (λ named.

@@ -7,19 +7,19 @@ use Rattle.command_plan.specs.Texts.{equal_line, differs_line}
 use Rattle.command_plan.specs.Words.{is_file_word, usage}
 use Rattle.command_plan.specs.Plan.{Plan, answers, needs}
 
--- how two byte lists compare: the first offset at which they differ, if there is one
+-- the answer by the first offset at which two byte lists differ, if there is one
 abbrev pub comparison : List ℕ → List ℕ → Option ℕ → Plan
 comparison first second None = answers Yes (equal_line (length first))
 comparison first second (Some offset) = answers Differs (differs_line offset (length first) (length second))
 
--- the source and then the binary, each of at most 268,435,456 bytes, and then how the source's value and the binary compare
+-- loads the source and then the binary, each of at most 268,435,456 bytes, and compares the source's value with the binary
 unfoldable pub hex0_files : List ℕ → List ℕ → Plan
 hex0_files source binary =
     needs source 268_435_456 (λ text.
     needs binary 268_435_456 (λ bytes.
     comparison (hex0_of text) bytes (first_difference (hex0_of text) bytes)))
 
--- the words after `hex0`
+-- the plan for the words after `hex0`
 abbrev pub hex0_plan : List (List ℕ) → Plan
 hex0_plan (source ∷ binary ∷ []) = if is_file_word source && is_file_word binary then hex0_files source binary else usage
 hex0_plan _ = usage

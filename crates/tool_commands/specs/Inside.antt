@@ -1,4 +1,4 @@
--- What serves the split of the code. No promise rests on its being read.
+-- Definitions that serve the split of the code. No promise depends on them.
 pub mod Refusing
 pub mod Placing
 pub mod Listing

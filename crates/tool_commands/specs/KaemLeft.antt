@@ -1,5 +1,5 @@
--- `kaem-left SCRIPT LIST STEPS COMMAND FILE OUT`: the commands of a script are run over listed files up to one of them, whatever that ends with,
--- and what it left at one place is saved. docs/reference/command-line.md and docs/reference/kaem.md say the same for people.
+-- `kaem-left SCRIPT LIST STEPS COMMAND FILE OUT`: runs the commands of a script up to one of them, however it ends, and saves what it left
+-- at FILE. docs/reference/command-line.md and docs/reference/kaem.md say the same for people.
 use Rattle.std.specs.Prelude.{ℕ, ◌-◌, nat_le, ◌&&◌, if◌then◌else◌, Option, None, Some, Ok, Err, List, [], ◌∷◌, codes, decimal, length, slice_get, take}
 use Rattle.ddc_base.specs.Decimals.{as_decimal}
 use Rattle.ddc_base.specs.Lines.{line}
@@ -18,9 +18,9 @@ use Rattle.tool_commands.specs.Scripts.{file_line, needs_files, needs_script, ne
 use Rattle.tool_commands.specs.ScriptTexts.{command_cause_text, command_failed_line}
 use Rattle.tool_commands.specs.declared.words.KaemLeftWords.{KaemLeftWords}
 
--- ---- what is answered
+-- ---- the answers
 
--- an exit answers the question with any status, and no other end does
+-- an exit with any status is a yes; every other end is not
 abbrev pub command_left_status : CommandCause → Status
 command_left_status (cause.Status status) = Yes
 command_left_status _ = RunFailed
@@ -29,7 +29,7 @@ abbrev pub command_absent_status : CommandCause → Status
 command_absent_status (cause.Status status) = FileRefused
 command_absent_status _ = RunFailed
 
--- how the run of the command of this number ended, after what it left, or did not leave
+-- how the run of this command ended, where it left FILE, and where it did not
 unfoldable pub command_left_line : ℕ → List ℕ → ℕ → CommandCause → ℕ → List ℕ
 command_left_line number file size why step =
     line (codes "left" ∷ decimal number ∷ file ∷ decimal size ∷ command_cause_text why ∷ step_words step)
@@ -38,7 +38,7 @@ unfoldable pub command_none_left_line : ℕ → List ℕ → CommandCause → �
 command_none_left_line number file why step =
     line (codes "not" ∷ codes "left" ∷ decimal number ∷ file ∷ command_cause_text why ∷ step_words step)
 
--- what stands there is saved, and then the end is said; where nothing does, nothing is saved
+-- saves what was left at FILE and answers with the end; where nothing was left, saves nothing
 abbrev pub saved_by : ℕ → List ℕ → List ℕ → CommandLeft → Option (List ℕ) → Plan
 saved_by number file out left (Some content) =
     sets out content (answers (command_left_status left.cause) (command_left_line number file (length content) left.cause left.step))
@@ -47,14 +47,14 @@ saved_by number file out left None = answers (command_absent_status left.cause) 
 unfoldable pub command_saved_left : ℕ → List ℕ → List ℕ → CommandLeft → Plan
 command_saved_left number file out left = saved_by number file out left (bytes_left_at left.files file)
 
--- the command left something, or a command stopped the script: an earlier one, or this one, whose program does not start
+-- the command left something, or a command stopped the script: an earlier one, or this one because its program did not start
 abbrev pub command_left_plan : ℕ → List ℕ → List ℕ → LeftResult → Plan
 command_left_plan number file out (Ok left) = command_saved_left number file out left
 command_left_plan number file out (Err stop) = answers RunFailed (command_failed_line stop.0 stop.1 stop.2)
 
--- ---- the words
+-- ---- the arguments
 
--- a number of a command, from 1 to 4,096
+-- the number of a command, from 1 to 4,096, both included
 abbrev pub within_commands : Option ℕ → Option ℕ
 within_commands None = None
 within_commands (Some number) = if nat_le 1 number && nat_le number 4_096 then Some number else None
@@ -62,7 +62,7 @@ within_commands (Some number) = if nat_le 1 number && nat_le number 4_096 then S
 unfoldable pub as_command_number : List ℕ → Option ℕ
 as_command_number word = within_commands (as_decimal word)
 
--- SCRIPT, LIST and OUT can name three files, and FILE can be asked for
+-- SCRIPT, LIST and OUT name three files, and FILE is a guest's file or a stream
 abbrev pub kaem_left_of : Option (List ℕ × List ℕ × List ℕ) → Option ℕ → Option ℕ → Option (List ℕ) → Option KaemLeftWords
 kaem_left_of (Some files) (Some steps) (Some number) (Some file) =
     Some (record { script = files.0; list = files.1; steps = steps; command = number; wanted = record { file = file; out = files.2 } })
@@ -73,7 +73,8 @@ kaem_left_words (script ∷ list ∷ steps ∷ command ∷ file ∷ out ∷ []) 
     kaem_left_of (as_three_files script list out) (as_steps steps) (as_command_number command) (as_guest_file file)
 kaem_left_words _ = None
 
--- the script, which has such a command, the list, of which none stands for OUT, and the files; then the commands up to that one
+-- loads the script, which has such a command, the list, none of whose words names the same file as OUT, and the files; then runs the
+-- commands up to that one
 abbrev pub kaem_left_files : KaemLeftWords → Plan
 kaem_left_files words =
     needs_script words.script (λ said.
@@ -84,6 +85,6 @@ kaem_left_files words =
     command_left_plan words.command words.wanted.file words.wanted.out
     (left_of_command words.steps listed.world (take (words.command - 1) said.commands) command))))))
 
--- the words after `kaem-left`
+-- the plan for the words after `kaem-left`
 abbrev pub kaem_left_plan : List (List ℕ) → Plan
 kaem_left_plan words = or_usage (kaem_left_words words) kaem_left_files

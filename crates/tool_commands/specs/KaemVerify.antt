@@ -1,5 +1,5 @@
--- `kaem-verify SCRIPT LIST REPORT`: whether every word of a script's report is true, by a replay of each command.
--- docs/reference/command-line.md and docs/reference/kaem.md say the same for people.
+-- `kaem-verify SCRIPT LIST REPORT`: judges every statement of a script's report by a replay of each command. docs/reference/command-line.md
+-- and docs/reference/kaem.md say the same for people.
 use Rattle.std.specs.Prelude.{ℕ, Option, None, Some, List, [], ◌∷◌, length, if◌then◌else◌}
 use Rattle.report.specs.Script.Reading.{script_report_of}
 use Rattle.report.specs.declared.script.types.ScriptReport.{ScriptReport}
@@ -12,24 +12,24 @@ use Rattle.command_plan.specs.Words.{are_three_files, usage}
 use Rattle.tool_commands.specs.Scripts.{needs_files, needs_script_and_list}
 use Rattle.tool_commands.specs.ScriptTexts.{commands_true_line, script_refuted_line}
 
--- the report is needed, of at most 1,073,741,824 bytes, and read
+-- loads the report, of at most 1,073,741,824 bytes, and reads it
 abbrev pub needs_script_report : List ℕ → (ScriptReport → Plan) → Plan
 needs_script_report file next =
     needs file 1_073_741_824 (λ text. unless_refused (script_report_of text) (λ number. answers ReportRefused (report_line number)) next)
 
--- a report without a fault, of a script of so many commands; or its first fault
+-- the answer for a report without a fault, of a script of so many commands, or for its first fault
 abbrev pub script_verdict_plan : ℕ → Option (ScriptPart × ℕ) → Plan
 script_verdict_plan commands None = answers Yes (commands_true_line commands)
 script_verdict_plan commands (Some (part, place)) = answers Refuted (script_refuted_line part place)
 
--- the script and the list, the report, the files, and then the judgement
+-- loads the script, the list, the report and the files, and then judges the report
 unfoldable pub kaem_verify_files : List ℕ → List ℕ → List ℕ → Plan
 kaem_verify_files script list report =
     needs_script_and_list script list report (λ said words.
     needs_script_report report (λ made.
     needs_files words (λ listed. script_verdict_plan (length said.commands) (first_script_fault said listed made))))
 
--- the words after `kaem-verify`
+-- the plan for the words after `kaem-verify`
 abbrev pub kaem_verify_plan : List (List ℕ) → Plan
 kaem_verify_plan (script ∷ list ∷ report ∷ []) = if are_three_files script list report then kaem_verify_files script list report else usage
 kaem_verify_plan _ = usage

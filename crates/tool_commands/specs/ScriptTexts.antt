@@ -18,11 +18,11 @@ script_fault_number LongWord = 3
 script_fault_number TooManyWords = 4
 script_fault_number TooMany = 5
 
--- a file is no script: its first fault, and the offset of the word
+-- the line of a file that is not a script: its first fault, and the byte offset of the word
 unfoldable pub script_line : ScriptFault → ℕ → List ℕ
 script_line fault offset = line (codes "script" ∷ codes "refused" ∷ decimal (script_fault_number fault) ∷ decimal offset ∷ [])
 
--- all commands ran: how many, and how many steps they took together
+-- the line where all commands ran: their number and their steps together
 unfoldable pub done_line : ℕ → ℕ → List ℕ
 done_line commands steps = line (codes "done" ∷ decimal commands ∷ codes "steps" ∷ decimal steps ∷ [])
 
@@ -35,12 +35,12 @@ command_cause_text (Call number) = call_text number
 command_cause_text (Status status) = status_text status
 command_cause_text Spent = spent_text
 
--- the command of this number stopped the script, at this step
+-- the line of the command that stopped the script: its number, the cause and the step
 unfoldable pub command_failed_line : ℕ → CommandCause → ℕ → List ℕ
 command_failed_line number cause step =
     line (codes "run" ∷ codes "failed" ∷ decimal number ∷ command_cause_text cause ∷ step_words step)
 
--- every word of a report is true, which has so many commands; or the first part that is not, with its place
+-- the line of a true report, by the number of its commands; the line of a false one, by its first false part and the place of that part
 unfoldable pub commands_true_line : ℕ → List ℕ
 commands_true_line commands = line (codes "yes" ∷ decimal commands ∷ [])
 

@@ -1,4 +1,5 @@
--- What the place of an item is: the offset of the token from which the reader forms the item. docs/reference/command-line.md says the same for people.
+-- What the place of an item is: the offset of the token from which the reader forms the item. docs/reference/command-line.md says the same
+-- for people.
 use Rattle.std.specs.Prelude.{◌≡◌, ℕ, zero, suc, ◌+◌, ◌<◌, ◌≤◌, Option, None, Ok, List, length}
 use Rattle.hex_langs.specs.declared.items.item.Item.{Item}
 use Rattle.hex_langs.specs.declared.items.token.Dialect.{Dialect}
@@ -16,8 +17,8 @@ after_tokens (suc count) NoToken = NoToken
 after_tokens (suc count) (Faulty why at) = Faulty why at
 after_tokens (suc count) (Then at token later) = after_tokens count later
 
--- some tokens form the items before, and the next one, at an offset, forms the items among which that of an index from 0 is; the place is this
--- offset, or that of the first token of the word that the next one completes. `done` items are formed already.
+-- The first `count` tokens form the items before. The next token, at offset `at`, forms the items that include the one of this index, from
+-- 0. The place is `at`, or the offset of the first token of the word that this token completes. `done` items were formed already.
 pub record IsFormedAt (index done : ℕ) (begun : Option Open) (tokens : Reading TokenFault) (place : ℕ) : Type 0 where
   pub count : ℕ
   pub at : ℕ
@@ -34,6 +35,6 @@ pub record IsFormedAt (index done : ℕ) (begun : Option Open) (tokens : Reading
   pub high : index < done + length before + length made
   pub place_is : place ≡ first_offset word at
 
--- a place is that of the item of an index in a source
+-- this offset is the place of the item of this index in a source
 abbrev pub IsPlaceOf : Dialect → List ℕ → ℕ → ℕ → Type 0
 IsPlaceOf dialect source index place = IsFormedAt index 0 None (reading dialect 0 0 source) place

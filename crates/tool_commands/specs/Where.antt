@@ -1,5 +1,5 @@
--- `where LANG SOURCE NUMBER PLACE`: the line, the column and the word of a refusal of a source. docs/reference/command-line.md says the same for
--- people.
+-- `where LANG SOURCE NUMBER PLACE`: the line, the column and the word at which a refusal of a source stands. docs/reference/command-line.md
+-- says the same for people.
 use Rattle.std.specs.Prelude.{ℕ, Bool, ◌&&◌, ◌==◌, nat_le, nat_lt, if◌then◌else◌, Option, None, Some, List, [], ◌∷◌, codes, decimal, drop, length, take}
 use Rattle.ddc_base.specs.Decimals.{as_decimal}
 use Rattle.ddc_base.specs.Languages.Words.{language_named}
@@ -16,29 +16,29 @@ use Rattle.tool_commands.specs.declared.refusal_place.WhereWords.{WhereWords}
 use Rattle.tool_commands.specs.ShownWords.{shown_word}
 use Rattle.tool_commands.specs.Places.{front_word, place_of_item, spot_after}
 
--- ---- the place of a refusal
+-- ---- the byte offset of a refusal
 
--- in hex1 and hex2 the refusals of this number hold the number of an item, and all others an offset
+-- in hex1 and hex2 the refusals of these numbers hold an item number, and all others a byte offset
 abbrev pub is_of_item : ℕ → Bool
 is_of_item number = nat_le 4 number && nat_le number 6
 
 abbrev pub linked_place : Dialect → List ℕ → ℕ → ℕ → Option ℕ
 linked_place dialect text number place = if is_of_item number then place_of_item dialect text place else Some place
 
--- the offset that a refusal of this place has in a text, by its number up to 6
+-- the byte offset of a refusal in a text, by its number, at most 6, and its place
 abbrev pub place_in : Language → List ℕ → ℕ → ℕ → Option ℕ
 place_in Hex0 text number place = Some place
 place_in Hex1 text number place = linked_place dialect.Hex1 text number place
 place_in Hex2 text number place = linked_place dialect.Hex2 text number place
 place_in M1 text number place = Some place
 
--- a text that is too long, which is number 7, is refused at no place
+-- a text that is too long, number 7, is refused at no byte offset
 abbrev pub refusal_place : Language → List ℕ → ℕ → ℕ → Option ℕ
 refusal_place language text number place = if number == 7 then None else place_in language text number place
 
--- ---- what is said
+-- ---- the answer
 
--- the line and the column, from 1, and the word there as it is shown
+-- the line and the column, both from 1, and the word there as it is printed
 unfoldable pub spot_line : Spot → List ℕ → List ℕ
 spot_line spot word = line (codes "line" ∷ decimal spot.line ∷ codes "column" ∷ decimal spot.column ∷ codes "word" ∷ shown_word word ∷ [])
 
@@ -50,7 +50,7 @@ located text None = answers Refuted no_place_line
 located text (Some at) =
     if nat_lt at (length text) then answers Yes (spot_line (spot_after (take at text)) (front_word (drop at text))) else answers Refuted no_place_line
 
--- ---- the words
+-- ---- the arguments
 
 -- the number of a refusal, from 1 to 7
 abbrev pub within_numbers : Option ℕ → Option ℕ
@@ -66,10 +66,10 @@ where_words (language ∷ source ∷ number ∷ place ∷ []) =
     where_of (language_named language) (as_file_name source) (within_numbers (as_decimal number)) (as_decimal place)
 where_words _ = None
 
--- the source, of at most 268,435,456 bytes, and where the refusal stands in it
+-- loads the source, of at most 268,435,456 bytes, and answers with the place of the refusal
 abbrev pub where_file : WhereWords → Plan
 where_file words = needs words.source 268_435_456 (λ text. located text (refusal_place words.language text words.number words.place))
 
--- the words after `where`
+-- the plan for the words after `where`
 abbrev pub where_plan : List (List ℕ) → Plan
 where_plan words = or_usage (where_words words) where_file

@@ -1,4 +1,4 @@
-//! `asm LANG BASE SOURCE OUT`: what a source comes to is saved.
+//! `asm LANG BASE SOURCE OUT`: saves the value of a source.
 
 ghost use Rattle.std.specs.Prelude.{◌≡◌, ◌≤◌, ◌^◌, IfOk, map};
 ghost use Rattle.ddc_base.specs.Outside.{ShelfState};
@@ -18,7 +18,7 @@ use hex_langs::link::{HexLanguage, value};
 use m1_lang::{M1Refusal, expand, write_items};
 use std::alloc::Global;
 
-/// Performs the command on the words after its name.
+/// `asm LANG BASE SOURCE OUT`: saves under OUT the value of SOURCE. Statuses 0, 2, 7, 10, 11, 13.
 pub fn perform<S: Shelf>(alloc: Global, shelf: &mut S, words: &[&str]) -> Result<Answer, Stop>
     ensures { Performs (asm_plan (map (λ w. w.now) words.now)) (S.state shelf.old) (S.state shelf.new) result }
 {
@@ -28,7 +28,7 @@ pub fn perform<S: Shelf>(alloc: Global, shelf: &mut S, words: &[&str]) -> Result
     asm(alloc, shelf, &words)
 }
 
-/// The command on a language, a base and two files.
+/// Runs `asm` on a language, a base and two files.
 fn asm<S: Shelf>(alloc: Global, shelf: &mut S, words: &AsmWords<'_>) -> Result<Answer, Stop>
     ensures { Performs (asm_files words.now.language words.now.base words.now.source words.now.out) (S.state shelf.old) (S.state shelf.new) result }
 {
@@ -41,7 +41,7 @@ fn asm<S: Shelf>(alloc: Global, shelf: &mut S, words: &AsmWords<'_>) -> Result<A
     keep(alloc, shelf, &words.out, made.as_slice(), answer)
 }
 
-/// What a source comes to, or what ends the command.
+/// The value of a source in a language at a base; in M1, the text of its items. Stops with 7 where the language refuses the source.
 fn make(alloc: Global, language: Language, base: u64, source: &[u8]) -> Result<Bytes, Stop>
     requires { base ≤ 2 ^ 37 }
     ensures { (shelf : ShelfState) → Obtains (needs_made language base source.now) shelf shelf result }
@@ -54,7 +54,7 @@ fn make(alloc: Global, language: Language, base: u64, source: &[u8]) -> Result<B
     }
 }
 
-/// The value of a source, or what ends the command.
+/// The value of a hex0, hex1 or hex2 source at a base. Stops with 7 where the language refuses the source.
 fn make_value(alloc: Global, language: HexLanguage, base: u64, source: &[u8]) -> Result<Bytes, Stop>
     requires { base ≤ 2 ^ 37 }
     ensures { (shelf : ShelfState) → Obtains (needs_value language base source.now) shelf shelf result }
@@ -65,7 +65,7 @@ fn make_value(alloc: Global, language: HexLanguage, base: u64, source: &[u8]) ->
     }
 }
 
-/// The text of the items that an M1 source expands to, or what ends the command.
+/// The text of the items that an M1 source expands to. Stops with 7 where M1 refuses the source.
 fn make_items(alloc: Global, source: &[u8]) -> Result<Bytes, Stop>
     ensures { (shelf : ShelfState) → Obtains (needs_items source.now) shelf shelf result }
 {
@@ -75,7 +75,7 @@ fn make_items(alloc: Global, source: &[u8]) -> Result<Bytes, Stop>
     }
 }
 
-/// The answer to a source that has no value, or want of memory.
+/// The answer to a refused hex0, hex1 or hex2 source. Error: out of memory, also where that was the refusal.
 fn refuse(alloc: Global, refusal: HexRefusal) -> Result<Answer, Stop>
     ensures { Refuses refusal result }
 {
@@ -85,7 +85,7 @@ fn refuse(alloc: Global, refusal: HexRefusal) -> Result<Answer, Stop>
     }
 }
 
-/// The answer to an M1 source that does not expand, or want of memory.
+/// The answer to a refused M1 source. Error: out of memory, also where that was the refusal.
 fn refuse_m1(alloc: Global, refusal: M1Refusal) -> Result<Answer, Stop>
     ensures { RefusesM1 refusal result }
 {
@@ -95,7 +95,7 @@ fn refuse_m1(alloc: Global, refusal: M1Refusal) -> Result<Answer, Stop>
     }
 }
 
-/// The answer to a source that is refused, by the number of the refusal and its place.
+/// The answer to a refused source: status 7, the refusal's number and its place. Error: out of memory.
 fn refused(alloc: Global, number: u8, place: u64) -> Result<Answer, Stop>
     ensures { Says (answers CheckFailed (refused_line number place)) result }
 {
@@ -105,7 +105,7 @@ fn refused(alloc: Global, number: u8, place: u64) -> Result<Answer, Stop>
     })
 }
 
-/// The line of a content that was made.
+/// The line of a saved value: `made SIZE`, in bytes.
 #[tactic(auto, unfolding(crate::specs::Asm::made_line))]
 fn made_text(alloc: Global, size: usize) -> Result<Bytes, OutOfMemory>
     ensures { IfOk result (λ text. text ≡ made_line size) }
@@ -113,7 +113,7 @@ fn made_text(alloc: Global, size: usize) -> Result<Bytes, OutOfMemory>
     Ok(Bytes::from_vec(format!(in alloc; "made {size}\n")?.into_bytes()))
 }
 
-/// The line of a source that is refused.
+/// The line of a refused source: `refused NUMBER PLACE`.
 #[tactic(auto, unfolding(crate::specs::Asm::refused_line))]
 fn refused_text(alloc: Global, number: u8, place: u64) -> Result<Bytes, OutOfMemory>
     ensures { IfOk result (λ text. text ≡ refused_line number place) }

@@ -1,4 +1,4 @@
-//! What is asked of what a program left: a stream, or a file of the guest.
+//! FILE of the commands `left` and `kaem-left`: a stream, or a file of the guest.
 
 ghost use Rattle.std.specs.Prelude.{◌≡◌, IsTrue};
 ghost use Rattle.std.specs.List.{list_any};
@@ -10,7 +10,7 @@ use command_plan::FileName;
 use mem_files::{Files, is_stripped_name, strip};
 use std::marker::Model;
 
-/// A word that is a guest's file name once leading `./` are taken off, and fits one line. Contracts see its bytes.
+/// A word that, without leading `./`, is a guest's file name and that fits one line. Contracts see its bytes.
 #[derive(Drop)]
 pub struct GuestFile<'w> {
     text: &'w str,
@@ -28,7 +28,7 @@ impl<'w> Model for GuestFile<'w> {
 }
 
 impl<'w> GuestFile<'w> {
-    /// The word as a guest's file, and `None` for every other word.
+    /// Reads a word as FILE; `None` where it is not a guest's file name that fits one line.
     pub fn read(word: &'w str) -> Option<GuestFile<'w>>
         ensures { result ≡ as_guest_file word.now }
     {
@@ -39,7 +39,7 @@ impl<'w> GuestFile<'w> {
         }
     }
 
-    /// The word.
+    /// The word, with its leading `./`.
     pub fn text(&self) -> &'w str
         ensures value { result.now ≡ self.now }
         ensures name { IsTrue (is_stripped_name (stripped self.now)) }
@@ -48,7 +48,7 @@ impl<'w> GuestFile<'w> {
     }
 }
 
-/// The place in a guest whose bytes are asked for, and the file under which they are saved.
+/// FILE, whose bytes are asked for, and OUT, under which they are saved.
 #[derive(Drop)]
 pub struct Wanted<'w> {
     pub file: GuestFile<'w>,
@@ -64,7 +64,7 @@ fn is_left_word(file: &str) -> bool
     is_stripped_name(strip(file.as_bytes())) && fits_one_line(file)
 }
 
-/// Whether a word stands in one line as it is written: no byte of it is below 0x20 or 0x7F.
+/// Whether a word can be printed in one line: no byte of it is below 0x20 or is 0x7F.
 fn fits_one_line(word: &str) -> bool
     ensures { result ≡ fits_one_line word.now }
 {
@@ -86,7 +86,7 @@ fn is_control(byte: u8) -> bool
     byte < 32 || byte == 127
 }
 
-/// What FILE asks for: `1` and `2` are the streams, any other name a file's.
+/// The bytes left at FILE; `None` where there is no such file. `1` and `2` are the streams, any other word is a file's name.
 #[tactic(auto, unfolding(crate::specs::GuestFiles::bytes_left_at))]
 pub fn bytes_left_at<'a>(files: &'a Files, file: &GuestFile<'_>) -> Option<&'a [u8]>
     ensures { option_copied result ≡ bytes_left_at files.now file.now }

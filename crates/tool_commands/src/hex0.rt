@@ -12,7 +12,7 @@ use command_plan::{Answer, Status, Stop, fetch_file, texts, usage};
 use ddc_base::{Shelf, first_difference};
 use std::alloc::Global;
 
-/// Performs the command on the words after its name.
+/// `hex0 SOURCE BINARY`: compares the hex0 value of SOURCE with BINARY. Statuses 0, 2, 3, 10, 11, 13.
 pub fn perform<S: Shelf>(alloc: Global, shelf: &mut S, words: &[&str]) -> Result<Answer, Stop>
     ensures { Performs (hex0_plan (map (λ w. w.now) words.now)) (S.state shelf.old) (S.state shelf.new) result }
 {
@@ -22,7 +22,7 @@ pub fn perform<S: Shelf>(alloc: Global, shelf: &mut S, words: &[&str]) -> Result
     hex0(alloc, shelf, &words)
 }
 
-/// The command on two files.
+/// Runs `hex0` on two files.
 fn hex0<S: Shelf>(alloc: Global, shelf: &mut S, words: &Hex0Words<'_>) -> Result<Answer, Stop>
     ensures { Performs (hex0_files words.now.source words.now.binary) (S.state shelf.old) (S.state shelf.new) result }
 {
@@ -31,7 +31,7 @@ fn hex0<S: Shelf>(alloc: Global, shelf: &mut S, words: &Hex0Words<'_>) -> Result
     compare(alloc, text.as_slice(), bytes.as_slice())
 }
 
-/// Says where a source's value and a binary first differ, or how long they both are.
+/// The answer for a source's value and a binary: their length where they are equal, or else the first byte offset at which they differ.
 fn compare(alloc: Global, source: &[u8], binary: &[u8]) -> Result<Answer, Stop>
     ensures { Says (comparison (hex0_of source.now) binary.now (difference.first_difference (hex0_of source.now) binary.now)) result }
 {

@@ -1,4 +1,4 @@
-//! `kaem SCRIPT LIST REPORT STEPS`: the commands of a script are run over listed files, and the script's report is saved.
+//! `kaem SCRIPT LIST REPORT STEPS`: runs the commands of a script on listed files, and saves the script's report.
 
 ghost use Rattle.std.specs.Prelude.{◌≡◌, ◌≤◌, All, length, map, sum_by};
 ghost use Rattle.report.specs.declared.script.types.CommandLine.{CommandLine as ReportLine};
@@ -23,7 +23,7 @@ use kaem_script::{FileList, Script, ScriptStop};
 use report::script::{CommandLine, ScriptReport};
 use std::alloc::Global;
 
-/// Performs the command on the words after its name.
+/// `kaem SCRIPT LIST REPORT STEPS`: runs a script and saves its report. Statuses 0, 2, 6, 10, 11, 13, 15, 16.
 pub fn perform<S: Shelf>(alloc: Global, shelf: &mut S, words: &[&str]) -> Result<Answer, Stop>
     ensures { Performs (kaem_plan (map (λ w. w.now) words.now)) (S.state shelf.old) (S.state shelf.new) result }
 {
@@ -33,7 +33,7 @@ pub fn perform<S: Shelf>(alloc: Global, shelf: &mut S, words: &[&str]) -> Result
     kaem(alloc, shelf, &words)
 }
 
-/// The command on three files and a number of steps.
+/// Runs `kaem` on three files and a number of steps.
 fn kaem<S: Shelf>(alloc: Global, shelf: &mut S, words: &KaemWords<'_>) -> Result<Answer, Stop>
     ensures { Performs (kaem_files words.now.script words.now.list words.now.report words.now.steps) (S.state shelf.old) (S.state shelf.new) result }
 {
@@ -41,7 +41,7 @@ fn kaem<S: Shelf>(alloc: Global, shelf: &mut S, words: &KaemWords<'_>) -> Result
     run_listed(alloc, shelf, &script, words)
 }
 
-/// The command on a script, which its caller lets go.
+/// Runs a script on the files of LIST. The script is borrowed, so that the caller frees it.
 fn run_listed<S: Shelf>(
     alloc: Global,
     shelf: &mut S,
@@ -57,7 +57,7 @@ fn run_listed<S: Shelf>(
     run(alloc, shelf, script, &files, words)
 }
 
-/// Runs the commands of a script over its files.
+/// Runs the commands of a script on its files.
 fn run<S: Shelf>(
     alloc: Global,
     shelf: &mut S,
@@ -74,7 +74,7 @@ fn run<S: Shelf>(
     }
 }
 
-/// Saves the report of commands that all ran, and says how many steps they took.
+/// Saves the report of commands that all ran, and answers how many steps they took.
 fn save<S: Shelf>(
     alloc: Global,
     shelf: &mut S,
@@ -91,7 +91,7 @@ fn save<S: Shelf>(
     keep(alloc, shelf, file, text.as_slice(), answer)
 }
 
-/// The answer where all commands ran.
+/// The answer where all commands ran: their number and their steps together.
 fn done(alloc: Global, commands: &[CommandLine]) -> Result<Answer, Stop>
     requires few { length commands.now ≤ 4096 }
     requires each { All IsCommandLine commands.now }
@@ -116,7 +116,7 @@ fn steps_in_all(commands: &[CommandLine]) -> u64
     steps
 }
 
-/// The answer where a script did not go on: the command that stopped it, unless memory was wanting.
+/// The answer where a script stopped: the command that stopped it, and why. Error: out of memory, also where that stopped it.
 pub(crate) fn stopped(alloc: Global, stop: ScriptStop) -> Result<Answer, Stop>
     ensures { AnswersStop stop result }
 {

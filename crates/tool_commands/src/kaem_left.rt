@@ -1,5 +1,5 @@
-//! `kaem-left SCRIPT LIST STEPS COMMAND FILE OUT`: the commands of a script are run up to one of them, whatever that ends with, and what it left
-//! at one place is saved.
+//! `kaem-left SCRIPT LIST STEPS COMMAND FILE OUT`: runs the commands of a script up to one of them, however it ends, and saves what it left
+//! at FILE.
 
 ghost use Rattle.std.specs.Prelude.{◌≡◌, ◌-◌, ◌≤◌, map, slice_get, take};
 ghost use Rattle.kaem_script.specs.Kept.{AreCommands, IsCommand};
@@ -20,7 +20,7 @@ use ddc_base::Shelf;
 use kaem_script::{Command, CommandCause, CommandLeft, Script};
 use std::alloc::Global;
 
-/// Performs the command on the words after its name.
+/// `kaem-left SCRIPT LIST STEPS COMMAND FILE OUT`: saves what COMMAND left at FILE. Statuses 0, 2, 6, 10, 11, 13, 15, 16.
 pub fn perform<S: Shelf>(alloc: Global, shelf: &mut S, words: &[&str]) -> Result<Answer, Stop>
     ensures { Performs (kaem_left_plan (map (λ w. w.now) words.now)) (S.state shelf.old) (S.state shelf.new) result }
 {
@@ -30,7 +30,7 @@ pub fn perform<S: Shelf>(alloc: Global, shelf: &mut S, words: &[&str]) -> Result
     kaem_left(alloc, shelf, &words)
 }
 
-/// The command on its words.
+/// Runs `kaem-left` on its words.
 fn kaem_left<S: Shelf>(
     alloc: Global,
     shelf: &mut S,
@@ -42,7 +42,7 @@ fn kaem_left<S: Shelf>(
     find(alloc, shelf, &script, words)
 }
 
-/// Looks for the command in a script, which its caller lets go.
+/// Finds COMMAND in a script and continues with it; a usage answer where the script has no such command.
 fn find<S: Shelf>(
     alloc: Global,
     shelf: &mut S,
@@ -63,7 +63,7 @@ fn find<S: Shelf>(
     }
 }
 
-/// Runs the command after those before it over the listed files.
+/// Runs the command after the earlier ones, on the listed files.
 fn run<S: Shelf>(
     alloc: Global,
     shelf: &mut S,
@@ -85,7 +85,7 @@ fn run<S: Shelf>(
     }
 }
 
-/// Saves what was left at FILE, and says how the run ended; where nothing was, it saves nothing.
+/// Saves the bytes left at FILE, and answers how the run ended. Where nothing was left at FILE, it saves nothing.
 #[tactic(auto, unfolding(crate::specs::KaemLeft::command_saved_left))]
 fn save<S: Shelf>(
     alloc: Global,
@@ -114,7 +114,7 @@ fn save<S: Shelf>(
     }
 }
 
-/// The status where FILE was left.
+/// The status where FILE was left: 0 after an exit, 6 after any other end.
 fn command_left_status(cause: CommandCause) -> Status
     ensures { result ≡ command_left_status cause }
 {
@@ -124,7 +124,7 @@ fn command_left_status(cause: CommandCause) -> Status
     }
 }
 
-/// The status where it was not.
+/// The status where FILE was not left: 10 after an exit, 6 after any other end.
 fn command_absent_status(cause: CommandCause) -> Status
     ensures { result ≡ command_absent_status cause }
 {

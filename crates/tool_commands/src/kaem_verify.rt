@@ -1,4 +1,4 @@
-//! `kaem-verify SCRIPT LIST REPORT`: the report of a script is judged by a replay of its commands.
+//! `kaem-verify SCRIPT LIST REPORT`: judges the report of a script by a replay of its commands.
 
 ghost use Rattle.std.specs.Prelude.{◌≤◌, length, map};
 ghost use Rattle.ddc_base.specs.Outside.{ShelfState};
@@ -26,10 +26,10 @@ use report::ReportRefusal;
 use report::script::ScriptReport;
 use std::alloc::Global;
 
-/// The most bytes of a report that is loaded. The text of every report has fewer.
+/// The most bytes of a report that are loaded. Every report is shorter.
 const REPORT_LIMIT: u64 = 1_073_741_824;
 
-/// Performs the command on the words after its name.
+/// `kaem-verify SCRIPT LIST REPORT`: judges every statement of a script's report. Statuses 0, 1, 2, 5, 10, 11, 13, 15, 16.
 pub fn perform<S: Shelf>(alloc: Global, shelf: &mut S, words: &[&str]) -> Result<Answer, Stop>
     ensures { Performs (kaem_verify_plan (map (λ w. w.now) words.now)) (S.state shelf.old) (S.state shelf.new) result }
 {
@@ -39,7 +39,7 @@ pub fn perform<S: Shelf>(alloc: Global, shelf: &mut S, words: &[&str]) -> Result
     verify(alloc, shelf, &words)
 }
 
-/// The command on three files.
+/// Runs `kaem-verify` on three files.
 fn verify<S: Shelf>(alloc: Global, shelf: &mut S, words: &ScriptWords<'_>) -> Result<Answer, Stop>
     ensures { Performs (kaem_verify_files words.now.script words.now.list words.now.report) (S.state shelf.old) (S.state shelf.new) result }
 {
@@ -47,7 +47,7 @@ fn verify<S: Shelf>(alloc: Global, shelf: &mut S, words: &ScriptWords<'_>) -> Re
     verify_listed(alloc, shelf, &script, words)
 }
 
-/// The command on a script, which its caller lets go.
+/// Judges the report of a script. The script is borrowed, so that the caller frees it.
 fn verify_listed<S: Shelf>(
     alloc: Global,
     shelf: &mut S,
@@ -62,7 +62,7 @@ fn verify_listed<S: Shelf>(
     verify_words(alloc, shelf, script, &names, &words.report)
 }
 
-/// The command on a script and listed words, which its caller lets go.
+/// Judges the report of a script on listed words. Both are borrowed, so that the caller frees them.
 fn verify_words<S: Shelf>(
     alloc: Global,
     shelf: &mut S,
@@ -79,7 +79,7 @@ fn verify_words<S: Shelf>(
     replay(alloc, shelf, script, words, &report)
 }
 
-/// The command on a script, listed words and a report, which its caller lets go.
+/// Fetches the listed files and judges a report over them. Script, words and report are borrowed, so that the caller frees them.
 fn replay<S: Shelf>(
     alloc: Global,
     shelf: &mut S,
@@ -96,7 +96,7 @@ fn replay<S: Shelf>(
     judge(alloc, script, &files, report)
 }
 
-/// Fetches the report of a script and reads it.
+/// Fetches a script's report and reads it. Stops with 5 where the file is not a report.
 fn fetch_report<S: Shelf>(
     alloc: Global,
     shelf: &mut S,
@@ -108,7 +108,7 @@ fn fetch_report<S: Shelf>(
     read_report(alloc, text)
 }
 
-/// Reads a report, and lets its text go.
+/// Reads a report and frees its text. Stops with 5 where the text is not a report.
 fn read_report(alloc: Global, text: Bytes) -> Result<ScriptReport, Stop>
     ensures { (shelf : ShelfState) → Obtains (unless_refused (script_report_of text) (λ number. answers ReportRefused (report_line number)))
         shelf shelf result }
@@ -120,7 +120,7 @@ fn read_report(alloc: Global, text: Bytes) -> Result<ScriptReport, Stop>
     }
 }
 
-/// The answer to a file that is no report, from this line on.
+/// The answer to a file that is not a report: its first invalid line.
 fn report_refused(alloc: Global, number: u64) -> Result<Answer, Stop>
     ensures { Says (answers ReportRefused (report_line number)) result }
 {
@@ -130,7 +130,7 @@ fn report_refused(alloc: Global, number: u64) -> Result<Answer, Stop>
     })
 }
 
-/// Replays the report, and says what it comes to.
+/// Replays the script and answers whether the report is true.
 fn judge(
     alloc: Global,
     script: &Script,
@@ -146,7 +146,7 @@ fn judge(
     }
 }
 
-/// The answer to a report that is true, of so many commands.
+/// The answer to a true report: the number of its commands.
 fn accepted(alloc: Global, commands: usize) -> Result<Answer, Stop>
     ensures { Says (answers Yes (commands_true_line commands)) result }
 {
@@ -156,7 +156,7 @@ fn accepted(alloc: Global, commands: usize) -> Result<Answer, Stop>
     })
 }
 
-/// The answer to a report of which this part is not true.
+/// The answer to a false report: its first part that is false, and the place of that part.
 fn refuted(alloc: Global, part: ScriptPart, place: u32) -> Result<Answer, Stop>
     ensures { Says (answers Refuted (script_refuted_line part place)) result }
 {

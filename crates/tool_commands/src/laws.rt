@@ -7,7 +7,7 @@ ghost use Rattle.hex_langs.specs.declared.items.token.Dialect.{Dialect};
 ghost use Rattle.tool_commands.specs.Places.{place_of_item};
 ghost use Rattle.tool_commands.specs.TokenPlaces.{IsPlaceOf};
 
-/// Each item of a source that is read has a place: the offset of the token from which the reader forms it, or for an item of a word of four bytes
+/// Each item of an accepted source has a place: the byte offset of the token that forms it. For an item of a four-byte word the place is
 /// that of the word's first token.
 pub fn items_stand_at_their_tokens()
     ensures { (dialect : Dialect) (source : List ℕ) (items : List Item) (index : ℕ) → items_of dialect source ≡ Ok items → index < length items

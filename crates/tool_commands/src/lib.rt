@@ -1,6 +1,7 @@
-//! The commands which name no recipe: `hex0`, `asm` and `where` of the languages, `list` and `run` of the machine, `kaem`, `kaem-verify` and `kaem-left` of scripts.
+//! The commands that take no recipe: `hex0`, `asm` and `where` of the languages, `list` and `run` of the machine, `kaem`, `kaem-verify` and
+//! `kaem-left` of scripts.
 //!
-//! Their rules for people: docs/reference/command-line.md.
+//! The rules for people are in docs/reference/command-line.md.
 #![tactic(auto)]
 
 pub mod asm;

@@ -1,4 +1,4 @@
-//! `list BINARY`: the file's words by offset, each with its value and its instruction.
+//! `list BINARY`: lists the words of a file by byte offset, each with its value and its instruction.
 
 ghost use Rattle.std.specs.Prelude.{◌≡◌, ◌+◌, ◌*◌, ◌<◌, ◌^◌, ◌++◌, ◌∷◌, [], IfOk, OnOk, length, map};
 ghost use Rattle.byteorder.specs.Endian.{little_number};
@@ -16,10 +16,10 @@ use ddc_base::{Bytes, OutOfMemory, Shelf};
 use rv64_decode::{decode, print};
 use std::alloc::Global;
 
-/// The most bytes of a file that is listed.
+/// The most bytes of a file that can be listed.
 const LIST_LIMIT: u64 = 16_777_216;
 
-/// Performs the command on the words after its name.
+/// `list BINARY`: lists the words of BINARY. Statuses 0, 2, 10, 11, 13.
 #[tactic(auto, using(command_plan::proofs::Performing::performing))]
 pub fn perform<S: Shelf>(alloc: Global, shelf: &mut S, words: &[&str]) -> Result<Answer, Stop>
     ensures { Performs (list_plan (map (λ w. w.now) words.now)) (S.state shelf.old) (S.state shelf.new) result }
@@ -33,7 +33,7 @@ pub fn perform<S: Shelf>(alloc: Global, shelf: &mut S, words: &[&str]) -> Result
     list(alloc, shelf, &binary)
 }
 
-/// The command on a file.
+/// Runs `list` on a file.
 #[tactic(auto, using(command_plan::proofs::Performing::performing), unfolding(crate::specs::List::list_file))]
 fn list<S: Shelf>(alloc: Global, shelf: &mut S, binary: &FileName<'_>) -> Result<Answer, Stop>
     ensures { Performs (list_file binary.now) (S.state shelf.old) (S.state shelf.new) result }
@@ -42,7 +42,7 @@ fn list<S: Shelf>(alloc: Global, shelf: &mut S, binary: &FileName<'_>) -> Result
     listed(alloc, bytes.as_slice())
 }
 
-/// The answer that lists these bytes.
+/// The answer that lists these bytes, fewer than 2^32.
 fn listed(alloc: Global, bytes: &[u8]) -> Result<Answer, Stop>
     requires { length bytes.now < 2 ^ 32 }
     ensures { Says (answers Yes (listing 0 bytes.now)) result }
@@ -53,7 +53,7 @@ fn listed(alloc: Global, bytes: &[u8]) -> Result<Answer, Stop>
     })
 }
 
-/// The lines of all words, and of the bytes that are left.
+/// The lines of all words of four bytes, and of the one to three bytes after them.
 #[tactic(auto, using(crate::proofs::Listing::listings))]
 fn text_of(alloc: Global, bytes: &[u8]) -> Result<Bytes, OutOfMemory>
     requires { length bytes.now < 2 ^ 32 }
@@ -72,7 +72,7 @@ fn text_of(alloc: Global, bytes: &[u8]) -> Result<Bytes, OutOfMemory>
     Ok(text)
 }
 
-/// Adds a number in eight hexadecimal digits, and a blank.
+/// Appends a number as eight hexadecimal digits, and a blank.
 fn put_number(text: &mut Bytes, number: u32) -> Result<(), OutOfMemory>
     ensures { OnOk result (text.new ≡ text.old ++ (hex_word number ++ 32 ∷ [])) }
 {
@@ -83,7 +83,7 @@ fn put_number(text: &mut Bytes, number: u32) -> Result<(), OutOfMemory>
     text.extend(&digits)
 }
 
-/// Adds the line of a word.
+/// Appends the line of a word of four bytes.
 #[tactic(auto, using(crate::proofs::Listing::listings))]
 fn put_word(text: &mut Bytes, offset: u32, bytes: &[u8]) -> Result<(), OutOfMemory>
     requires { length bytes.now ≡ 4 }
@@ -97,7 +97,7 @@ fn put_word(text: &mut Bytes, offset: u32, bytes: &[u8]) -> Result<(), OutOfMemo
     Ok(())
 }
 
-/// Adds a word's instruction, or `?`.
+/// Appends a word's instruction, or `?` where the word is not an instruction.
 fn put_instruction(text: &mut Bytes, offset: u32, word: u32) -> Result<(), OutOfMemory>
     ensures { OnOk result (text.new ≡ text.old ++ instruction_text offset (decoded word)) }
 {
@@ -107,7 +107,7 @@ fn put_instruction(text: &mut Bytes, offset: u32, word: u32) -> Result<(), OutOf
     }
 }
 
-/// Adds the line of the bytes that are left.
+/// Appends the line of the last one to three bytes.
 #[tactic(auto, using(crate::proofs::Listing::listings))]
 fn put_rest(text: &mut Bytes, offset: u32, bytes: &[u8]) -> Result<(), OutOfMemory>
     ensures { OnOk result (text.new ≡ text.old ++ rest_line offset bytes.now) }

@@ -1,4 +1,4 @@
-//! A line of a list of files.
+//! One line of a list of files.
 
 ghost use Rattle.std.specs.Prelude.{◌≡◌, IsTrue, bytes_eq};
 ghost use Rattle.std.specs.List.{list_any};
@@ -12,7 +12,7 @@ use mem_files::strip;
 use std::alloc::Global;
 use std::marker::Model;
 
-/// The word of a line, which stands for a file by its name without the `./` that it begins with. Contracts see it as its bytes.
+/// The word of a line. It names a file by its text without leading `./`. Contracts see its bytes.
 #[derive(Drop)]
 pub struct FileLine {
     word: ListedWord,
@@ -54,14 +54,14 @@ impl Listed for FileLine {
 }
 
 impl FileLine {
-    /// The word as text.
+    /// The word as text, with its leading `./`.
     pub fn as_str(&self) -> &str
         ensures { result.now ≡ self.now }
     {
         self.word.as_str()
     }
 
-    /// The word as the name of a file, by which a shelf loads.
+    /// The word as a file name, to load that file.
     pub fn name(&self) -> FileName<'_>
         ensures value { result ≡ self.now }
         ensures file { IsTrue (is_file_name (stripped self.now)) }
@@ -70,7 +70,7 @@ impl FileLine {
     }
 }
 
-/// Whether a word stands for a file, and for none of those for which the earlier words stand.
+/// Whether a word names a file, and none of the earlier words names the same one.
 fn stands_for_another(earlier: &[FileLine], word: &[u8]) -> bool
     ensures { result ≡ stands_for_another earlier.now word.now }
 {
@@ -78,14 +78,14 @@ fn stands_for_another(earlier: &[FileLine], word: &[u8]) -> bool
     !name.is_empty() && !is_named(earlier, name)
 }
 
-/// Whether one of these words stands for the file of this name.
+/// Whether one of these words names the file of this name.
 fn is_named(words: &[FileLine], name: &[u8]) -> bool
     ensures { result ≡ list_any (λ word. bytes_eq (stripped word) name.now) words.now }
 {
     words.iter().any(|word| stands_for(word, name))
 }
 
-/// Whether a word stands for the file of this name.
+/// Whether a word names the file of this name.
 fn stands_for(word: &FileLine, name: &[u8]) -> bool
     ensures { result ≡ bytes_eq (stripped word.now) name.now }
 {

@@ -1,4 +1,4 @@
-//! Where the places of refusals stand in a source.
+//! Line and column of a byte offset, and the byte offset of an item of a source.
 
 ghost use Rattle.std.specs.Prelude.{◌≡◌, ◌<◌, ◌≤◌, ◌^◌, IfOk, IfSome, length};
 ghost use Rattle.std.specs.List.{position};
@@ -17,7 +17,7 @@ pub(crate) struct Spot {
 }
 
 impl Spot {
-    /// The spot after a byte.
+    /// The line and column after a byte.
     fn after(self, byte: u8) -> Spot
         requires line { self.line ≤ 2 ^ 40 }
         requires column { self.column ≤ 2 ^ 40 }
@@ -37,7 +37,7 @@ impl Spot {
     }
 }
 
-/// The spot after these bytes.
+/// The line and column after these bytes, at most 2^32.
 pub(crate) fn spot_after(front: &[u8]) -> Spot
     requires { length front.now ≤ 2 ^ 32 }
     ensures { result ≡ spot_after front.now }
@@ -49,7 +49,7 @@ pub(crate) fn spot_after(front: &[u8]) -> Spot
     spot
 }
 
-/// The word at the front: up to the next blank or the end.
+/// The word at the front: its bytes up to the next blank or the end.
 pub(crate) fn front_word(rest: &[u8]) -> &[u8]
     ensures { result.now ≡ front_word rest.now }
 {
@@ -59,7 +59,7 @@ pub(crate) fn front_word(rest: &[u8]) -> &[u8]
     }
 }
 
-/// The index of the first blank.
+/// The index of the first blank; `None` where there is no blank.
 fn blank_at(rest: &[u8]) -> Option<usize>
     ensures place { result ≡ position is_blank rest.now }
     ensures within { IfSome result (λ at. at < length rest.now) }
@@ -67,7 +67,8 @@ fn blank_at(rest: &[u8]) -> Option<usize>
     rest.iter().position(|byte| is_blank(*byte))
 }
 
-/// The offset of what forms the item of an index, from 0: its token, or the first field or reference of its word.
+/// The byte offset at which the item of an index, from 0, begins: its token, or the first field or reference of its word. `None` where no
+/// such item was read. Error: out of memory.
 #[tactic(auto, unfolding(crate::specs::Places::place_of_item))]
 pub(crate) fn place_of_item(
     alloc: Global,
@@ -106,7 +107,7 @@ pub(crate) fn place_of_item(
     Ok(None)
 }
 
-/// What is found after a token that has no place: nothing, unless memory was wanting.
+/// The result of a scan that halted: `None`, or the error out of memory.
 fn stopped(halt: Halt) -> Result<Option<usize>, OutOfMemory>
     ensures { IsStopped halt result }
 {
@@ -118,7 +119,7 @@ fn stopped(halt: Halt) -> Result<Option<usize>, OutOfMemory>
     }
 }
 
-/// Where what a token at an offset belongs to begins.
+/// The offset of a token, or of the first token of the word that is open.
 fn first_offset(word: &Option<Open<'_>>, at: usize) -> usize
     ensures { result ≡ first_offset word.now at }
 {
@@ -128,7 +129,7 @@ fn first_offset(word: &Option<Open<'_>>, at: usize) -> usize
     }
 }
 
-/// Whether a blank or a comment begins with a byte.
+/// Whether a byte begins a blank or a comment.
 fn opens_gap(byte: u8) -> bool
     ensures { result ≡ opens_gap byte }
 {

@@ -1,4 +1,4 @@
-//! `run PROGRAM STEPS ARG..`: how the program's run ends within so many steps, and what it leaves.
+//! `run PROGRAM STEPS ARG..`: runs a program within so many steps, and prints how it ended and what it left.
 
 ghost use Rattle.std.specs.Prelude.{◌≡◌, ◌≤◌, ◌<◌, ◌+◌, ◌^◌, ◌∷◌, IfOk, map};
 ghost use Rattle.guest_run.specs.Run.{first_end};
@@ -16,10 +16,10 @@ use guest_run::{Guest, RunBox, RunEnd, RunRam, StartRefusal};
 use mem_files::Files;
 use std::alloc::Global;
 
-/// The most bytes of a program's heap, where the command has no other word on it.
+/// The most bytes of a program's heap.
 const HEAP: u64 = 536_870_912;
 
-/// Performs the command on the words after its name.
+/// `run PROGRAM STEPS ARG..`: runs a program. Statuses 0, 2, 6, 10, 11, 13.
 pub fn perform<S: Shelf>(alloc: Global, shelf: &mut S, words: &[&str]) -> Result<Answer, Stop>
     ensures { Performs (run_plan (map (λ w. w.now) words.now)) (S.state shelf.old) (S.state shelf.new) result }
 {
@@ -29,7 +29,7 @@ pub fn perform<S: Shelf>(alloc: Global, shelf: &mut S, words: &[&str]) -> Result
     run(alloc, shelf, &words)
 }
 
-/// The command on a program, its arguments and a number of steps.
+/// Runs `run` on a program, its arguments and a number of steps.
 #[tactic(auto, using(command_plan::proofs::Performing::performing), unfolding(crate::specs::RunProgram::run_file))]
 fn run<S: Shelf>(alloc: Global, shelf: &mut S, words: &RunWords<'_>) -> Result<Answer, Stop>
     ensures { Performs (run_file words.now.program words.now.args words.now.steps) (S.state shelf.old) (S.state shelf.new) result }
@@ -38,7 +38,7 @@ fn run<S: Shelf>(alloc: Global, shelf: &mut S, words: &RunWords<'_>) -> Result<A
     start(alloc, bytes.as_slice(), words)
 }
 
-/// Starts a program with its name and the arguments, and runs it.
+/// Starts a program with its name and the arguments, and runs it for at most `words.steps` steps.
 fn start(alloc: Global, program: &[u8], words: &RunWords<'_>) -> Result<Answer, Stop>
     ensures { Says (start_plan (start_of program.now (setting_of (words.now.program ∷ words.now.args))) words.now.steps) result }
 {
@@ -46,7 +46,7 @@ fn start(alloc: Global, program: &[u8], words: &RunWords<'_>) -> Result<Answer, 
     start_in(alloc, program, &setting, words.steps.count())
 }
 
-/// Starts a program with what it is given, and runs it.
+/// Starts a program in an execution context, and runs it for at most `most` steps, from 1 to 2^48.
 fn start_in(alloc: Global, program: &[u8], setting: &RunBox, most: u64) -> Result<Answer, Stop>
     requires some { 1 ≤ most }
     requires few { most ≤ 2 ^ 48 }
@@ -61,7 +61,7 @@ fn start_in(alloc: Global, program: &[u8], setting: &RunBox, most: u64) -> Resul
     }
 }
 
-/// What a program is given: its name and the arguments, and nothing else.
+/// The execution context of the program: its name and the arguments, no environment, no files and 536,870,912 bytes of heap.
 #[tactic(auto, using(crate::proofs::Arguments::text_at, crate::proofs::Arguments::text_of_name))]
 fn box_of<'a>(
     alloc: Global,
@@ -79,7 +79,7 @@ fn box_of<'a>(
     Ok(given)
 }
 
-/// Runs a program from its state on.
+/// Runs a started program for at most `most` more steps, at least 1.
 fn run_guest(alloc: Global, guest: &mut Guest<RunRam>, most: u64) -> Result<Answer, Stop>
     requires some { 1 ≤ most }
     requires few { guest.old.steps + most ≤ 2 ^ 48 }
@@ -96,7 +96,7 @@ fn run_guest(alloc: Global, guest: &mut Guest<RunRam>, most: u64) -> Result<Answ
     }
 }
 
-/// The answer to an exit.
+/// The answer to an exit: its status and step, and what the program left.
 fn exited(alloc: Global, status: u8, step: u64, files: &Files) -> Result<Answer, Stop>
     ensures { Says (answers (status_of status) (exited_text status step files.now)) result }
 {
@@ -106,7 +106,7 @@ fn exited(alloc: Global, status: u8, step: u64, files: &Files) -> Result<Answer,
     })
 }
 
-/// The status of an exit.
+/// The command's status after an exit: 0 for the exit status 0, or else 6.
 fn status_of(status: u8) -> Status
     ensures { result ≡ status_of status }
 {

@@ -1,4 +1,4 @@
-//! The texts of the command `run`, and its answers where a run failed.
+//! Texts of the command `run`, and its answers where a run failed.
 
 ghost use Rattle.std.specs.Prelude.{◌≡◌, ◌++◌, [], OnOk, IfOk, unwrap_or, IsTrue};
 ghost use Rattle.std.specs.List.{flat_map};
@@ -19,7 +19,7 @@ use mem_files::Files;
 use rv64_machine::Cause;
 use std::alloc::Global;
 
-/// The line of a run that failed.
+/// The line of a failed run: `failed CAUSE step N`.
 #[tactic(auto, unfolding(crate::specs::RunProgram::failed_line))]
 fn failed_text(alloc: Global, cause: &str, step: u64) -> Result<Bytes, OutOfMemory>
     ensures { IfOk result (λ text. text ≡ failed_line cause.now step) }
@@ -27,7 +27,7 @@ fn failed_text(alloc: Global, cause: &str, step: u64) -> Result<Bytes, OutOfMemo
     Ok(Bytes::from_vec(format!(in alloc; "failed {cause} step {step}\n")?.into_bytes()))
 }
 
-/// The answer to a run that failed.
+/// The answer to a failed run, with status 6.
 fn failed(alloc: Global, cause: &str, step: u64) -> Result<Answer, Stop>
     ensures { Says (answers RunFailed (failed_line cause.now step)) result }
 {
@@ -37,7 +37,7 @@ fn failed(alloc: Global, cause: &str, step: u64) -> Result<Answer, Stop>
     })
 }
 
-/// A run that ended in a trap.
+/// The answer to a run that ended in a trap.
 pub(crate) fn trapped(alloc: Global, cause: Cause, step: u64) -> Result<Answer, Stop>
     ensures { Says (answers RunFailed (failed_line (trap_text cause) step)) result }
 {
@@ -45,7 +45,7 @@ pub(crate) fn trapped(alloc: Global, cause: Cause, step: u64) -> Result<Answer, 
     failed(alloc, cause.as_str(), step)
 }
 
-/// A run that made an unknown call.
+/// The answer to a run that made an unknown call.
 pub(crate) fn called(alloc: Global, number: u64, step: u64) -> Result<Answer, Stop>
     ensures { Says (answers RunFailed (failed_line (call_text number) step)) result }
 {
@@ -53,14 +53,14 @@ pub(crate) fn called(alloc: Global, number: u64, step: u64) -> Result<Answer, St
     failed(alloc, cause.as_str(), step)
 }
 
-/// A run that used up its steps.
+/// The answer to a run that used up its steps.
 pub(crate) fn spent(alloc: Global, steps: u64) -> Result<Answer, Stop>
     ensures { Says (answers RunFailed (failed_line spent_text steps)) result }
 {
     failed(alloc, command_plan::causes::spent(), steps)
 }
 
-/// A program that the loader refuses.
+/// The answer to a program that the loader refuses.
 pub(crate) fn not_loaded(alloc: Global, refusal: ElfRefusal) -> Result<Answer, Stop>
     ensures { Says (answers RunFailed (failed_line (elf_text refusal) 0)) result }
 {
@@ -68,21 +68,21 @@ pub(crate) fn not_loaded(alloc: Global, refusal: ElfRefusal) -> Result<Answer, S
     failed(alloc, cause.as_str(), 0)
 }
 
-/// A program whose arguments are too long.
+/// The answer to a program whose arguments are too long.
 pub(crate) fn too_many_args(alloc: Global) -> Result<Answer, Stop>
     ensures { Says (answers RunFailed (failed_line args_text 0)) result }
 {
     failed(alloc, command_plan::causes::args(), 0)
 }
 
-/// A program that is given too large files.
+/// The answer to a program whose files are too large.
 pub(crate) fn too_large_box(alloc: Global) -> Result<Answer, Stop>
     ensures { Says (answers RunFailed (failed_line box_text 0)) result }
 {
     failed(alloc, command_plan::causes::box_files(), 0)
 }
 
-/// The line of an exit.
+/// The line of an exit: `exited STATUS step N`.
 #[tactic(auto, unfolding(crate::specs::RunProgram::exited_line))]
 fn exited(alloc: Global, status: u8, step: u64) -> Result<Bytes, OutOfMemory>
     ensures { IfOk result (λ text. text ≡ exited_line status step) }
@@ -90,7 +90,7 @@ fn exited(alloc: Global, status: u8, step: u64) -> Result<Bytes, OutOfMemory>
     Ok(Bytes::from_vec(format!(in alloc; "exited {status} step {step}\n")?.into_bytes()))
 }
 
-/// Adds the line of a stream.
+/// Appends the line of a stream: its length and digest.
 #[tactic(auto, using(crate::proofs::Written::written), unfolding(crate::specs::RunProgram::stream_line))]
 fn put_stream(alloc: Global, text: &mut Bytes, which: u8, bytes: &[u8]) -> Result<(), OutOfMemory>
     ensures { OnOk result (text.new ≡ text.old ++ stream_line which bytes.now) }
@@ -101,7 +101,7 @@ fn put_stream(alloc: Global, text: &mut Bytes, which: u8, bytes: &[u8]) -> Resul
     text.push(b'\n')
 }
 
-/// Adds the line of a file that is left.
+/// Appends the line of a file that was left: its name, length and digest.
 #[tactic(auto, using(crate::proofs::LeftNames::left_line_parts))]
 fn put_left_file(text: &mut Bytes, files: &Files, name: &[u8]) -> Result<(), OutOfMemory>
     requires { IsTrue (is_stripped_name name.now) }
@@ -117,7 +117,7 @@ fn put_left_file(text: &mut Bytes, files: &Files, name: &[u8]) -> Result<(), Out
     text.push(b'\n')
 }
 
-/// Adds the lines of all files that are left, by the bytes of their names.
+/// Appends the lines of all files that were left, in the byte order of their names.
 fn put_left(text: &mut Bytes, files: &Files) -> Result<(), OutOfMemory>
     requires { IsSound files.now }
     ensures { OnOk result (text.new ≡ text.old ++ flat_map left_line (left files.now)) }
@@ -130,7 +130,7 @@ fn put_left(text: &mut Bytes, files: &Files) -> Result<(), OutOfMemory>
     Ok(())
 }
 
-/// The text of an exit: its line, those of both streams, and those of all files that are left.
+/// The text of an exit: its line, those of both streams, and those of all files that were left.
 #[tactic(auto, unfolding(crate::specs::RunProgram::exited_text))]
 pub(crate) fn exit_text(
     alloc: Global,
@@ -145,7 +145,7 @@ pub(crate) fn exit_text(
     Ok(text)
 }
 
-/// The lines of both streams, and those of all files that are left.
+/// Appends the lines of both streams and of all files that were left. Error: out of memory.
 #[tactic(auto, unfolding(crate::specs::RunProgram::world_text))]
 pub fn put_world(alloc: Global, text: &mut Bytes, files: &Files) -> Result<(), OutOfMemory>
     ensures { OnOk result (text.new ≡ text.old ++ world_text files.now) }

@@ -1,4 +1,4 @@
-//! The texts of the commands on scripts.
+//! Texts of the commands on scripts.
 
 ghost use Rattle.std.specs.Prelude.{◌≡◌, IfOk, string_bytes};
 ghost use Rattle.tool_commands.specs.KaemLeft.{command_left_line, command_none_left_line};
@@ -9,14 +9,14 @@ use ddc_base::{Bytes, OutOfMemory};
 use kaem_script::{CommandCause, ScriptFault, ScriptPart};
 use std::alloc::Global;
 
-/// The number of a fault.
+/// The printed number of a script's fault.
 fn number(fault: ScriptFault) -> u8
     ensures { result ≡ script_fault_number fault }
 {
     fault as u8
 }
 
-/// A file is no script: its first fault, and the offset of the word.
+/// The line of a file that is not a script: its first fault, and the byte offset of the word.
 #[tactic(auto, unfolding(crate::specs::ScriptTexts::script_line))]
 pub(crate) fn refused(alloc: Global, fault: ScriptFault, offset: u64) -> Result<Bytes, OutOfMemory>
     ensures { IfOk result (λ text. text ≡ script_line fault offset) }
@@ -25,7 +25,7 @@ pub(crate) fn refused(alloc: Global, fault: ScriptFault, offset: u64) -> Result<
     Ok(Bytes::from_vec(format!(in alloc; "script refused {fault} {offset}\n")?.into_bytes()))
 }
 
-/// All commands ran, in so many steps together.
+/// The line where all commands ran: their number and their steps together.
 #[tactic(auto, unfolding(crate::specs::ScriptTexts::done_line))]
 pub(crate) fn done(alloc: Global, commands: usize, steps: u64) -> Result<Bytes, OutOfMemory>
     ensures { IfOk result (λ text. text ≡ done_line commands steps) }
@@ -47,7 +47,7 @@ fn cause_text(alloc: Global, cause: CommandCause) -> Result<String, OutOfMemory>
     }
 }
 
-/// The command of this number stopped the script, at this step.
+/// The line of the command that stopped the script: its number, the cause and the step.
 #[tactic(auto, unfolding(crate::specs::ScriptTexts::command_failed_line))]
 pub(crate) fn command_failed(
     alloc: Global,
@@ -62,7 +62,7 @@ pub(crate) fn command_failed(
     Ok(Bytes::from_vec(text.into_bytes()))
 }
 
-/// The command of this number left so many bytes at FILE, and its run ended so.
+/// The line of what a command left at FILE: its size in bytes, and the cause and step of the run's end.
 #[tactic(auto, unfolding(crate::specs::KaemLeft::command_left_line))]
 pub(crate) fn left(
     alloc: Global,
@@ -79,7 +79,7 @@ pub(crate) fn left(
     Ok(Bytes::from_vec(text.into_bytes()))
 }
 
-/// It left nothing there, and its run ended so.
+/// The line of a command that left nothing at FILE, with the cause and step of the run's end.
 #[tactic(auto, unfolding(crate::specs::KaemLeft::command_none_left_line))]
 pub(crate) fn not_left(
     alloc: Global,
@@ -95,7 +95,7 @@ pub(crate) fn not_left(
     Ok(Bytes::from_vec(text.into_bytes()))
 }
 
-/// Every word of a report is true, which has so many commands.
+/// The line of a true report: the number of its commands.
 #[tactic(auto, unfolding(crate::specs::ScriptTexts::commands_true_line))]
 pub(crate) fn commands_true(alloc: Global, commands: usize) -> Result<Bytes, OutOfMemory>
     ensures { IfOk result (λ text. text ≡ commands_true_line commands) }
@@ -103,7 +103,7 @@ pub(crate) fn commands_true(alloc: Global, commands: usize) -> Result<Bytes, Out
     Ok(Bytes::from_vec(format!(in alloc; "yes {commands}\n")?.into_bytes()))
 }
 
-/// The first part of a report that is not true, and its place.
+/// The line of a false report: its first part that is false, and the place of that part.
 #[tactic(auto, unfolding(crate::specs::ScriptTexts::script_refuted_line))]
 pub(crate) fn refuted(alloc: Global, part: ScriptPart, place: u32) -> Result<Bytes, OutOfMemory>
     ensures { IfOk result (λ text. text ≡ script_refuted_line part place) }

@@ -1,4 +1,4 @@
-//! What the commands on scripts begin with: a script, a list of files, and these files.
+//! What the commands on scripts load first: a script, a list of files, and these files.
 
 ghost use Rattle.std.specs.Prelude.{◌≡◌, ◌≤◌, IfOk, OnOk, length, ℕ};
 ghost use Rattle.std.specs.List.{list_any};
@@ -24,7 +24,7 @@ use kaem_script::{FileList, Script, ScriptFault, ScriptRefusal};
 use mem_files::PlaceRefusal;
 use std::alloc::Global;
 
-/// The most bytes of a script that is loaded.
+/// The most bytes of a script that are loaded.
 const SCRIPT_LIMIT: u64 = 1_048_576;
 
 /// The most lines of a list of files.
@@ -36,7 +36,7 @@ const FILE_LIMIT: u64 = 268_435_456;
 /// The most bytes of all listed files together.
 const FILES_LIMIT: u64 = 536_870_912;
 
-/// Fetches a script and reads it.
+/// Fetches a script and reads it. Stops with 15 where the file is not a script.
 pub(crate) fn fetch_script<S: Shelf>(
     alloc: Global,
     shelf: &mut S,
@@ -48,7 +48,7 @@ pub(crate) fn fetch_script<S: Shelf>(
     read_script(alloc, text)
 }
 
-/// Reads a script, and lets its text go.
+/// Reads a script and frees its text. Stops with 15 where the text is not a script.
 fn read_script(alloc: Global, text: Bytes) -> Result<Script, Stop>
     ensures { (shelf : ShelfState) → Obtains (unless_refused (script_of text) (λ (fault : Fault × ℕ). answers ScriptRefused (script_line fault.0 fault.1)))
         shelf shelf result }
@@ -62,7 +62,7 @@ fn read_script(alloc: Global, text: Bytes) -> Result<Script, Stop>
     }
 }
 
-/// The answer to a file that is no script, by its first fault.
+/// The answer to a file that is not a script: its first fault, and the byte offset of the word.
 fn script_refused(alloc: Global, fault: ScriptFault, offset: u64) -> Result<Answer, Stop>
     ensures { Says (answers ScriptRefused (script_line fault offset)) result }
 {
@@ -72,7 +72,7 @@ fn script_refused(alloc: Global, fault: ScriptFault, offset: u64) -> Result<Answ
     })
 }
 
-/// Fetches a list of files, of which none is to be written.
+/// Fetches a list of files. A usage answer where one of them is the file that is to be written.
 pub(crate) fn fetch_unlisted<S: Shelf>(
     alloc: Global,
     shelf: &mut S,
@@ -88,7 +88,7 @@ pub(crate) fn fetch_unlisted<S: Shelf>(
     Ok(words)
 }
 
-/// Fetches a list of files and reads it.
+/// Fetches a list of files and reads it. Stops with 16 where the file is not a list.
 fn fetch_words<S: Shelf>(
     alloc: Global,
     shelf: &mut S,
@@ -101,7 +101,7 @@ fn fetch_words<S: Shelf>(
     fetch_list::<FileLine, S>(alloc, shelf, list, MOST_FILES)
 }
 
-/// Ends the command where a listed word stands for a file that is to be written.
+/// Stops with a usage answer where a listed word names the file that is to be written.
 #[tactic(auto, unfolding(crate::specs::Scripts::needs_unlisted))]
 fn unlisted(alloc: Global, words: &ListOf<FileLine>, report: &FileName<'_>) -> Result<(), Stop>
     ensures { (shelf : ShelfState) → Obtains (needs_unlisted words.now report.now) shelf shelf result }
@@ -112,7 +112,7 @@ fn unlisted(alloc: Global, words: &ListOf<FileLine>, report: &FileName<'_>) -> R
     Ok(())
 }
 
-/// Whether a listed word stands for a file.
+/// Whether a listed word names this file.
 fn is_listed(words: &ListOf<FileLine>, file: &str) -> bool
     ensures { result ≡ list_any (λ word. is_one_file word file.now) words.now }
 {
@@ -122,7 +122,7 @@ fn is_listed(words: &ListOf<FileLine>, file: &str) -> bool
         .any(|word| is_one_file(word.as_str(), file))
 }
 
-/// Fetches the files for which listed words stand, in order.
+/// Fetches the files that the listed words name, in order.
 pub(crate) fn fetch_files<S: Shelf>(
     alloc: Global,
     shelf: &mut S,
@@ -135,7 +135,7 @@ pub(crate) fn fetch_files<S: Shelf>(
     fetch_each(alloc, shelf, words.as_slice())
 }
 
-/// Fetches the files of these words, in order. The bytes of one of them stand twice, while it is added.
+/// Fetches the files that these words name, in order. While a file is added, its bytes are in memory twice.
 fn fetch_each<S: Shelf>(alloc: Global, shelf: &mut S, words: &[FileLine]) -> Result<FileList, Stop>
     requires apart { AreApart words.now }
     requires few { length words.now ≤ 4096 }
@@ -151,7 +151,7 @@ fn fetch_each<S: Shelf>(alloc: Global, shelf: &mut S, words: &[FileLine]) -> Res
     Ok(files)
 }
 
-/// Adds a file for which there is room.
+/// Adds a file that fits the limits.
 fn add(files: &mut FileList, word: &FileLine, content: &[u8]) -> Result<(), OutOfMemory>
     requires { IsPlaced files.old word.now content.now }
     ensures { OnOk result (files.new ≡ and_file files.old word.now content.now) }

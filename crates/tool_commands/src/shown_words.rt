@@ -1,4 +1,4 @@
-//! Words of a file as they are shown: in bytes that a line and a terminal bear.
+//! Words of a file as they are printed: with bytes from `!` to `~` only.
 
 ghost use Rattle.std.specs.Prelude.{◌≡◌, ◌++◌, IfOk, OnOk, take};
 ghost use Rattle.tool_commands.specs.ShownWords.{is_shown_as_it_is, shown_byte, shown_each, shown_word};
@@ -6,10 +6,10 @@ ghost use Rattle.tool_commands.specs.ShownWords.{is_shown_as_it_is, shown_byte, 
 use ddc_base::{Bytes, OutOfMemory, put_hex};
 use std::alloc::Global;
 
-/// So many bytes of a word are shown at most.
+/// The most bytes of a word that are shown.
 const MOST_SHOWN: usize = 64;
 
-/// A word as it is shown. Of a longer word than 64 bytes the first 64 are, and two dots.
+/// A word as it is printed. Of a word longer than 64 bytes, the first 64 are shown, and two dots after them.
 #[tactic(auto, unfolding(crate::specs::ShownWords::shown_word))]
 pub(crate) fn shown_word(alloc: Global, word: &[u8]) -> Result<Bytes, OutOfMemory>
     ensures { IfOk result (λ shown. shown ≡ shown_word word.now) }
@@ -22,7 +22,7 @@ pub(crate) fn shown_word(alloc: Global, word: &[u8]) -> Result<Bytes, OutOfMemor
     Ok(shown)
 }
 
-/// The bytes of a word one after the other as they are shown.
+/// The bytes of a word, each as it is printed.
 fn shown_each(alloc: Global, word: &[u8]) -> Result<Bytes, OutOfMemory>
     ensures { IfOk result (λ shown. shown ≡ shown_each word.now) }
 {
@@ -33,7 +33,7 @@ fn shown_each(alloc: Global, word: &[u8]) -> Result<Bytes, OutOfMemory>
     Ok(shown)
 }
 
-/// Adds a byte as it is shown: a plain one as it is, every other by its two hexadecimal digits.
+/// Appends a byte as it is printed: a plain one unchanged, every other as `\x` and two hexadecimal digits.
 fn show_byte(shown: &mut Bytes, byte: u8) -> Result<(), OutOfMemory>
     ensures { OnOk result (shown.new ≡ shown.old ++ shown_byte byte) }
 {
@@ -44,7 +44,7 @@ fn show_byte(shown: &mut Bytes, byte: u8) -> Result<(), OutOfMemory>
     put_hex(shown, &[byte])
 }
 
-/// Whether a byte is shown as it is: ASCII from `!` to `~`, but for the backslash.
+/// Whether a byte is printed unchanged: ASCII from `!` to `~` except the backslash.
 fn is_shown_as_it_is(byte: u8) -> bool
     ensures { result ≡ is_shown_as_it_is byte }
 {

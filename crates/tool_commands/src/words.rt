@@ -1,4 +1,4 @@
-//! The words of the commands, each set of them as one value.
+//! The arguments of the commands, one type for each set of them.
 
 ghost use Rattle.std.specs.Prelude.{◌≡◌, ◌≤◌, ◌^◌, IfSome, IsTrue, map};
 ghost use Rattle.std.specs.List.{list_all};
@@ -14,13 +14,13 @@ use ddc_base::languages::Language;
 use ddc_base::read_decimal;
 use std::marker::Model;
 
-/// The greatest base: 2^37.
+/// The greatest base, 2^37, included.
 const GREATEST_BASE: u64 = 137_438_953_472;
 
 /// The most commands of a script.
 const MOST_COMMANDS: u64 = 4_096;
 
-/// A source, and a binary that is compared with its value. They may be one file.
+/// The arguments of `hex0`: a source, and a binary that is compared with its value. They may be one file.
 #[derive(Drop)]
 pub(crate) struct Hex0Words<'w> {
     pub source: FileName<'w>,
@@ -28,7 +28,7 @@ pub(crate) struct Hex0Words<'w> {
 }
 
 impl<'w> Hex0Words<'w> {
-    /// The words `SOURCE BINARY`, and `None` for every other.
+    /// Reads the arguments `SOURCE BINARY`; `None` for all others.
     pub(crate) fn read(words: &[&'w str]) -> Option<Hex0Words<'w>>
         ensures { result ≡ hex0_words (map (λ w. w.now) words.now) }
     {
@@ -41,7 +41,7 @@ impl<'w> Hex0Words<'w> {
     }
 }
 
-/// The address at which a source's bytes begin, from 0 to 2^37. Contracts see the number.
+/// The address at which a source's bytes begin, from 0 to 2^37, both included. Contracts see the number.
 #[derive(Clone, Copy)]
 pub(crate) struct Base {
     address: u64,
@@ -60,7 +60,7 @@ impl Model for Base {
 }
 
 impl Base {
-    /// The base that a word is, and `None` for every other word.
+    /// Reads a base; `None` for all other words.
     fn read(word: &str) -> Option<Base>
         ensures { result ≡ as_base word.now }
     {
@@ -77,7 +77,7 @@ impl Base {
     }
 }
 
-/// A base, from 0 to 2^37.
+/// Reads a decimal number from 0 to 2^37; `None` for all other words.
 #[tactic(auto, unfolding(crate::specs::Asm::as_base))]
 fn base_of(word: &str) -> Option<u64>
     ensures value { result ≡ as_base word.now }
@@ -91,7 +91,7 @@ fn base_of(word: &str) -> Option<u64>
     }
 }
 
-/// A source in a language, the base of its value, and the file in which that is saved.
+/// The arguments of `asm`: the language and the base, the source, and the file in which the value is saved.
 #[derive(Drop)]
 pub(crate) struct AsmWords<'w> {
     pub language: Language,
@@ -101,7 +101,7 @@ pub(crate) struct AsmWords<'w> {
 }
 
 impl<'w> AsmWords<'w> {
-    /// The words `LANG BASE SOURCE OUT`, and `None` for every other.
+    /// Reads the arguments `LANG BASE SOURCE OUT`; `None` for all others.
     pub(crate) fn read(words: &[&'w str]) -> Option<AsmWords<'w>>
         ensures { result ≡ asm_words (map (λ w. w.now) words.now) }
     {
@@ -120,7 +120,7 @@ impl<'w> AsmWords<'w> {
     }
 }
 
-/// Words that a program can be given as its arguments: none has a zero byte. Contracts see their bytes.
+/// Arguments of a program: words without a zero byte. Contracts see their bytes.
 #[derive(Drop)]
 pub(crate) struct Args<'w> {
     words: &'w [&'w str],
@@ -139,7 +139,7 @@ impl<'w> Model for Args<'w> {
 }
 
 impl<'w> Args<'w> {
-    /// The arguments that words are, and `None` where one of them has a zero byte.
+    /// Reads words as arguments; `None` where one of them has a zero byte.
     #[tactic(auto, using(crate::proofs::Arguments::texts_of_words))]
     fn read(words: &'w [&'w str]) -> Option<Args<'w>>
         ensures { result ≡ as_args (map (λ w. w.now) words.now) }
@@ -167,7 +167,7 @@ fn are_texts(words: &[&str]) -> bool
     words.iter().all(|word| has_no_zero_byte(word))
 }
 
-/// A program, the most steps of its run, and its arguments.
+/// The arguments of `run`: a program, the most steps of its run, and its arguments.
 #[derive(Drop)]
 pub(crate) struct RunWords<'w> {
     pub program: FileName<'w>,
@@ -176,7 +176,7 @@ pub(crate) struct RunWords<'w> {
 }
 
 impl<'w> RunWords<'w> {
-    /// The words `PROGRAM STEPS ARG..`, and `None` for every other.
+    /// Reads the arguments `PROGRAM STEPS ARG..`; `None` for all others.
     pub(crate) fn read(words: &'w [&'w str]) -> Option<RunWords<'w>>
         ensures { result ≡ run_words (map (λ w. w.now) words.now) }
     {
@@ -194,7 +194,7 @@ impl<'w> RunWords<'w> {
     }
 }
 
-/// A script, the list of the files that it is given, and its report.
+/// The arguments of `kaem-verify`: a script, the list of its files, and its report.
 #[derive(Drop)]
 pub(crate) struct ScriptWords<'w> {
     pub script: FileName<'w>,
@@ -203,7 +203,7 @@ pub(crate) struct ScriptWords<'w> {
 }
 
 impl<'w> ScriptWords<'w> {
-    /// The words `SCRIPT LIST REPORT`, and `None` for every other.
+    /// Reads the arguments `SCRIPT LIST REPORT`; `None` for all others.
     pub(crate) fn read(words: &[&'w str]) -> Option<ScriptWords<'w>>
         ensures { result ≡ script_words (map (λ w. w.now) words.now) }
     {
@@ -219,7 +219,7 @@ impl<'w> ScriptWords<'w> {
     }
 }
 
-/// A script, the list of the files that it is given, its report, and the most steps of each of its commands.
+/// The arguments of `kaem`: a script, the list of its files, its report, and the most steps of each command.
 #[derive(Drop)]
 pub(crate) struct KaemWords<'w> {
     pub script: FileName<'w>,
@@ -229,7 +229,7 @@ pub(crate) struct KaemWords<'w> {
 }
 
 impl<'w> KaemWords<'w> {
-    /// The words `SCRIPT LIST REPORT STEPS`, and `None` for every other.
+    /// Reads the arguments `SCRIPT LIST REPORT STEPS`; `None` for all others.
     pub(crate) fn read(words: &[&'w str]) -> Option<KaemWords<'w>>
         ensures { result ≡ kaem_words (map (λ w. w.now) words.now) }
     {
@@ -247,7 +247,7 @@ impl<'w> KaemWords<'w> {
     }
 }
 
-/// The number of a command, from 1 to 4,096, which contracts see as this number.
+/// The number of a command, from 1 to 4,096, both included. Contracts see the number.
 #[derive(Clone, Copy)]
 pub(crate) struct CommandNumber {
     number: u32,
@@ -266,7 +266,7 @@ impl Model for CommandNumber {
 }
 
 impl CommandNumber {
-    /// The number that a word is, and `None` for every other word.
+    /// Reads a command's number; `None` for all other words.
     fn read(word: &str) -> Option<CommandNumber>
         ensures { result ≡ as_command_number word.now }
     {
@@ -284,7 +284,7 @@ impl CommandNumber {
     }
 }
 
-/// The number of a command, from 1 to 4,096.
+/// Reads a decimal number from 1 to 4,096; `None` for all other words.
 #[tactic(auto, unfolding(crate::specs::KaemLeft::as_command_number))]
 fn number_of(word: &str) -> Option<u32>
     ensures value { result ≡ as_command_number word.now }
@@ -298,8 +298,8 @@ fn number_of(word: &str) -> Option<u32>
     }
 }
 
-/// A script, the list of the files that it is given, the most steps of each of its commands, one of these by its number, and what is asked for of
-/// what that left.
+/// The arguments of `kaem-left`: a script, the list of its files, the most steps of each command, the number of one command, and FILE and
+/// OUT.
 #[derive(Drop)]
 pub(crate) struct KaemLeftWords<'w> {
     pub script: FileName<'w>,
@@ -310,7 +310,7 @@ pub(crate) struct KaemLeftWords<'w> {
 }
 
 impl<'w> KaemLeftWords<'w> {
-    /// The words `SCRIPT LIST STEPS COMMAND FILE OUT`, and `None` for every other.
+    /// Reads the arguments `SCRIPT LIST STEPS COMMAND FILE OUT`; `None` for all others.
     #[tactic(auto, unfolding(crate::specs::KaemLeft::kaem_left_words))]
     pub(crate) fn read(words: &[&'w str]) -> Option<KaemLeftWords<'w>>
         ensures { result ≡ kaem_left_words (map (λ w. w.now) words.now) }

@@ -1,4 +1,4 @@
--- `chain LIST`: the audits of a list are verified one after the other, and what remains to be believed of all of them is said.
+-- `chain LIST`: verifies the audits of a list one after another, and prints the assumptions that are left of all of them.
 -- docs/reference/command-line.md and docs/reference/chain.md say the same for people.
 use Rattle.std.specs.Prelude.{ℕ, ◌+◌, ◌-◌, ◌==◌, Bool, Option, None, Some, List, [], ◌∷◌, ◌++◌, length, sum_by, if◌then◌else◌}
 use Rattle.std.specs.List.{before_first, after_first}
@@ -21,7 +21,7 @@ use Rattle.verify_commands.specs.ChainTexts.{audit_line, chain_text}
 
 -- ---- LIST
 
--- a line names a recipe and its report, two words with one blank between
+-- a line names a recipe and its report, two words with one blank between them
 abbrev pub is_space : ℕ → Bool
 is_space byte = byte == 32
 
@@ -32,19 +32,19 @@ both_words _ _ = None
 unfoldable pub pair_of : List Pair → List ℕ → Option Pair
 pair_of earlier line = both_words (listed_word (before_first is_space line)) (listed_word (after_first is_space line))
 
--- ---- one audit, by its number from 1: what `verify` says of it stands after a line with that number
+-- ---- one audit, by its number from 1: a line with that number is printed before what `verify` prints of it
 
 unfoldable pub needs_two_files : Pair → (Unit {0} → Plan) → Plan
 needs_two_files pair next = if is_one_file pair.recipe pair.report then usage else next tt
 
--- a report without a fault goes on, where all its comparisons are equal; else the comparisons are said, or the first part that is not true,
--- after `front`
+-- Continues where the report has no fault and all its comparisons are equal. Otherwise answers with the comparisons, or with the first
+-- false part, after `front`
 unfoldable pub needs_true : List ℕ → List CompareLine → Option (Part × ℕ) → (Unit {0} → Plan) → Plan
 needs_true front lines None next = if all_equal lines then next tt else answers Differs (front ++ compared_lines lines)
 needs_true front lines (Some (part, place)) next = answers Refuted (front ++ refuted_line part place)
 
--- as `verify`: the recipe, a report that is none of its inputs, what the report says, the inputs, for which so many bytes are left, and then
--- the judgement
+-- As `verify`: loads the recipe, checks that the report is not an input, loads the report and the inputs, of at most `room` bytes together,
+-- and judges the report
 unfoldable pub needs_audit : ℕ → ℕ → Pair → (Link → Plan) → Plan
 needs_audit number room pair next =
     needs_two_files pair (λ _.
@@ -56,25 +56,25 @@ needs_audit number room pair next =
 
 -- ---- all of them
 
--- how many bytes are left for the inputs of later audits
+-- the number of bytes that are left for the inputs of later audits
 abbrev pub room_after : ℕ → List (List ℕ) → ℕ
 room_after room inputs = room - sum_by length inputs
 
--- the audits of these lines, after those that are verified
+-- verifies the audits of these lines, after those that are verified
 abbrev pub chained : List Link → ℕ → List Pair → Plan
 chained links room [] = answers Yes (chain_text links)
 chained links room (pair ∷ pairs) = needs_audit (length links + 1) room pair (λ link. chained (links ++ link ∷ []) (room_after room link.inputs) pairs)
 
--- there is to be a line; the inputs of all audits have at most 1,073,741,824 bytes together
+-- there must be a line; the inputs of all audits have at most 1,073,741,824 bytes together
 unfoldable pub chained_lines : List Pair → Plan
 chained_lines [] = answers ListRefused (list_line 1)
 chained_lines (pair ∷ pairs) = chained [] 1_073_741_824 (pair ∷ pairs)
 
--- the list, of at most 64 lines, and then its audits in order
+-- loads the list, of at most 64 lines, and verifies its audits in order
 unfoldable pub chain_files : List ℕ → Plan
 chain_files list = needs_list pair_of 64 list chained_lines
 
--- the words after `chain`
+-- the plan for the words after `chain`
 abbrev pub chain_plan : List (List ℕ) → Plan
 chain_plan (list ∷ []) = if is_file_word list then chain_files list else usage
 chain_plan _ = usage

@@ -7,15 +7,15 @@ use Rattle.audit_chain.specs.declared.link.Link.{Link}
 use Rattle.audit_chain.specs.declared.link.ChainLine.{ChainLine}
 use Rattle.audit_chain.specs.Chain.{remaining}
 
--- what follows is said of the audit of this number
+-- the line before what is printed of the audit of this number
 unfoldable pub audit_line : ℕ → List ℕ
 audit_line number = line (codes "audit" ∷ decimal number ∷ [])
 
--- so many audits are true, and their artefacts are equal
+-- the line with the number of true audits, whose comparisons are all equal
 unfoldable pub verified_line : ℕ → List ℕ
 verified_line count = line (codes "chain" ∷ decimal count ∷ codes "yes" ∷ [])
 
--- what has to be believed of a program of the audit of this number
+-- the line of an assumption about a program of the audit of this number
 abbrev pub line_in : ℕ → Assumption → List ℕ
 line_in number (Implements made source) = line (codes "assumes" ∷ decimal number ∷ codes "implements" ∷ made ∷ source ∷ [])
 line_in number (Compiles source stage becomes) = line (codes "assumes" ∷ decimal number ∷ codes "compiles" ∷ source ∷ stage ∷ becomes ∷ [])
@@ -23,6 +23,6 @@ line_in number (Compiles source stage becomes) = line (codes "assumes" ∷ decim
 unfoldable pub remaining_line : ChainLine → List ℕ
 remaining_line remains = line_in remains.audit remains.line
 
--- all audits are true and equal: how many they are, and exactly what remains to be believed
+-- the text where all audits are true and equal: their number, and exactly the assumptions that are left
 unfoldable pub chain_text : List Link → List ℕ
 chain_text links = verified_line (length links) ++ flat_map remaining_line (remaining links)

@@ -1,4 +1,4 @@
--- No promise rests on this file being read.
+-- No promise depends on these definitions.
 pub mod Ends
 pub mod BasisTexts
 pub mod FoundTexts

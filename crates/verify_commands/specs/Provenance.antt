@@ -1,5 +1,6 @@
--- What `provenance RECIPE REPORT` prints of a true report: the recipe's digest, and for each compared stage its comparison and the dependencies of its
--- artefact, by name, length and digest. The text is a function of the recipe and the report alone. docs/reference/provenance.md says the same for people.
+-- What `provenance RECIPE REPORT` prints of a true report: the recipe's digest, and for each compared stage its comparison and the
+-- dependencies of its artefact, by name, length and digest. The text is a function of the recipe and the report alone.
+-- docs/reference/provenance.md says the same for people.
 use Rattle.std.specs.Prelude.{ℕ, Option, Some, None, List, [], ◌∷◌, ◌++◌, bytes_eq, codes, decimal, flat_map, if◌then◌else◌}
 use Rattle.std.specs.List.{list_any}
 use Rattle.hex.specs.Hex.{encode_lower}
@@ -22,19 +23,19 @@ use Rattle.audit_chain.specs.Rests.Basis.{layouts, lines, own_layout, ran, texts
 use Rattle.verify_commands.specs.Rests.{names_text}
 use Rattle.verify_commands.specs.Texts.{assumption_line, headline}
 
--- a length and a digest: a true report has both of every name
+-- a length and a digest; a true report has both for every name
 abbrev pub mark_words_of : Option Mark → List (List ℕ)
 mark_words_of None = []
 mark_words_of (Some mark) = mark_words mark
 
--- the kind of a fact, a name, and the name's length and digest
+-- a line with the kind of a fact, a name, and the name's length and digest
 abbrev pub marked_line : RecipeContents → Report → List ℕ → List ℕ → List ℕ
 marked_line recipe report what name = line (what ∷ name ∷ mark_words_of (mark_named recipe report name))
 
 abbrev pub marked_text : RecipeContents → Report → List ℕ → List (List ℕ) → List ℕ
 marked_text recipe report what names = flat_map (marked_line recipe report what) names
 
--- how the artefact and the audited binary compare; where they are equal, their length and digest
+-- how the artefact and the audited binary compare; where they are equal, also their length and digest
 abbrev pub compared_by : RecipeContents → Report → List ℕ → List ℕ → Compared → List ℕ
 compared_by recipe report stage binary (Equal size) = line (codes "equal" ∷ stage ∷ binary ∷ mark_words_of (mark_named recipe report binary))
 compared_by recipe report stage binary (Differs offset ours theirs) =
@@ -44,11 +45,11 @@ compared_by recipe report stage binary (Differs offset ours theirs) =
 abbrev pub name_line : List ℕ → List ℕ → List ℕ
 name_line what name = line (what ∷ name ∷ [])
 
--- an unchecked stage on the way back; the artefact of the compared stage itself is in the line of its comparison
+-- an unchecked stage among the dependencies; the artefact of the compared stage itself is in the line of its comparison
 abbrev pub run_line : RecipeContents → Report → List ℕ → List ℕ → List ℕ
 run_line recipe report own name = if bytes_eq name own then name_line (codes "run") name else marked_line recipe report (codes "run") name
 
--- a file of a source that an assumption names: people have to read an input; of an artefact they have to ask in turn what it depends on
+-- A file of a source that an assumption names. People have to read an input. For an artefact they have to ask in turn where it comes from
 abbrev pub file_word : Option Content → List ℕ
 file_word (Some (Artefact index)) = codes "speaks"
 file_word (Some (Given index)) = codes "source"
@@ -61,16 +62,16 @@ source_file_line recipe report source file =
 unfoldable pub source_text : RecipeContents → Report → List Assumption → Source → List ℕ
 source_text recipe report assumed source = if list_any (names_source source.name) assumed then flat_map (source_file_line recipe report source.name) source.files else []
 
--- the dependencies that settle the artefact: the inputs that are read on the way back, the inputs that are run there, and the artefacts whose layout a
--- check in M1 leaves free
+-- the dependencies that determine the artefact: the inputs that are read, the inputs that are run, and the artefacts whose layout a check
+-- in M1 leaves free
 abbrev pub settling_text : RecipeContents → Report → List ℕ → List ℕ
 settling_text recipe report name =
     marked_text recipe report (codes "text") (texts recipe name)
     ++ marked_text recipe report (codes "program") (programs recipe name)
     ++ marked_text recipe report (codes "layout") (layouts recipe name)
 
--- the compared stage itself, where its check leaves its layout free; the unchecked stages; what has to be believed of programs; and the files of the
--- sources that these assumptions name
+-- the compared stage itself, if its check leaves its layout free; the unchecked stages; the assumptions about programs; and the files of
+-- the sources that these assumptions name
 abbrev pub believed_text : RecipeContents → Report → List ℕ → List ℕ
 believed_text recipe report name =
     names_text (codes "layout") (own_layout recipe name)
@@ -78,7 +79,7 @@ believed_text recipe report name =
     ++ flat_map assumption_line (lines recipe name)
     ++ flat_map (source_text recipe report (lines recipe name)) recipe.sources
 
--- where the audited binary itself is met on the way back: as an input, or as an earlier artefact
+-- where the audited binary itself is among the dependencies: as an input, or as an earlier artefact
 abbrev pub met_text : RecipeContents → Report → List ℕ → List ℕ
 met_text recipe report name =
     names_text (codes "audited read") (audited_met recipe report Read name)
@@ -89,12 +90,12 @@ met_text recipe report name =
 unfoldable pub origin_text : RecipeContents → Report → List ℕ → List ℕ
 origin_text recipe report name = settling_text recipe report name ++ (believed_text recipe report name ++ met_text recipe report name)
 
--- of a compared stage
+-- the lines of a compared stage
 unfoldable pub block_text : RecipeContents → Report → CompareLine → List ℕ
 block_text recipe report compare =
     compared_by recipe report compare.stage compare.binary compare.result ++ origin_text recipe report compare.stage
 
--- the recipe's file, by its SHA-256 digest
+-- the line of the recipe's file, by its SHA-256 digest
 unfoldable pub recipe_digest_line : RecipeContents → List ℕ
 recipe_digest_line recipe = line (codes "recipe" ∷ encode_lower recipe.digest.0 ∷ [])
 

@@ -1,4 +1,4 @@
--- What the command prints. docs/reference/command-line.md says the same for people.
+-- What `verify` prints. docs/reference/command-line.md says the same for people.
 use Rattle.std.specs.Prelude.{ℕ, List, [], ◌∷◌, ◌++◌, codes, decimal, flat_map, ◌==◌, if◌then◌else◌}
 use Rattle.ddc_base.specs.Lines.{line}
 use Rattle.recipe.specs.declared.contents.RecipeContents.{RecipeContents}
@@ -12,34 +12,34 @@ use Rattle.wheeler.specs.declared.assumption.Assumption.TheVariants.{Implements,
 use Rattle.wheeler.specs.Assumptions.{assumed}
 use Rattle.wheeler.specs.Routes.{assumed_named}
 
--- the first part of a report that is not true, and the number of its input or stage
+-- the line of a false report: its first part that is false, and the number of the input or stage of that part
 unfoldable pub refuted_line : Part → ℕ → List ℕ
 refuted_line part place = line (codes "refuted" ∷ part_word part ∷ decimal place ∷ [])
 
--- a report is true, and each of its comparisons says that the artefact and the binary are the same
+-- the line of a true report whose comparisons all say equal
 unfoldable pub yes_line : List ℕ
 yes_line = line (codes "yes" ∷ [])
 
 abbrev pub headline : List CompareLine → List ℕ
 headline lines = if all_equal lines then yes_line else []
 
--- what has to be believed of a program
+-- the line of an assumption about a program
 unfoldable pub assumption_line : Assumption → List ℕ
 assumption_line (Implements made source) = line (codes "assumes" ∷ codes "implements" ∷ made ∷ source ∷ [])
 assumption_line (Compiles source stage becomes) = line (codes "assumes" ∷ codes "compiles" ∷ source ∷ stage ∷ becomes ∷ [])
 
--- a route: its compared stage, and then exactly the lines of what is assumed for that stage
+-- a route: its compared stage, and then exactly the lines of the assumptions for that stage
 unfoldable pub route_line : List ℕ → List ℕ
 route_line stage = line (codes "route" ∷ stage ∷ [])
 
 abbrev pub route_text : RecipeContents → List ℕ → List ℕ
 route_text recipe stage = route_line stage ++ flat_map assumption_line (assumed_named recipe stage)
 
--- what is assumed of the recipe's programs: in format 1 all of it, in format 2 the route of each compared stage in order
+-- the assumptions about the recipe's programs: in format 1 all of them, in format 2 the route of each compared stage in order
 abbrev pub assumed_text : RecipeContents → List ℕ
 assumed_text recipe =
     if recipe.format == 1 then flat_map assumption_line (assumed recipe) else flat_map (route_text recipe) recipe.compare.stages
 
--- a report is true: how the artefacts and the binary compare, after a yes where all are the same, and then exactly what is assumed
+-- the text of a true report: its comparisons, after a yes where all are equal, and then exactly the assumptions
 abbrev pub true_text : RecipeContents → List CompareLine → List ℕ
 true_text recipe lines = headline lines ++ compared_lines lines ++ assumed_text recipe

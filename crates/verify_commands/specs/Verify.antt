@@ -1,6 +1,6 @@
--- `verify RECIPE REPORT` and `provenance RECIPE REPORT`: the stages of a recipe are replayed, and a report is judged by them. Both are one plan, and
--- differ in the text for a true report alone. docs/reference/command-line.md, docs/reference/verify.md and docs/reference/provenance.md say the same
--- for people.
+-- `verify RECIPE REPORT` and `provenance RECIPE REPORT`: replays the stages of a recipe, and judges a report by them. Both are one plan and
+-- differ only in the text for a true report. docs/reference/command-line.md, docs/reference/verify.md and docs/reference/provenance.md say
+-- the same for people.
 use Rattle.std.specs.Prelude.{ℕ, Option, Some, None, List, [], ◌∷◌, if◌then◌else◌}
 use Rattle.recipe.specs.declared.contents.RecipeContents.{RecipeContents}
 use Rattle.report.specs.declared.types.CompareLine.{CompareLine}
@@ -17,12 +17,12 @@ use Rattle.verify_commands.specs.declared.explanation.Explanation.TheVariants.{A
 use Rattle.verify_commands.specs.Provenance.{provenance_text}
 use Rattle.verify_commands.specs.Texts.{refuted_line, true_text}
 
--- the text for a report without a fault: its comparisons with what is assumed, or with the dependencies of each artefact
+-- the text for a report without a fault: its comparisons with the assumptions, or with the dependencies of each artefact
 abbrev pub explained : Explanation → RecipeContents → Report → List ℕ
 explained Assumptions recipe report = true_text recipe report.compare
 explained Provenance recipe report = provenance_text recipe report
 
--- a report without a fault is true, and is answered by this text; of any other report the first part that is not true is named
+-- a report without a fault is true and is answered with this text; for any other report the answer has the first false part
 abbrev pub judged_with : List ℕ → List CompareLine → Option (Part × ℕ) → Plan
 judged_with text lines None = answers (compared_status lines) text
 judged_with text lines (Some (part, place)) = answers Refuted (refuted_line part place)
@@ -30,7 +30,7 @@ judged_with text lines (Some (part, place)) = answers Refuted (refuted_line part
 abbrev pub judged_by : Explanation → RecipeContents → List (List ℕ) → Report → Plan
 judged_by explanation recipe inputs report = judged_with (explained explanation recipe report) report.compare (first_fault recipe inputs report)
 
--- the recipe, a report that is none of its inputs, what the report says, the inputs, and then the judgement
+-- loads the recipe, checks that the report is not an input, loads the report and the inputs, and judges the report
 unfoldable pub judge_files : Explanation → List ℕ → List ℕ → Plan
 judge_files explanation recipe report =
     needs_recipe recipe (λ said.
@@ -39,7 +39,7 @@ judge_files explanation recipe report =
     needs_inputs said (λ inputs.
     judged_by explanation said inputs made))))
 
--- the words after `verify`, and after `provenance`
+-- the plan for the words after `verify`, and after `provenance`
 abbrev pub judge_plan : Explanation → List (List ℕ) → Plan
 judge_plan explanation (recipe ∷ report ∷ []) = if are_two_files recipe report then judge_files explanation recipe report else usage
 judge_plan explanation _ = usage
@@ -50,7 +50,7 @@ verify_plan words = judge_plan Assumptions words
 abbrev pub provenance_plan : List (List ℕ) → Plan
 provenance_plan words = judge_plan Provenance words
 
--- the same of `verify` alone
+-- the answer of `verify`
 abbrev pub judged_report : RecipeContents → List CompareLine → Option (Part × ℕ) → Plan
 judged_report recipe lines fault = judged_with (true_text recipe lines) lines fault
 

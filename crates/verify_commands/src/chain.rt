@@ -1,4 +1,4 @@
-//! `chain LIST`: audits in a row are verified, and what remains to be believed of all of them is said.
+//! `chain LIST`: verifies the audits of a list, and prints the assumptions that are left of all of them.
 
 ghost use Rattle.std.specs.Prelude.{◌≡◌, ◌+◌, ◌++◌, ◌-◌, ◌<◌, ◌≤◌, ◌^◌, [], length, map};
 ghost use Rattle.ddc_base.specs.Outside.{ShelfState};
@@ -35,14 +35,14 @@ use verifier::{Part, Verdict};
 /// The most lines of a list.
 const MOST_AUDITS: u32 = 64;
 
-/// The turn of one audit: what is said of it stands after `front`, and its inputs may have `room` bytes together.
+/// One audit of the list: `front` is printed before what `verify` says of it, and its inputs may have `room` bytes together.
 #[derive(Drop)]
 struct Turn {
     front: Bytes,
     room: u64,
 }
 
-/// Performs the command on the words after its name.
+/// `chain LIST`: verifies the audits that LIST names. Statuses 0 to 5, 10, 11, 13, 16.
 #[tactic(auto, using(command_plan::proofs::Performing::performing))]
 pub fn perform<S: Shelf>(alloc: Global, shelf: &mut S, words: &[&str]) -> Result<Answer, Stop>
     ensures { Performs (chain_plan (map (λ w. w.now) words.now)) (S.state shelf.old) (S.state shelf.new) result }
@@ -56,7 +56,7 @@ pub fn perform<S: Shelf>(alloc: Global, shelf: &mut S, words: &[&str]) -> Result
     chain(alloc, shelf, &list)
 }
 
-/// The command on a list.
+/// Runs `chain` on a list.
 fn chain<S: Shelf>(alloc: Global, shelf: &mut S, list: &FileName<'_>) -> Result<Answer, Stop>
     ensures { Performs (chain_files list.now) (S.state shelf.old) (S.state shelf.new) result }
 {
@@ -76,7 +76,7 @@ fn verify_listed<S: Shelf>(
     verify_lines(alloc, shelf, pairs.as_slice())
 }
 
-/// Verifies the audits of a list's lines, of which there is to be one.
+/// Verifies the audits of a list's lines; answers with 16 where there is no line.
 #[tactic(auto, unfolding(crate::specs::Chain::chained_lines))]
 fn verify_lines<S: Shelf>(alloc: Global, shelf: &mut S, pairs: &[Pair]) -> Result<Answer, Stop>
     requires { length pairs.now ≤ 64 }
@@ -103,7 +103,7 @@ fn verify_each<S: Shelf>(alloc: Global, shelf: &mut S, pairs: &[Pair]) -> Result
     all_true(alloc, &links)
 }
 
-/// The answer where all audits are true and equal.
+/// The answer where all audits are true and their comparisons are equal.
 fn all_true(alloc: Global, links: &ChainLinks) -> Result<Answer, Stop>
     requires { length links.now < 2 ^ 32 }
     ensures { Says (chained links.now 0 []) result }
@@ -114,7 +114,7 @@ fn all_true(alloc: Global, links: &ChainLinks) -> Result<Answer, Stop>
     })
 }
 
-/// How many bytes are left for the inputs of later audits.
+/// The number of bytes that are left for the inputs of later audits.
 fn room_after(room: u64, inputs: &[Bytes]) -> u64
     ensures { result ≡ room_after room inputs.now }
 {
@@ -125,7 +125,7 @@ fn room_after(room: u64, inputs: &[Bytes]) -> u64
     left
 }
 
-/// Verifies the audit of this number, or ends the command where it is not true and equal.
+/// Verifies the audit of this number. Stops where `verify` would not return 0.
 fn verify_audit<S: Shelf>(
     alloc: Global,
     shelf: &mut S,
@@ -140,7 +140,7 @@ fn verify_audit<S: Shelf>(
     verify_pair(alloc, shelf, &Turn { front, room }, pair)
 }
 
-/// Ends the command where both words of a line name one file.
+/// Stops with a usage answer where both words of a line name the same file.
 #[tactic(auto, unfolding(crate::specs::Chain::needs_two_files))]
 fn two_files(alloc: Global, pair: &Pair) -> Result<(), Stop>
     ensures { (shelf : ShelfState) → Obtains (needs_two_files pair.now) shelf shelf result }
@@ -151,7 +151,7 @@ fn two_files(alloc: Global, pair: &Pair) -> Result<(), Stop>
     Ok(())
 }
 
-/// Verifies the report of a recipe.
+/// Verifies the report of a recipe, and returns the recipe and its inputs.
 fn verify_pair<S: Shelf>(
     alloc: Global,
     shelf: &mut S,
@@ -168,7 +168,7 @@ fn verify_pair<S: Shelf>(
     Ok(Link { recipe, inputs })
 }
 
-/// The inputs of a recipe, where a report of it is true.
+/// The inputs of a recipe whose report is true.
 fn verify_report<S: Shelf>(
     alloc: Global,
     shelf: &mut S,
@@ -185,7 +185,7 @@ fn verify_report<S: Shelf>(
     replay(alloc, shelf, turn, recipe, &report)
 }
 
-/// The inputs of a recipe, on which a report of it, which its caller lets go, is true.
+/// The inputs of a recipe whose report is true. The report is borrowed, so that the caller frees it.
 fn replay<S: Shelf>(
     alloc: Global,
     shelf: &mut S,
@@ -202,7 +202,7 @@ fn replay<S: Shelf>(
     Ok(inputs)
 }
 
-/// Replays the report of an audit, and ends the command where it is not true, or a comparison is not equal.
+/// Replays the report of an audit. Stops with 1 where it is not true, and with 3 where a comparison is not equal.
 fn judge(
     alloc: Global,
     front: &[u8],
@@ -221,7 +221,7 @@ fn judge(
     }
 }
 
-/// Ends the command with an answer.
+/// Stops the command with this answer.
 fn answered(answer: Result<Answer, Stop>) -> Result<(), Stop>
     ensures { EndsWith answer result }
 {
@@ -231,7 +231,7 @@ fn answered(answer: Result<Answer, Stop>) -> Result<(), Stop>
     }
 }
 
-/// The answer to a report that is true, of which a comparison is not equal.
+/// The answer to a true report with a comparison that is not equal.
 fn differs(alloc: Global, front: &[u8], lines: &[CompareLine]) -> Result<Answer, Stop>
     ensures { Says (answers Differs (front.now ++ compared_lines lines.now)) result }
 {
@@ -242,7 +242,7 @@ fn differs(alloc: Global, front: &[u8], lines: &[CompareLine]) -> Result<Answer,
     })
 }
 
-/// The answer to a report of which this part is not true.
+/// The answer to a false report: its first part that is false, and the place of that part.
 fn refuted(alloc: Global, front: &[u8], part: Part, place: u32) -> Result<Answer, Stop>
     ensures { Says (answers Refuted (front.now ++ refuted_line part place)) result }
 {

@@ -1,4 +1,4 @@
-//! What `chain` prints.
+//! Texts of the command `chain`.
 
 ghost use Rattle.audit_chain.specs.Chain.{remaining};
 ghost use Rattle.ddc_base.specs.Lines.{line};
@@ -11,7 +11,7 @@ use ddc_base::{Bytes, Name, OutOfMemory};
 use std::alloc::Global;
 use wheeler::Assumption;
 
-/// What follows is said of the audit of this number.
+/// The line before what is printed of the audit of this number.
 #[tactic(auto, unfolding(crate::specs::ChainTexts::audit_line))]
 pub fn audit(alloc: Global, number: u32) -> Result<Bytes, OutOfMemory>
     ensures { IfOk result (λ text. text ≡ audit_line number) }
@@ -19,7 +19,7 @@ pub fn audit(alloc: Global, number: u32) -> Result<Bytes, OutOfMemory>
     Ok(Bytes::from_vec(format!(in alloc; "audit {number}\n")?.into_bytes()))
 }
 
-/// All audits are true and equal: how many they are, and what remains to be believed.
+/// The text where all audits are true and equal: their number, and the assumptions that are left.
 #[tactic(auto, unfolding(crate::specs::ChainTexts::chain_text))]
 pub fn verified(alloc: Global, links: &ChainLinks) -> Result<Bytes, OutOfMemory>
     requires { length links.now < 2 ^ 32 }
@@ -31,7 +31,7 @@ pub fn verified(alloc: Global, links: &ChainLinks) -> Result<Bytes, OutOfMemory>
     Ok(text)
 }
 
-/// So many audits are.
+/// The line with the number of true audits.
 #[tactic(auto, unfolding(crate::specs::ChainTexts::verified_line))]
 fn count(alloc: Global, count: usize) -> Result<Bytes, OutOfMemory>
     ensures { IfOk result (λ text. text ≡ verified_line count) }
@@ -39,7 +39,7 @@ fn count(alloc: Global, count: usize) -> Result<Bytes, OutOfMemory>
     Ok(Bytes::from_vec(format!(in alloc; "chain {count} yes\n")?.into_bytes()))
 }
 
-/// Adds a line for each that remains.
+/// Appends a line for each assumption that is left.
 fn put_remaining(alloc: Global, text: &mut Bytes, lines: &[ChainLine]) -> Result<(), OutOfMemory>
     ensures { OnOk result (text.new ≡ text.old ++ flat_map remaining_line lines.now) }
 {
@@ -49,7 +49,7 @@ fn put_remaining(alloc: Global, text: &mut Bytes, lines: &[ChainLine]) -> Result
     Ok(())
 }
 
-/// What has to be believed of a program of an audit.
+/// The line of an assumption about a program of an audit.
 #[tactic(auto, unfolding(crate::specs::ChainTexts::remaining_line))]
 fn remains(alloc: Global, remains: &ChainLine) -> Result<Bytes, OutOfMemory>
     ensures { IfOk result (λ text. text ≡ remaining_line remains.now) }
@@ -64,7 +64,7 @@ fn remains(alloc: Global, remains: &ChainLine) -> Result<Bytes, OutOfMemory>
     }
 }
 
-/// That it is one of its source.
+/// The line of the assumption that a program implements its source.
 #[tactic(auto, using(crate::proofs::Written::written))]
 fn implements(alloc: Global, audit: u32, made: &Name, source: &Name) -> Result<Bytes, OutOfMemory>
     ensures { IfOk result (λ text. text ≡ line (codes "assumes" ∷ decimal audit ∷ codes "implements" ∷ made.now ∷ source.now ∷ [])) }
@@ -74,7 +74,7 @@ fn implements(alloc: Global, audit: u32, made: &Name, source: &Name) -> Result<B
     Ok(text)
 }
 
-/// That a source compiles another in a stage.
+/// The line of the assumption that a source compiles another in a stage.
 #[tactic(auto, using(crate::proofs::Written::written))]
 fn compiles(
     alloc: Global,

@@ -18,8 +18,9 @@ ghost use Rattle.audit_rules.specs.declared.answer.AuditAnswer.TheVariants.{Comp
 
 use audit_chain::origin::laws::the_marks_settle_it;
 
-/// The lines of `provenance` below a comparison settle the artefact: two true reports of one recipe for which these lines are the same have the same artefact
-/// of the stage, of a stage that is checked in M1 the same items. Otherwise two different contents with one length and one digest are at hand.
+/// Two completed audits of one recipe have the same artefact of a stage if `provenance` prints the same lines for it, or two different
+/// contents with one length and one digest are known. The lines are those below the stage's comparison. If the stage is checked in M1, the
+/// artefacts have the same items.
 pub fn what_is_printed_settles_it()
     ensures { (recipe : RecipeContents) (inputs others : List (List ℕ)) (report other : Report) (name : List ℕ) (stage : Stage)
         → IsRecipe recipe → IsInputs recipe inputs → IsInputs recipe others
@@ -30,7 +31,7 @@ pub fn what_is_printed_settles_it()
     the_marks_settle_it();
 }
 
-/// `provenance` judges as `verify` does: for the same words and files both return the same status, no file changes, and both load the same.
+/// For the same words and files `provenance` and `verify` return the same status and load the same files, and no file changes.
 pub fn it_judges_as_verify()
     ensures status { (words : List (List ℕ)) (files : NamedFiles) → (outcome (provenance_plan words) files).status ≡ (outcome (verify_plan words) files).status }
     ensures files { (words : List (List ℕ)) (files : NamedFiles) → (outcome (provenance_plan words) files).files ≡ files }

@@ -1,7 +1,7 @@
-//! The commands that judge: a report, several of them one after the other, and what a stage's artefact rests on.
+//! The commands that judge a report, judge several reports one after another, and print where a stage's artefact comes from.
 //!
-//! Their rules for people: docs/reference/command-line.md, and docs/reference/verify.md for what a replay judges,
-//! docs/reference/rests.md and docs/reference/provenance.md for what an artefact rests on.
+//! The rules for people are in docs/reference/command-line.md. docs/reference/verify.md has what a replay judges; docs/reference/rests.md
+//! and docs/reference/provenance.md have the dependencies of an artefact.
 #![tactic(auto)]
 
 pub mod chain;

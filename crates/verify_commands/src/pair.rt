@@ -6,7 +6,7 @@ use command_plan::lists::Listed;
 use ddc_base::OutOfMemory;
 use std::alloc::Global;
 
-/// A line of a list of audits.
+/// A line of a list of audits: the names of a recipe and of its report.
 #[derive(Drop)]
 pub struct Pair {
     /// The name of a recipe's file.
@@ -33,7 +33,7 @@ impl Listed for Pair {
     }
 }
 
-/// What stands before the first blank of a line, and what stands after it: nothing where there is no blank.
+/// The bytes before the first blank of a line, and those after it; all of the line and nothing where there is no blank.
 fn cut_at_blank(line: &[u8]) -> (&[u8], &[u8])
     ensures before { result.0.now ≡ before_first (λ byte. byte == 32) line.now }
     ensures after { result.1.now ≡ after_first (λ byte. byte == 32) line.now }
@@ -44,7 +44,7 @@ fn cut_at_blank(line: &[u8]) -> (&[u8], &[u8])
     }
 }
 
-/// The index of the first blank.
+/// The index of the first blank; `None` where there is no blank.
 fn blank_at(line: &[u8]) -> Option<usize>
     ensures place { result ≡ position (λ byte. byte == 32) line.now }
     ensures within { IfSome result (λ at. at < length line.now) }

@@ -1,4 +1,4 @@
-//! `rests RECIPE STAGE`: what a stage's artefact rests on, by the recipe's words alone.
+//! `rests RECIPE STAGE`: prints where a stage's artefact comes from, by the recipe alone.
 
 ghost use Rattle.std.specs.Prelude.{◌≡◌, ◌++◌, [], ◌∷◌, IfOk, OnOk, map, option_map};
 ghost use Rattle.ddc_base.specs.Lines.{line};
@@ -19,7 +19,7 @@ use recipe::{Recipe, Stage};
 use recipe_plan::fetch_recipe;
 use std::alloc::Global;
 
-/// Performs the command on the words after its name.
+/// `rests RECIPE STAGE`: prints the dependencies of STAGE's artefact. Statuses 0, 2, 4, 10, 11, 13.
 #[tactic(auto, using(command_plan::proofs::Performing::performing))]
 pub fn perform<S: Shelf>(alloc: Global, shelf: &mut S, words: &[&str]) -> Result<Answer, Stop>
     ensures { Performs (rests_plan (map (λ w. w.now) words.now)) (S.state shelf.old) (S.state shelf.new) result }
@@ -36,7 +36,7 @@ pub fn perform<S: Shelf>(alloc: Global, shelf: &mut S, words: &[&str]) -> Result
     rests(alloc, shelf, &recipe, stage)
 }
 
-/// The command on a recipe's file and a stage's name.
+/// Runs `rests` on a recipe's file and a stage's name.
 fn rests<S: Shelf>(
     alloc: Global,
     shelf: &mut S,
@@ -49,7 +49,7 @@ fn rests<S: Shelf>(
     on_recipe(alloc, &recipe, stage)
 }
 
-/// The command on a recipe, which its caller lets go.
+/// Prints the dependencies of a recipe's stage. The recipe is borrowed, so that the caller frees it.
 #[tactic(auto, unfolding(crate::specs::Rests::rested))]
 fn on_recipe(alloc: Global, recipe: &Recipe, stage: &str) -> Result<Answer, Stop>
     ensures { Says (rested recipe.now stage.now) result }
@@ -60,7 +60,7 @@ fn on_recipe(alloc: Global, recipe: &Recipe, stage: &str) -> Result<Answer, Stop
     }
 }
 
-/// The stage of a name.
+/// The stage of a name; `None` where no stage has the name.
 fn stage_named<'a>(recipe: &'a Recipe, name: &str) -> Option<&'a Stage>
     ensures { option_map (λ x. x.now) result ≡ stage_named recipe.now.stages name.now }
 {
@@ -81,7 +81,7 @@ fn answer(alloc: Global, recipe: &Recipe, name: &Name) -> Result<Answer, Stop>
     })
 }
 
-/// What is printed of the stage of a name.
+/// The text of the stage of a name.
 #[tactic(auto, unfolding(crate::specs::Rests::rests_text))]
 fn text_of(alloc: Global, recipe: &Recipe, name: &Name) -> Result<Bytes, OutOfMemory>
     ensures { IfOk result (λ text. text ≡ rests_text recipe.now name.now) }
@@ -90,7 +90,7 @@ fn text_of(alloc: Global, recipe: &Recipe, name: &Name) -> Result<Bytes, OutOfMe
     written(alloc, &basis)
 }
 
-/// The text of a basis.
+/// The text of these dependencies.
 #[tactic(auto, using(crate::proofs::Written::written))]
 fn written(alloc: Global, basis: &Basis) -> Result<Bytes, OutOfMemory>
     ensures { IfOk result (λ text. text ≡ basis_text basis.now) }
@@ -105,7 +105,7 @@ fn written(alloc: Global, basis: &Basis) -> Result<Bytes, OutOfMemory>
     Ok(text)
 }
 
-/// Adds a line for each name, after what it is.
+/// Appends a line for each name, with this word before it.
 pub(crate) fn put_names(text: &mut Bytes, what: &[u8], names: &[Name]) -> Result<(), OutOfMemory>
     ensures { OnOk result (text.new ≡ text.old ++ names_text what.now names.now) }
 {
@@ -115,7 +115,7 @@ pub(crate) fn put_names(text: &mut Bytes, what: &[u8], names: &[Name]) -> Result
     Ok(())
 }
 
-/// Adds the line of a name.
+/// Appends the line of a name, with this word before it.
 #[tactic(auto, using(crate::proofs::Written::written))]
 pub(crate) fn put_name(text: &mut Bytes, what: &[u8], name: &Name) -> Result<(), OutOfMemory>
     ensures { OnOk result (text.new ≡ text.old ++ line (what.now ∷ name.now ∷ [])) }

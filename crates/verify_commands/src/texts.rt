@@ -1,4 +1,4 @@
-//! What the command prints.
+//! Texts of the command `verify`.
 
 ghost use Rattle.recipe_plan.specs.Texts.{compared_lines};
 ghost use Rattle.ddc_base.specs.Lines.{line};
@@ -16,7 +16,7 @@ use std::alloc::Global;
 use verifier::Part;
 use wheeler::{Assumption, Assumptions, assumptions, assumptions_for};
 
-/// The first part of a report that is not true.
+/// The line of a false report: its first part that is false, and the place of that part.
 #[tactic(auto, unfolding(crate::specs::Texts::refuted_line))]
 pub fn refuted(alloc: Global, part: Part, place: u32) -> Result<Bytes, OutOfMemory>
     ensures { IfOk result (λ text. text ≡ refuted_line part place) }
@@ -25,8 +25,7 @@ pub fn refuted(alloc: Global, part: Part, place: u32) -> Result<Bytes, OutOfMemo
     Ok(Bytes::from_vec(format!(in alloc; "refuted {part} {place}\n")?.into_bytes()))
 }
 
-/// A report is true: how the artefacts and the binary compare, after a yes where all are the same, and what is assumed of the recipe's
-/// programs.
+/// The text of a true report: the comparisons, after a yes where all are equal, and the assumptions about the recipe's programs.
 pub fn accepted(alloc: Global, recipe: &Recipe, lines: &[CompareLine]) -> Result<Bytes, OutOfMemory>
     ensures { IfOk result (λ text. text ≡ true_text recipe.now lines.now) }
 {
@@ -35,7 +34,7 @@ pub fn accepted(alloc: Global, recipe: &Recipe, lines: &[CompareLine]) -> Result
     Ok(text)
 }
 
-/// How the artefacts and the binary compare, after a yes where all are the same.
+/// The lines of the comparisons, after a yes where all are equal.
 fn verdict(alloc: Global, lines: &[CompareLine]) -> Result<Bytes, OutOfMemory>
     ensures { IfOk result (λ text. text ≡ headline lines.now ++ compared_lines lines.now) }
 {
@@ -57,7 +56,7 @@ fn yes(alloc: Global, compared: &Bytes) -> Result<Bytes, OutOfMemory>
     Ok(text)
 }
 
-/// Adds what is assumed: in format 1 of all unchecked stages, in format 2 for each compared stage.
+/// Appends the assumptions: in format 1 those of all unchecked stages, in format 2 those of each compared stage.
 fn put_assumed(alloc: Global, text: &mut Bytes, recipe: &Recipe) -> Result<(), OutOfMemory>
     ensures { OnOk result (text.new ≡ text.old ++ assumed_text recipe.now) }
 {
@@ -69,7 +68,7 @@ fn put_assumed(alloc: Global, text: &mut Bytes, recipe: &Recipe) -> Result<(), O
     }
 }
 
-/// Adds the routes of these stages.
+/// Appends the routes of these stages.
 fn put_routes(
     alloc: Global,
     text: &mut Bytes,
@@ -84,7 +83,7 @@ fn put_routes(
     Ok(())
 }
 
-/// The route of a stage: a line with its name, and what is assumed for it.
+/// The route of a stage: a line with its name, and its assumptions.
 #[tactic(auto, using(crate::proofs::Written::written), unfolding(crate::specs::Texts::route_line))]
 fn route(alloc: Global, recipe: &Recipe, stage: &Name) -> Result<Bytes, OutOfMemory>
     ensures { IfOk result (λ text. text ≡ route_text recipe.now stage.now) }
@@ -97,7 +96,7 @@ fn route(alloc: Global, recipe: &Recipe, stage: &Name) -> Result<Bytes, OutOfMem
     Ok(text)
 }
 
-/// What is assumed for the stage of a name.
+/// The assumptions for the stage of a name.
 fn assumptions_of(alloc: Global, recipe: &Recipe, name: &Name) -> Result<Assumptions, OutOfMemory>
     ensures { IfOk result (λ lines. lines ≡ assumed_named recipe.now name.now) }
 {
@@ -107,7 +106,7 @@ fn assumptions_of(alloc: Global, recipe: &Recipe, name: &Name) -> Result<Assumpt
     }
 }
 
-/// The index of the stage of a name.
+/// The index of the stage of a name, from 0; `None` where no stage has the name.
 fn place_of(recipe: &Recipe, name: &Name) -> Option<usize>
     ensures place { result ≡ stage_at recipe.now.stages name.now }
     ensures bound { IfSome result (λ index. index < length recipe.now.stages) }
@@ -120,7 +119,7 @@ fn place_of(recipe: &Recipe, name: &Name) -> Option<usize>
         .position(|stage| stage.name == *name)
 }
 
-/// Adds a line for each assumption.
+/// Appends a line for each assumption.
 pub(crate) fn put_assumptions(
     alloc: Global,
     text: &mut Bytes,
@@ -134,7 +133,7 @@ pub(crate) fn put_assumptions(
     Ok(())
 }
 
-/// What has to be believed of a program.
+/// The line of an assumption about a program.
 #[tactic(auto, unfolding(crate::specs::Texts::assumption_line))]
 fn assumed(alloc: Global, assumption: &Assumption) -> Result<Bytes, OutOfMemory>
     ensures { IfOk result (λ text. text ≡ assumption_line assumption.now) }
@@ -149,7 +148,7 @@ fn assumed(alloc: Global, assumption: &Assumption) -> Result<Bytes, OutOfMemory>
     }
 }
 
-/// That it is one of its source.
+/// The line of the assumption that a program implements its source.
 #[tactic(auto, using(crate::proofs::Written::written))]
 fn implements(alloc: Global, made: &Name, source: &Name) -> Result<Bytes, OutOfMemory>
     ensures { IfOk result (λ text. text ≡ line (codes "assumes" ∷ codes "implements" ∷ made.now ∷ source.now ∷ [])) }
@@ -159,7 +158,7 @@ fn implements(alloc: Global, made: &Name, source: &Name) -> Result<Bytes, OutOfM
     Ok(text)
 }
 
-/// That a source compiles another in a stage.
+/// The line of the assumption that a source compiles another in a stage.
 #[tactic(auto, using(crate::proofs::Written::written))]
 fn compiles(
     alloc: Global,
@@ -175,7 +174,7 @@ fn compiles(
     Ok(text)
 }
 
-/// Adds a name, and the space after it.
+/// Appends a name and a blank.
 #[tactic(auto, using(crate::proofs::Written::written))]
 pub(crate) fn put_word(text: &mut Bytes, name: &Name) -> Result<(), OutOfMemory>
     ensures { OnOk result (text.new ≡ text.old ++ (name.now ++ codes " ")) }
@@ -185,7 +184,7 @@ pub(crate) fn put_word(text: &mut Bytes, name: &Name) -> Result<(), OutOfMemory>
     Ok(())
 }
 
-/// Adds the last two names of a line, and its end.
+/// Appends the last two names of a line, and its end.
 #[tactic(auto, using(crate::proofs::Written::written))]
 pub(crate) fn put_pair(text: &mut Bytes, first: &Name, second: &Name) -> Result<(), OutOfMemory>
     ensures { OnOk result (text.new ≡ text.old ++ line (first.now ∷ second.now ∷ [])) }

@@ -1,4 +1,4 @@
-//! `verify RECIPE REPORT` and `provenance RECIPE REPORT`: a report is judged by a replay. The commands differ in the text for a true report alone.
+//! `verify RECIPE REPORT` and `provenance RECIPE REPORT`: judge a report by a replay. They differ only in the text for a true report.
 
 ghost use Rattle.std.specs.Prelude.{◌≡◌, IfOk, map};
 ghost use Rattle.audit_rules.specs.Valid.{IsInputs};
@@ -22,7 +22,8 @@ use std::alloc::Global;
 use verifier::{Part, Verdict};
 use wheeler::Meaning;
 
-/// Performs `verify`, or `provenance`, on the words after its name: loads, replays, and judges. It does the same whatever sources mean.
+/// `verify RECIPE REPORT` and `provenance RECIPE REPORT`: replays the report. Statuses 0 to 5, 10, 11, 13. It does the same under every
+/// meaning of sources.
 pub fn perform<M: Meaning, S: Shelf>(
     alloc: Global,
     shelf: &mut S,
@@ -37,7 +38,7 @@ pub fn perform<M: Meaning, S: Shelf>(
     judge::<M, S>(alloc, shelf, explanation, &words)
 }
 
-/// The command on two files.
+/// Runs the command on two files.
 fn judge<M: Meaning, S: Shelf>(
     alloc: Global,
     shelf: &mut S,
@@ -50,7 +51,7 @@ fn judge<M: Meaning, S: Shelf>(
     on_recipe::<M, S>(alloc, shelf, explanation, &recipe, &words.report)
 }
 
-/// The command on a recipe, which its caller lets go.
+/// Judges a recipe's report. The recipe is borrowed, so that the caller frees it.
 fn on_recipe<M: Meaning, S: Shelf>(
     alloc: Global,
     shelf: &mut S,
@@ -67,7 +68,7 @@ fn on_recipe<M: Meaning, S: Shelf>(
     replay::<M, S>(alloc, shelf, explanation, recipe, &report)
 }
 
-/// The command on a recipe and a report, which its caller lets go.
+/// Fetches the inputs and judges a report over them. Recipe and report are borrowed, so that the caller frees them.
 fn replay<M: Meaning, S: Shelf>(
     alloc: Global,
     shelf: &mut S,
@@ -81,7 +82,7 @@ fn replay<M: Meaning, S: Shelf>(
     answer::<M>(alloc, explanation, recipe, &inputs, report)
 }
 
-/// Replays the report, and says what it comes to.
+/// Replays the report and answers whether it is true.
 fn answer<M: Meaning>(
     alloc: Global,
     explanation: Explanation,
@@ -100,7 +101,7 @@ fn answer<M: Meaning>(
     }
 }
 
-/// The answer to a report that is true.
+/// The answer to a true report: 0 where all comparisons are equal, 3 otherwise.
 fn accepted(
     alloc: Global,
     explanation: Explanation,
@@ -115,7 +116,7 @@ fn accepted(
     })
 }
 
-/// The text for a report that is true.
+/// The text for a true report.
 fn explain(
     alloc: Global,
     explanation: Explanation,
@@ -130,7 +131,7 @@ fn explain(
     }
 }
 
-/// The answer to a report of which this part is not true.
+/// The answer to a false report: its first part that is false, and the place of that part.
 fn refuted(alloc: Global, part: Part, place: u32) -> Result<Answer, Stop>
     ensures { Says (answers Refuted (refuted_line part place)) result }
 {

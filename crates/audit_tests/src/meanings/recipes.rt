@@ -25,7 +25,7 @@ pub(crate) const KEYS: &str = r#"args = ["x"], output = "-", steps = 1"#;
 /// Stages, and the lines.
 type Row = (&'static str, &'static str);
 
-/// Inputs: an input has a line where an unchecked stage runs it, and one alone; lines stand in the order of the inputs.
+/// Inputs: an input has a line where an unchecked stage runs it, and only one line; the lines have the order of the inputs.
 pub(crate) static INPUTS: [Row; 6] = [
     (r#"{ name = "a", program = "seed", $, check = "zero" }"#, ""),
     (

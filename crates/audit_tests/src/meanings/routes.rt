@@ -65,7 +65,7 @@ static ROUTES: [Row; 14] = [
         r#"{ name = "a", program = "seed", $, becomes = "other" }, { name = "b", program = "a", $, check = "words", becomes = "zero" }, { name = "c", program = "b", $, becomes = "one" }, { name = "d", program = "c", $ }"#,
         "1\nimplements seed zero\n2\n3\nimplements b zero\n4\nimplements b zero\ncompiles zero c one\n",
     ),
-    // the lines stand in the order of the recipe, and not in that of the route
+    // the lines have the order of the recipe, and not that of the route
     (
         r#"{ name = "a", program = "spare", $, becomes = "zero" }, { name = "b", program = "seed", $, becomes = "other" }, { name = "c", program = "b", $, becomes = "one" }, { name = "d", program = "c", $ }"#,
         "1\nimplements spare zero\n2\nimplements seed zero\n3\nimplements seed zero\ncompiles zero b other\n4\nimplements seed zero\ncompiles zero b other\ncompiles other c one\n",

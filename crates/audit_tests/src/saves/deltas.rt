@@ -1,4 +1,4 @@
-//! Deltas of the worked recipe. What they come to is what whole saves say, or was written down from docs/reference/delta.md.
+//! Deltas of the worked recipe. The expected results are what whole saves say, or were written down from docs/reference/delta.md.
 
 use crate::saves::kept::{delta_from, delta_of_none, save_relative};
 use crate::saves::saves::{old_save_at, save_at};
@@ -229,8 +229,8 @@ const STATE: Option<DeltaRefusal> = Some(DeltaRefusal::State);
 
 const OTHER: Option<DeltaRefusal> = Some(DeltaRefusal::OtherBase);
 
-/// The base is after 40 steps, the delta 5 steps later, so its only done stage is kept: the digest is at 8, how many stages are kept at 40, how
-/// many are further ones at 44, and the patch at 48, with its steps at 56, its pc at 64 and its bits of registers at 72.
+/// The base is after 40 steps, the delta 5 steps later, so its only finished stage is kept. The digest is at 8, the number of kept stages
+/// at 40, that of further ones at 44, and the patch at 48. In the patch the steps are at 56, the pc at 64 and the bits of registers at 72.
 static SECOND: &[Row] = &[
     (&[], &[], NEITHER),
     // The base first, as a save is refused.

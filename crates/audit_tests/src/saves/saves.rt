@@ -115,7 +115,7 @@ fn a_resumed_audit_has_the_undivided_report(rt: HostRuntime) {
     }
 }
 
-/// What the next piece of an audit comes to: a save, or the report.
+/// The result of the next segment of an audit: a save, or the report.
 #[derive(Drop)]
 struct Came {
     is_over: bool,
@@ -199,7 +199,7 @@ fn pieces_have_the_undivided_report(rt: HostRuntime) {
     }
 }
 
-/// Whether an audit that goes on by 1,000 steps comes to this report.
+/// Whether an audit that continues by 1,000 steps ends with this report.
 fn ends_with(alloc: Global, audit: &mut Audit, wanted: &str) -> bool {
     audit.advance(1_000) == Progress::Equal && has_report(alloc, audit, wanted)
 }
@@ -223,7 +223,7 @@ static TURNS: [(u8, &str); 3] = [
     (1, "stage two 54"),
 ];
 
-/// Whether a save with so many bytes in x8 comes to a report with this line.
+/// Whether a save with so many bytes in x8 leads to a report with this line.
 fn reads_at_once(alloc: Global, text: &[u8], bytes: u8, line: &str) -> bool {
     match with(alloc, REPORT, "stage two 32", line) {
         Ok(wanted) => reads_as(alloc, text, bytes, wanted.as_str()),

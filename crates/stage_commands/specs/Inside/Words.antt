@@ -1,4 +1,4 @@
--- The words of the commands on one stage, each set of them as one value.
+-- The arguments of the commands on one stage, one type for each set of them.
 use Rattle.std.specs.Prelude.{ℕ, Option, None, Some, List, [], ◌∷◌, if◌then◌else◌}
 use Rattle.command_plan.specs.Words.{as_file_name, as_steps, as_two_files, has_no_zero_byte}
 use Rattle.tool_commands.specs.GuestFiles.{as_guest_file}
@@ -8,7 +8,7 @@ use Rattle.stage_commands.specs.declared.words.LeftWords.{LeftWords}
 use Rattle.stage_commands.specs.declared.words.CutWords.{CutWords}
 use Rattle.stage_commands.specs.declared.words.EndsWords.{EndsWords}
 
--- a word as STAGE and as PREFIX, where it can be
+-- a word as STAGE and as PREFIX, where it is valid
 abbrev pub as_stage_word : List ℕ → Option (List ℕ)
 as_stage_word word = if has_no_zero_byte word then Some word else None
 

@@ -1,9 +1,9 @@
--- A list of files of which none is to be written.
+-- A list of files none of which is to be written.
 use Rattle.std.specs.Prelude.{ℕ, List}
 use Rattle.command_plan.specs.Lists.{needs_list}
 use Rattle.command_plan.specs.Plan.{Plan}
 use Rattle.tool_commands.specs.Scripts.{file_line, needs_unlisted}
 
--- the list, of at most 4,096 lines, of which none stands for the file that REPORT stands for
+-- loads the list, of at most 4,096 lines, none of which names the same file as REPORT
 abbrev pub needs_unlisted_words : List ℕ → List ℕ → (List (List ℕ) → Plan) → Plan
 needs_unlisted_words list report next = needs_list file_line 4_096 list (λ words. needs_unlisted words report (λ _. next words))

@@ -1,10 +1,10 @@
--- What the files of a list rest on, which are placed one after the other. No promise rests on its being read.
+-- The conditions under which the files of a list are added one after another. No promise depends on these definitions.
 use Rattle.std.specs.Prelude.{◌≡◌, ℕ, false, bytes_eq, All, Ok, List, [], ◌∷◌}
 use Rattle.mem_files.specs.Calls.{placed}
 use Rattle.mem_files.specs.Names.{stripped}
 use Rattle.kaem_script.specs.FilesListed.{FilesListed}
 
--- words that stand for files, no two of them for one
+-- words that name files, no two of them the same one
 abbrev pub IsApart : List ℕ → List ℕ → Type 0
 IsApart word other = bytes_eq (stripped word) (stripped other) ≡ false
 

@@ -1,5 +1,5 @@
--- The answers to a refusal of a language and to a script that did not go on, which are none of the source's and of the script's where memory was
--- wanting. No promise rests on its being read.
+-- The answers to a refusal of a language and to a script that stopped. Out of memory is no refusal and has no answer. No promise depends on
+-- these definitions.
 use Rattle.std.specs.Prelude.{◌≡◌, Result, Err}
 use Rattle.hex_langs.specs.declared.items.reader.HexRefusal.{HexRefusal}
 use Rattle.hex_langs.specs.declared.items.reader.HexRefusal.TheVariants as refusal

@@ -1,4 +1,4 @@
--- The words of the commands, each set of them as one value.
+-- The arguments of the commands, one type for each set of them.
 use Rattle.std.specs.Prelude.{ℕ, Option, None, Some, List, [], ◌∷◌, if◌then◌else◌}
 use Rattle.std.specs.List.{list_all}
 use Rattle.ddc_base.specs.declared.languages.Language.{Language}
@@ -30,7 +30,7 @@ abbrev pub asm_words : List (List ℕ) → Option AsmWords
 asm_words (language ∷ base ∷ source ∷ out ∷ []) = asm_of (language_named language) (as_base base) (as_two_files source out)
 asm_words _ = None
 
--- words that are arguments
+-- words without a zero byte, as arguments
 abbrev pub as_args : List (List ℕ) → Option (List (List ℕ))
 as_args words = if list_all is_text words then Some words else None
 

@@ -1,4 +1,4 @@
--- The text of a basis that was found. No promise rests on its being read.
+-- The text of dependencies that were found. No promise depends on these definitions.
 use Rattle.std.specs.Prelude.{ℕ, List, ◌++◌, codes, flat_map}
 use Rattle.audit_chain.specs.declared.rests.resting.Basis.{Basis}
 use Rattle.verify_commands.specs.Rests.{names_text}

@@ -1,4 +1,4 @@
--- The text of dependencies that were found. No promise rests on its being read.
+-- The text of marked dependencies that were found. No promise depends on these definitions.
 use Rattle.std.specs.Prelude.{ℕ, List, ◌++◌, codes, flat_map}
 use Rattle.recipe.specs.declared.contents.RecipeContents.{RecipeContents}
 use Rattle.report.specs.declared.types.Report.{Report}
