@@ -13,7 +13,7 @@ use rv64_machine::Hart;
 use save_format::state_text::{Reserved, StateParts, descriptors_of, files_of, put_parts};
 use std::alloc::Global;
 
-/// Serializes a guest's state (format 2). Error: out of memory.
+/// Serializes a guest's state (format 2, `ddcstat2`). Error: out of memory.
 pub fn write_state<R: Ram>(alloc: Global, guest: &Guest<R>) -> Result<Bytes, OutOfMemory>
     ensures { IfOk result (λ text. text ≡ text_of_state (state_of guest.now)) }
 {

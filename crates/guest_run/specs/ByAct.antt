@@ -12,7 +12,7 @@ use Rattle.guest_run.specs.Run.{End, Exited, Next, end_of, step_of_act, went_to}
 unfoldable pub next_by : (HartState → Act) → GuestState → Next
 next_by acts guest = step_of_act guest (acts guest.hart)
 
--- the state after so many continuing steps; `None` if one of them ends the run
+-- the state after this many continuing steps; `None` if one of them ends the run
 unfoldable pub after_by : (HartState → Act) → GuestState → ℕ → Option GuestState
 after_by acts guest zero = Some guest
 after_by acts guest (suc count) = option_and_then (λ last. went_to (next_by acts last)) (after_by acts guest count)

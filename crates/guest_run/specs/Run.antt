@@ -66,7 +66,7 @@ abbrev pub went_to : Next → Option GuestState
 went_to (Goes guest) = Some guest
 went_to (Ends end) = None
 
--- the state after so many continuing steps; `None` if one of them ends the run
+-- the state after this many continuing steps; `None` if one of them ends the run
 unfoldable pub after : GuestState → ℕ → Option GuestState
 after guest zero = Some guest
 after guest (suc count) = option_and_then (λ last. went_to (next last)) (after guest count)

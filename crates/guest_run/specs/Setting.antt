@@ -34,7 +34,7 @@ file_size file = length file.1
 abbrev pub files_size : FileMap → ℕ
 files_size files = sum_by file_size (map.entries files)
 
--- a file of an execution context: its size is within the limit, and its name has no leading `./`
+-- a file of an execution context: its size is within the limit, and its name is a file name without a leading `./`
 pub record IsBoxFile (file : List ℕ × List ℕ) : Type 0 where
   pub named : IsTrue (is_stripped_name file.0)
   pub name_bytes : AreBytes file.0

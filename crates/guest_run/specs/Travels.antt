@@ -11,7 +11,7 @@ abbrev pub travelled : Option ℕ → GuestState → (GuestState → Option End 
 travelled stop guest more (Ends end) = (Some end, guest)
 travelled stop guest more (Goes to) = if is_stop stop to.hart.pc then (None, to) else more to
 
--- at most so many steps, up to the end of the run or to the step that reaches the address: the end, if it occurs, and the state that is
+-- at most this many steps, up to the end of the run or to the step that reaches the address: the end, if it occurs, and the state that is
 -- left
 unfoldable pub travel : Option ℕ → GuestState → ℕ → Option End × GuestState
 travel stop guest zero = (None, guest)

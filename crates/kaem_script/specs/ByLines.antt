@@ -58,7 +58,7 @@ abbrev pub and_word : ℕ → Result WordOfLine ScriptFault → (WordOfLine → 
 and_word at (Err fault) next = Err (fault, at)
 and_word at (Ok word) next = next word
 
--- the words of the rest of a line, after `words`; the line ends at offset `end`, and so many more words are allowed. The first word
+-- the words of the rest of a line, after `words`; the line ends at offset `end`, and this many more words are allowed. The first word
 -- begins a command, and a script has at most 4,096 of them
 unfoldable pub words_of_line : ℕ → ℕ → ℕ → List (List ℕ) → List ℕ → LineWords
 words_of_line zero commands end words line = unless_over (Ok words) (λ here. Err (TooManyWords, end - length here)) (after_blanks line)

@@ -28,7 +28,7 @@ wrong_file number _ _ = Some number
 
 -- ---- the commands, each after those before it
 
--- the files that a command left, if it took exactly so many steps
+-- the files that a command left, if it took exactly this many steps
 abbrev pub left_after_steps : ℕ → CommandResult → Option World
 left_after_steps step (Ok ran) = if ran.steps == step then Some ran.world else None
 left_after_steps step (Err why) = None

@@ -89,7 +89,7 @@ abbrev pub with_line : List (List (List ℕ)) → List (List ℕ) → List (List
 with_line commands [] = commands
 with_line commands (word ∷ words) = commands ++ (word ∷ words) ∷ []
 
--- the next word, after so many commands and so many words of the line. A line has at most 64 words, and a script at most 4,096 commands
+-- the next word, after this many commands and this many words of the line. A line has at most 64 words, and a script at most 4,096 commands
 unfoldable pub next_word : ℕ → ℕ → List ℕ → Result ScriptWord ScriptFault
 next_word commands words here =
     if words == most_words then Err TooManyWords

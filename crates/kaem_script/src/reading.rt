@@ -63,7 +63,7 @@ fn read(
     Ok(())
 }
 
-/// The next word, after so many commands and so many words of its line.
+/// The next word, after this many commands and this many words of its line.
 #[tactic(auto, unfolding(crate::specs::Script::next_word))]
 fn next_word<'s>(
     commands: &ListOf<Command>,

@@ -1,5 +1,5 @@
--- The definitions of an M1 source. Public source: the language M1 of stage0-posix and mescc-tools, whose exact rules here are this project's
--- profile. docs/reference/m1.md says the same for people.
+-- The definitions of an M1 source. Public source: the language M1 of stage0-posix and mescc-tools, whose exact rules here are this
+-- project's profile. docs/reference/m1.md says the same for people.
 use Rattle.std.specs.Prelude.{ℕ, bytes_eq, Bool, not, if◌then◌else◌, List, [], ◌∷◌, ◌++◌, codes, is_some, Option, Some, None, Result, Ok, Err}
 use Rattle.std.specs.Map.{lookup}
 use Rattle.m1_lang.specs.Words.Words.{Word, Words, open_quote, word_list}
@@ -71,6 +71,6 @@ abbrev pub unless_open : Option ℕ → Result Defined M1Refusal → Result Defi
 unless_open (Some at) later = Err (OpenString at)
 unless_open None later = later
 
--- the definitions of a source, or its first refusal without those of other words
+-- the definitions of a source, or the first refusal of its quotes and definitions
 abbrev pub definitions_in : Words → Result Defined M1Refusal
 definitions_in words = unless_open (open_quote words) (definitions [] (parts (word_list words)))

@@ -12,7 +12,7 @@ pub enum M1Refusal {
     BadDefine(u64),
     /// The name that the `DEFINE` at this offset defines is already defined.
     DoubleDefine(u64),
-    /// The quote at this offset isn't closed.
+    /// The quote at this offset is not closed.
     OpenString(u64),
     /// The word at this offset has no known form, or is a second reference of a word of four bytes.
     UnknownWord(u64),

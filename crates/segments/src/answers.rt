@@ -57,7 +57,7 @@ pub enum SegmentFault {
 /// The answer of a check of two texts.
 #[derive(Clone, Copy, PartialEq, Eq)]
 pub enum SegmentAnswer {
-    /// They are a segment of so many steps.
+    /// They are a segment of this many steps.
     Yes(u64),
     No(SegmentFault),
     OutOfMemory,

@@ -5,7 +5,7 @@ use Rattle.guest_run.specs.Run.{after, Steps}
 use Rattle.guest_run.specs.State.{GuestState}
 use Rattle.guest_run.specs.Travels.{travel}
 
--- so many steps lead from one state to another without a stop, and both states continue to the same result
+-- `count` steps lead from one state to another without a stop, and both states continue to the same result
 pub record Leads (stop : Option ℕ) (old last : GuestState) (count : ℕ) : Type 0 where
   pub reached : after old count ≡ Some last
   pub same : (left : ℕ) → travel stop old (count + left) ≡ travel stop last left

@@ -1,6 +1,6 @@
 -- A source of hex1 or hex2 read from left to right: its tokens, their items, and the first refusal. Public source: the languages of these
--- names of stage0-posix and mescc-tools, whose exact rules here are this project's profile. docs/reference/hex1.md and hex2.md say the same for
--- people.
+-- names of stage0-posix and mescc-tools, whose exact rules here are this project's profile. docs/reference/hex1.md and hex2.md say the
+-- same for people.
 use Rattle.std.specs.Prelude.{◌≡◌, ℕ, zero, suc, ◌+◌, ◌-◌, nat_lt, if◌then◌else◌, List, [], ◌∷◌, ◌++◌, length, Option, Some, None, Result, Ok, Err}
 use Rattle.hex_langs.specs.declared.items.item.Item.{Item}
 use Rattle.hex_langs.specs.declared.items.token.Dialect.{Dialect}

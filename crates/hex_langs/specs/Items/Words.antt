@@ -1,6 +1,6 @@
--- Words: one or more fields and references, of which at most one is a reference, and then exactly four bytes. Public source: the languages
--- hex1 and hex2 of stage0-posix and mescc-tools for riscv64, whose exact rules here are this project's profile. docs/reference/hex2.md says the
--- same for people.
+-- Words: one or more fields and references, of which at most one is a reference, and then exactly four bytes. Public source: the
+-- languages hex1 and hex2 of stage0-posix and mescc-tools for riscv64, whose exact rules here are this project's profile.
+-- docs/reference/hex2.md says the same for people.
 use Rattle.std.specs.Prelude.{◌≡◌, ℕ, ◌+◌, ◌<◌, List, [], ◌∷◌, ◌++◌, length, map, Option, Some, None, Result, Ok, Err, bit_xor}
 use Rattle.std.specs.Int.{w32, from_le_bytes, to_le_bytes}
 use Rattle.hex_langs.specs.declared.items.item.Kind.{Kind}

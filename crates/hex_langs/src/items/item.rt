@@ -1,4 +1,4 @@
-//! Items: what a source of hex1, hex2 or M1 says, before it is linked.
+//! Items: the contents of a hex1, hex2 or M1 source before it is linked.
 
 ghost use Rattle.std.specs.Prelude.{◌≡◌, ◌<◌, ℕ, List};
 ghost use Rattle.std.specs.Prelude.{[], ◌∷◌, nat_eq};

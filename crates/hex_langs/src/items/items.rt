@@ -44,7 +44,7 @@ fn add_byte(codes: &mut Vec<u32>, byte: u8) -> Result<(), OutOfMemory>
     Ok(())
 }
 
-/// Adds four bytes, or none.
+/// Adds four bytes. Error: out of memory; the codes are unchanged.
 fn add_four(codes: &mut Vec<u32>, bytes: [u8; 4]) -> Result<(), OutOfMemory>
     ensures ok { OnOk result (codes.new.items ≡ codes.old.items ++ bytes) }
     ensures err { OnErr result (codes.new.items ≡ codes.old.items) }
@@ -56,7 +56,7 @@ fn add_four(codes: &mut Vec<u32>, bytes: [u8; 4]) -> Result<(), OutOfMemory>
     Ok(())
 }
 
-/// Adds four bytes as items, or none.
+/// Adds four bytes as items. Error: out of memory; the items are unchanged.
 fn add_bytes(codes: &mut Vec<u32>, others: &[Item<'_>], bytes: [u8; 4]) -> Result<(), OutOfMemory>
     requires packed { ArePacked codes.old.items others.now }
     requires room { length codes.old.items + 4 ≤ 33554432 }

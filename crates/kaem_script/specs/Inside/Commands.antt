@@ -73,7 +73,7 @@ Folds meant (Ok ran) = Finishes meant ran.0 (world_in ran.1)
 Folds meant (Err (Failed number why step)) = meant ≡ Stopped number why step
 Folds meant (Err (OutOfMemory number)) = Unit {0}
 
--- memory ran out at one of so many commands
+-- memory ran out at one of `count` commands
 abbrev pub WantsWithin : ℕ → ScriptStop → Type 0
 WantsWithin count (Failed number why step) = Unit {0}
 WantsWithin count (OutOfMemory number) = number ≤ count

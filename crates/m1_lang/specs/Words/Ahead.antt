@@ -1,6 +1,6 @@
--- What follows an offset of a source, after blanks and comments: a word, a quote that is not closed, or nothing.
--- Public source: the language M1 of stage0-posix and mescc-tools, whose exact rules here are this project's profile. docs/reference/m1.md says
--- the same for people.
+-- What follows an offset of a source, after blanks and comments: a word, a quote that is not closed, or nothing. Public source: the
+-- language M1 of stage0-posix and mescc-tools, whose exact rules here are this project's profile. docs/reference/m1.md says the same for
+-- people.
 use Rattle.std.specs.Prelude.{◌≡◌, ℕ, ◌+◌, ◌<◌, ◌≤◌, List, length, drop}
 use Rattle.m1_lang.specs.Words.Words.{Words, words_from, NoWord, Unclosed, Found}
 use Rattle.m1_lang.specs.declared.words.splitting.Ahead.{Ahead}

@@ -1,5 +1,5 @@
--- Numbers of any length: an optional `-` and decimal digits, or an optional `-`, `0x` and hexadecimal digits. Public source: the language M1
--- of stage0-posix and mescc-tools, whose exact rules here are this project's profile. docs/reference/m1.md says the same for people.
+-- Numbers of any length: an optional `-` and decimal digits, or an optional `-`, `0x` and hexadecimal digits. Public source: the language
+-- M1 of stage0-posix and mescc-tools, whose exact rules here are this project's profile. docs/reference/m1.md says the same for people.
 use Rattle.std.specs.Prelude.{ℕ, ◌+◌, ◌*◌, ◌==◌, nat_lt, Bool, true, false, ◌&&◌, if◌then◌else◌, List, [], ◌∷◌, drop, slice_index, Option, Some, None, ℤ, pos, neg_ℤ}
 use Rattle.hex.specs.Hex.{hex_digit_value}
 

@@ -9,7 +9,7 @@ pub record Word : Type 0 where
   pub at : ℕ
   pub text : List ℕ
 
--- the words of a source, up to its end or to the first quote that isn't closed
+-- the words of a source, up to its end or to the first quote that is not closed
 pub data Words : Type 0 where
   NoWord : Words
   Unclosed : (at : ℕ) → Words
