@@ -1,4 +1,4 @@
--- The text of a guest's state, and the guest that a text says. docs/reference/save.md says the same for people.
+-- The text of a guest's state, and the guest of a parsed text. docs/reference/save.md says the same for people.
 use Rattle.std.specs.Prelude.{◌≡◌, ◌*◌, ◌%◌, IsTrue, [], ◌∷◌, All, drop, ℕ, List, Result, Ok, Err}
 use Rattle.std.specs.FinMap as finite
 use Rattle.paged_mem.specs.Memory.{Memory, maps}
@@ -14,7 +14,7 @@ use Rattle.checkpoints.specs.declared.file_parts.restoring.RestoreRefusal.TheVar
 use Rattle.checkpoints.specs.declared.reading.StateRefusal.{StateRefusal}
 use Rattle.checkpoints.specs.declared.reading.StateRefusal.TheVariants as state
 
--- what a guest's state says: its runs of mapped pages, its pages that are not all zeros, and its files and descriptors, in their order; x0 is not said
+-- the contents of a guest's state, in order: runs of mapped pages, pages that are not all zeros, files and descriptors. x0 is left out
 unfoldable pub state_of : GuestState → StateText
 state_of g = record {
   steps = g.steps;
@@ -30,18 +30,18 @@ state_of g = record {
   stream2 = g.world.stream2;
 }
 
--- the memory that a text says: its runs, all zeros, and in them its pages
+-- the memory of a parsed text: its runs filled with zeros, and its pages written into them
 abbrev pub mapped_of : StateText → Memory
 mapped_of s = mapped_runs finite.empty s.runs
 
 abbrev pub memory_of : StateText → Memory
 memory_of s = with_pages (mapped_of s) s.pages
 
--- the files that a text says
+-- the files of a parsed text
 abbrev pub lists_in : StateText → FileLists
 lists_in s = record { files = s.files; open_files = s.descriptors; streams = s.stream1 ∷ s.stream2 ∷ [] }
 
--- the guest that a text says: x0 is 0
+-- the guest of a parsed text; x0 is 0
 unfoldable pub guest_of : StateText → GuestState
 guest_of s = record {
   hart = record { registers = 0 ∷ s.registers; pc = s.pc; memory = memory_of s; reservation = s.reservation };
@@ -50,13 +50,13 @@ guest_of s = record {
   steps = s.steps;
 }
 
--- what runs and pages say is a memory: the runs can be mapped, and each listed page is in one of them
+-- runs and pages make a memory: the runs can be mapped, and each listed page is in one of them
 pub record IsInMemory (s : StateText) : Type 0 where
   pub runs : AreMappable s.runs
   pub listed : All (λ page. IsTrue (maps (mapped_of s) (4096 * page.number) 4096)) s.pages
 
--- what counts and ranges say: the pc is that of an instruction, a hart can hold the reservation, runs and pages are a memory, which fits the heap,
--- and files, descriptors and streams are in their limits
+-- counts and ranges are right: the pc is a multiple of 4, a hart can hold the reservation, and runs and pages make a memory that fits the
+-- heap. Files, descriptors and streams are within their limits
 pub record IsInRange (s : StateText) : Type 0 where
   pub aligned : s.pc % 4 ≡ 0
   pub reserved : IsReservation s.reservation
@@ -64,28 +64,28 @@ pub record IsInRange (s : StateText) : Type 0 where
   pub fits : Fits (memory_of s) s.heap
   pub files : AreInRange (lists_in s)
 
--- what references say
+-- references are right
 abbrev pub IsJoined : StateText → Type 0
 IsJoined s = AreJoined (lists_in s)
 
--- memory is taken for a state only where the pc is that of an instruction, a hart can hold the reservation, and the runs can be mapped
+-- memory is taken for a state only if the pc is a multiple of 4, a hart can hold the reservation, and the runs can be mapped
 pub record MayBeMade (s : StateText) : Type 0 where
   pub aligned : s.pc % 4 ≡ 0
   pub reserved : IsReservation s.reservation
   pub runs : AreMappable s.runs
 
--- what becomes of what a text says: the guest, where counts and ranges are right, and then references
+-- the result of a parsed text: the guest, if counts and ranges are right, and then references
 abbrev pub Becomes : StateText → Result GuestState RestoreRefusal → Type 0
 Becomes s (Ok guest) = IsInRange s × IsJoined s × (guest ≡ guest_of s)
 Becomes s (Err restored.Range) = ¬ (IsInRange s)
 Becomes s (Err restored.FileRef) = IsInRange s × ¬ (IsJoined s)
 Becomes s (Err restored.OutOfMemory) = MayBeMade s
 
--- memory may be wanting for the state that a text says: its form holds, and memory is taken for it
+-- memory may run out for this text: its form is right, and memory is taken for its state
 abbrev pub MayWantMemory : List ℕ → Type 0
 MayWantMemory text = (s : StateText) × (parsed_state text ≡ Ok s) × MayBeMade s
 
--- what a text becomes: its form is judged first, then counts and ranges, then references
+-- the result of reading a text: its form is checked first, then counts and ranges, then references
 abbrev pub ReadsState : List ℕ → Result GuestState StateRefusal → Type 0
 ReadsState text (Ok guest) = (s : StateText) × (parsed_state text ≡ Ok s) × IsInRange s × IsJoined s × (guest ≡ guest_of s)
 ReadsState text (Err (state.Form offset)) = parsed_state text ≡ Err offset
@@ -93,7 +93,7 @@ ReadsState text (Err state.Range) = (s : StateText) × (parsed_state text ≡ Ok
 ReadsState text (Err state.FileRef) = (s : StateText) × (parsed_state text ≡ Ok s) × IsInRange s × ¬ (IsJoined s)
 ReadsState text (Err state.OutOfMemory) = MayWantMemory text
 
--- what is read of the text of this state
+-- the result of reading the text of this state
 abbrev pub IsReadAs : GuestState → Result GuestState StateRefusal → Type 0
 IsReadAs g (Ok guest) = guest ≡ g
 IsReadAs g (Err state.OutOfMemory) = Unit {0}

@@ -1,3 +1,3 @@
--- What serves the code and the proofs. No promise rests on this file being read.
+-- Definitions for the code and the proofs. No promise depends on them.
 pub mod Parts
 pub mod Tests

@@ -1,4 +1,4 @@
-//! The files of a guest as lists, and files made of lists that may come from anywhere.
+//! A guest's files as lists, and files made from lists of any origin.
 //!
 //! docs/reference/files.md has the rules for a reader, and specs/FileParts/ the same for the prover.
 

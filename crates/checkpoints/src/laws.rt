@@ -9,19 +9,19 @@ ghost use Rattle.save_format.specs.StateText.StateText.{StateText};
 ghost use Rattle.save_format.specs.StateText.Spelled.{IsStateText, IsTextOfState};
 ghost use Rattle.checkpoints.specs.Checkpoint.{mapped_of, memory_of, state_of};
 
-/// That runs have no more pages than a guest can have follows from the other rules, so that to count them first refuses nothing else.
+/// A limit on the pages of runs follows from the other rules, so that counting them first refuses nothing more.
 pub fn few_pages()
     ensures { (s : StateText) → IsStateText s → All (λ run. run.first + run.pages ≤ 2 ^ 26) s.runs
         → All (λ page. IsTrue (maps (mapped_of s) (4096 * page.number) 4096)) s.pages → Fits (memory_of s) s.heap
         → sum_by (λ run. run.pages) s.runs ≤ 329_728 }
 {}
 
-/// The texts of every valid state have at most 1,892,769,097 bytes.
+/// Every text of a valid state has at most 1,892,769,097 bytes.
 pub fn texts_are_short()
     ensures { (g : GuestState) (text : List ℕ) → IsValid g → IsTextOfState (state_of g) text → length text ≤ 1_892_769_097 }
 {}
 
-/// The patch of every valid state against every other one has at most 1,894,752,591 bytes.
+/// The patch of a valid state against another one has at most 1,894,752,591 bytes.
 pub fn patches_are_short()
     ensures { (base g : GuestState) → IsValid base → base.steps < 2 ^ 64 → IsValid g → g.steps < 2 ^ 64
         → length (text_of_patch (state_of base) (state_of g)) ≤ 1_894_752_591 }

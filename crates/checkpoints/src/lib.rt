@@ -1,5 +1,5 @@
-//! Guests as texts, and back: a guest that stands between two steps has one text, and is read of it as it was. The parts of
-//! a guest are its memory (`memory_parts`) and its files (`file_parts`).
+//! Guests as texts, and back. A guest between two steps is written as one text and read from it unchanged. Module `memory_parts` has its
+//! memory, and `file_parts` has its files.
 //!
 //! docs/reference/save.md has the rules for a reader, and specs/Checkpoint.antt the same for the prover.
 #![tactic(auto)]

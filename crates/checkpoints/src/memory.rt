@@ -1,4 +1,4 @@
-//! The memory that a text says.
+//! The memory of a parsed text.
 
 ghost use Rattle.std.specs.Prelude.{◌≡◌, ◌+◌, ◌-◌, ◌^◌, ◌≤◌, ◌↔◌, All, IsTrue, MatchResult, SomeIff, sum_by};
 ghost use Rattle.save_format.specs.StateText.Mappable.{AreMappable};
@@ -13,7 +13,7 @@ use paged_mem::Ram;
 use save_format::state_text::{MOST_PAGES, Run, StateParts};
 use std::alloc::Global;
 
-/// The memory that a text says. Its runs are judged before anything is mapped, so that a short text asks for little memory.
+/// The memory of a parsed text. Its runs are checked before anything is mapped, so that a short text asks for little memory.
 pub fn memory_of<R: Ram>(alloc: Global, parts: &StateParts<'_>) -> Result<R, RestoreRefusal>
     requires { IsStateText (state_view parts.now) }
     ensures { MatchResult result
@@ -31,28 +31,28 @@ pub fn memory_of<R: Ram>(alloc: Global, parts: &StateParts<'_>) -> Result<R, Res
     Ok(ram)
 }
 
-/// Whether all runs end in memory and a guest can have so many pages.
+/// Whether all runs end within memory and have at most 329,728 pages together.
 pub fn are_mappable(runs: &[Run]) -> bool
     ensures { IsTrue result ↔ AreMappable runs.now }
 {
     are_within(runs) && are_few(runs)
 }
 
-/// Whether all runs end in memory.
+/// Whether all runs end within memory.
 fn are_within(runs: &[Run]) -> bool
     ensures { IsTrue result ↔ All (λ run. run.first + run.pages ≤ 2 ^ 26) runs.now }
 {
     runs.iter().all(|run| u64::from(run.first) + u64::from(run.pages) <= 1 << 26)
 }
 
-/// Whether a guest can have so many pages.
+/// Whether the runs have at most 329,728 pages together.
 fn are_few(runs: &[Run]) -> bool
     ensures { IsTrue result ↔ (sum_by (λ run. run.pages) runs.now ≤ 329_728) }
 {
     left_after(runs, MOST_PAGES).is_some()
 }
 
-/// What is left of so many pages after those of the runs; `None` where they have more.
+/// What is left of `most` pages after those of the runs; `None` if they have more.
 fn left_after(runs: &[Run], most: u64) -> Option<u64>
     ensures { SomeIff result (sum_by (λ run. run.pages) runs.now ≤ most) (most - sum_by (λ run. run.pages) runs.now) }
 {

@@ -1,4 +1,4 @@
-//! A guest's state relative to another one's, its base, as a patch, and back.
+//! A guest's state as a patch relative to a base, and back.
 
 ghost use Rattle.std.specs.Prelude.{◌≡◌, ◌<◌, ◌≤◌, ◌^◌, ◌↔◌, ◌++◌, Err, IfOk, IsOk, IsTrue, OnErr, OnOk, length};
 ghost use Rattle.guest_run.specs.State.{GuestState};
@@ -22,7 +22,7 @@ use save_format::patch_text::{front_of, put_patch, read};
 use save_format::state_text::{StateParts, TextRefusal};
 use std::alloc::Global;
 
-/// The one patch of a guest's state against a base. Neither state's text is made: pages and contents are compared where they stand.
+/// The only patch of a guest's state against a base. Pages and contents are compared without serializing a state. Error: out of memory.
 pub fn write_patch<R: Ram>(
     alloc: Global,
     base: &Guest<R>,
@@ -36,7 +36,7 @@ pub fn write_patch<R: Ram>(
     Ok(out)
 }
 
-/// What the state of a guest says, as the base of patches. It lists few pages.
+/// The contents of a guest's state as the base of patches, with at most 2^26 pages. Error: out of memory.
 pub fn known_of<R: Ram>(alloc: Global, base: &Guest<R>) -> Result<StateParts<'_>, OutOfMemory>
     ensures seen { IfOk result (λ parts. state_view parts ≡ state_of base.now) }
     ensures text { IfOk result (λ parts. IsStateText (state_view parts)) }
@@ -45,7 +45,7 @@ pub fn known_of<R: Ram>(alloc: Global, base: &Guest<R>) -> Result<StateParts<'_>
     parts_of(alloc, base)
 }
 
-/// Adds the patch of a guest's state against what a base says, all or none.
+/// Adds the patch of a guest's state against a listed base. Error: out of memory; `out` is unchanged.
 pub fn put_patch_of<R: Ram>(
     alloc: Global,
     out: &mut Bytes,
@@ -61,17 +61,17 @@ pub fn put_patch_of<R: Ram>(
     put_patch(alloc, out, base, &parts)
 }
 
-/// The guest whose state a patch says relative to the base's. What the base says is listed first, for which memory may be wanting whatever the patch is.
+/// The guest that a patch makes of a base. The base is listed first, so that memory may run out whatever the patch is.
 pub fn apply_patch<R: Ram>(
     alloc: Global,
     base: &Guest<R>,
     text: &[u8],
 ) -> Result<Guest<R>, StateRefusal>
-    // What is made has this patch against the base.
+    // The result has this patch against the base.
     ensures found { IfOk result (λ guest. text.now ≡ text_of_patch (state_of base.now) (state_of guest)) }
     // The patch of a valid state is read as the guest in that state, unless memory runs out.
     ensures only { (g : GuestState) → IsValid g → g.steps < 2 ^ 64 → text.now ≡ text_of_patch (state_of base.now) (state_of g) → IsReadAs g result }
-    // When each refusal comes.
+    // When each refusal occurs.
     ensures exact { AppliesPatchTo (state_of base.now) text.now result }
 {
     match known_of(alloc, base) {
@@ -80,7 +80,7 @@ pub fn apply_patch<R: Ram>(
     }
 }
 
-/// The guest whose state a patch says relative to what a base says.
+/// The guest that a patch makes of a listed base.
 pub fn guest_relative<'a, R: Ram>(
     alloc: Global,
     base: &StateParts<'a>,
@@ -88,11 +88,11 @@ pub fn guest_relative<'a, R: Ram>(
 ) -> Result<Guest<R>, StateRefusal>
     requires base { IsStateText (state_view base.now) }
     requires few { length (state_view base.now).pages ≤ 2 ^ 26 }
-    // What is made has this patch against the base.
+    // The result has this patch against the base.
     ensures found { IfOk result (λ guest. text.now ≡ text_of_patch (state_view base.now) (state_of guest)) }
     // The patch of a valid state is read as the guest in that state, unless memory runs out.
     ensures only { (g : GuestState) → IsValid g → g.steps < 2 ^ 64 → text.now ≡ text_of_patch (state_view base.now) (state_of g) → IsReadAs g result }
-    // When each refusal comes.
+    // When each refusal occurs.
     ensures exact { AppliesPatch (state_view base.now) text.now result }
 {
     applied(alloc, base, text)
@@ -119,7 +119,7 @@ fn applied<'a, R: Ram>(
     }
 }
 
-/// Why a text of the form is no guest's, where memory was wanting for the lists of its parts.
+/// Why a text of the right form is not a guest, after memory ran out for the lists of its parts.
 fn wanting(base: &StateParts<'_>, text: &[u8]) -> StateRefusal
     requires { IsOk (parsed_patch (state_view base.now) text.now) }
     ensures { AppliesPatch (state_view base.now) text.now (Err result) }
@@ -132,14 +132,14 @@ fn wanting(base: &StateParts<'_>, text: &[u8]) -> StateRefusal
     }
 }
 
-/// Whether a count of 4 bytes has a place for so many pages.
+/// Whether the number of pages fits a count of 4 bytes.
 fn are_countable(parts: &StateParts<'_>) -> bool
     ensures { IsTrue result ↔ (length (state_view parts.now).pages < 2 ^ 32) }
 {
     (parts.pages.as_slice().len() as u64) < 1 << 32
 }
 
-/// The guest that a patch says relative to some base: `Range` and `FileRef` as of a state's text.
+/// The guest of a parsed patch. `Range` and `FileRef` are as for a state's text.
 pub fn patched_guest_of<R: Ram>(
     alloc: Global,
     parts: &StateParts<'_>,

@@ -1,4 +1,4 @@
-//! A guest read of its text.
+//! Reads a guest from its text.
 
 ghost use Rattle.std.specs.Prelude.{◌≡◌, ◌<◌, ◌^◌, Err, IfOk, IsOk};
 ghost use Rattle.guest_run.specs.State.{GuestState};
@@ -14,12 +14,12 @@ use paged_mem::Ram;
 use save_format::state_text::{TextRefusal, front_of, read};
 use std::alloc::Global;
 
-/// Why a text is no guest's. Its form is judged first, then counts and ranges, then references.
+/// Why a text is not a guest. Its form is checked first, then counts and ranges, then references.
 #[derive(Clone, Copy, Debug, PartialEq, Eq)]
 pub enum StateRefusal {
-    /// The field that begins at this offset is the first that is wrong.
+    /// The field that begins at this offset is the first wrong one.
     Form(u64),
-    /// A count or a range is that of no guest.
+    /// A count or a range is not that of a guest.
     Range,
     /// A descriptor's file is missing, or a file has neither a name nor a descriptor.
     FileRef,
@@ -40,19 +40,19 @@ impl StateRefusal {
     }
 }
 
-/// The guest whose state the text says, which may be of either form.
+/// Parses a guest's state (either format).
 pub fn read_state<R: Ram>(alloc: Global, text: &[u8]) -> Result<Guest<R>, StateRefusal>
-    // What is read has this text.
+    // The result has this text.
     ensures found { IfOk result (λ guest. IsTextOfState (state_of guest) text.now) }
     // Each text of a valid state is read as the guest in that state, unless memory runs out.
     ensures only { (g : GuestState) → IsValid g → g.steps < 2 ^ 64 → IsTextOfState (state_of g) text.now → IsReadAs g result }
-    // When each refusal comes.
+    // When each refusal occurs.
     ensures exact { ReadsState text.now result }
 {
     judged(alloc, text)
 }
 
-/// Why a text of the form is no guest's, where memory was wanting for the lists of its parts.
+/// Why a text of the right form is not a guest, after memory ran out for the lists of its parts.
 fn wanting(text: &[u8]) -> StateRefusal
     requires { IsOk (parsed_state text.now) }
     ensures { ReadsState text.now (Err result) }

@@ -1,4 +1,4 @@
-//! The guest that a text says.
+//! The guest of a parsed text.
 
 ghost use Rattle.std.specs.Prelude.{◌≡◌, ◌∷◌, [], ◌%◌, ◌↔◌, IsTrue, MatchResult, OnOk, map, option_map};
 ghost use Rattle.save_format.specs.ByteFields.Spelling.{InTurn};
@@ -20,7 +20,7 @@ use rv64_machine::{Hart, Reservation};
 use save_format::state_text::{File, NumberedDescriptor, Reserved, StateFront, StateParts};
 use std::alloc::Global;
 
-/// The guest that a text says: `Range` where a count or a range is that of no guest, and only then `FileRef`, where a reference is.
+/// The guest of a parsed text. Errors: `Range` for a count or a range, only then `FileRef` for a reference, and out of memory.
 pub fn guest_of<R: Ram>(alloc: Global, parts: &StateParts<'_>) -> Result<Guest<R>, RestoreRefusal>
     requires { IsStateText (state_view parts.now) }
     ensures { Becomes (state_view parts.now) result }
@@ -38,14 +38,14 @@ pub fn guest_of<R: Ram>(alloc: Global, parts: &StateParts<'_>) -> Result<Guest<R
     Ok(Guest::restore(alloc, hart, files, parts.heap, parts.steps))
 }
 
-/// Whether memory is taken for a state whose text says this in front of its pages.
+/// Whether memory is taken for a state with these front fields.
 pub fn may_be_made(front: &StateFront) -> bool
     ensures { (s : StateText) → IsFrontOf front.now s → IsTrue result ↔ MayBeMade s }
 {
     front.pc % 4 == 0 && is_held(front.reservation) && front.mappable
 }
 
-/// What the parts of a text say in front of its pages.
+/// The front fields of a parsed text, before its pages.
 pub fn front_in(parts: &StateParts<'_>) -> StateFront
     ensures { IsFrontOf result (state_view parts.now) }
 {
@@ -58,7 +58,7 @@ pub fn front_in(parts: &StateParts<'_>) -> StateFront
     }
 }
 
-/// Whether a hart can hold this as reserved.
+/// Whether a hart can hold this reservation.
 fn is_held(reserved: Option<Reserved>) -> bool
     ensures { IsTrue result ↔ IsReservation (option_map reserved_view reserved) }
 {
@@ -71,7 +71,7 @@ fn is_held(reserved: Option<Reserved>) -> bool
     }
 }
 
-/// What a hart is to hold as reserved: a multiple of so many bytes, below 2^38.
+/// The reservation of a hart: an address below 2^38 that is a multiple of its size. Error: `Range`.
 fn reservation_of(reserved: Option<Reserved>) -> Result<Option<Reservation>, RestoreRefusal>
     requires { IsReserved (option_map reserved_view reserved) }
     ensures { MatchResult result
@@ -89,7 +89,7 @@ fn reservation_of(reserved: Option<Reserved>) -> Result<Option<Reservation>, Res
     }
 }
 
-/// A hart with these values in x1 to x31, which holds this as reserved.
+/// A hart with these values in x1 to x31 and this reservation.
 fn hart_of<R: Ram>(
     ram: R,
     pc: u64,
@@ -108,7 +108,7 @@ fn hart_of<R: Ram>(
     hart
 }
 
-/// The files that a text says.
+/// The files of a parsed text.
 fn files_of(alloc: Global, parts: &StateParts<'_>) -> Result<Files, RestoreRefusal>
     requires { IsStateText (state_view parts.now) }
     ensures { MakesFiles (lists_in (state_view parts.now)) result }

@@ -1,4 +1,4 @@
-//! The text of a guest.
+//! Writes the text of a guest.
 
 ghost use Rattle.std.specs.Prelude.{◌≡◌, ◌++◌, IfOk, OnErr, OnOk, drop, option_map};
 ghost use Rattle.save_format.specs.StateText.Spelled.{IsStateText, text_of_state};
@@ -13,7 +13,7 @@ use rv64_machine::Hart;
 use save_format::state_text::{Reserved, StateParts, descriptors_of, files_of, put_parts};
 use std::alloc::Global;
 
-/// The one text of a guest's state that has the second form.
+/// Serializes a guest's state (format 2, `ddcstat2`). Error: out of memory.
 pub fn write_state<R: Ram>(alloc: Global, guest: &Guest<R>) -> Result<Bytes, OutOfMemory>
     ensures { IfOk result (λ text. text ≡ text_of_state (state_of guest.now)) }
 {
@@ -22,7 +22,7 @@ pub fn write_state<R: Ram>(alloc: Global, guest: &Guest<R>) -> Result<Bytes, Out
     Ok(out)
 }
 
-/// Adds the text of a guest's state, all or none.
+/// Adds the text of a guest's state (format 2). Error: out of memory; `out` is unchanged.
 pub fn put_state<R: Ram>(
     alloc: Global,
     out: &mut Bytes,
@@ -35,7 +35,7 @@ pub fn put_state<R: Ram>(
     put_parts(out, &parts)
 }
 
-/// What a guest's state says. Contents are borrowed.
+/// The contents of a guest's state, borrowed from it. Error: out of memory.
 pub(crate) fn parts_of<R: Ram>(
     alloc: Global,
     guest: &Guest<R>,
@@ -65,7 +65,7 @@ pub(crate) fn parts_of<R: Ram>(
     })
 }
 
-/// What the hart holds as reserved.
+/// The hart's reservation.
 fn reserved_of<R: Ram>(hart: &Hart<R>) -> Option<Reserved>
     ensures { option_map reserved_view result ≡ hart.now.reservation }
 {

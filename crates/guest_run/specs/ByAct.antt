@@ -1,5 +1,5 @@
--- A program's run by any machine: what a hart does at each step is a parameter. By `act` it is the run, by `act_without_atomics` that of
--- a machine of RV64I and M alone.
+-- A program's run on any machine: a parameter says what a hart does at each step. With `act` it is the run itself. With
+-- `act_without_atomics` it is the run on a machine of RV64I and M alone.
 use Rattle.std.specs.Prelude.{◌≡◌, ℕ, zero, suc, Option, None, Some, option_and_then, Ok, List}
 use Rattle.mem_files.specs.World.{World}
 use Rattle.rv64_machine.specs.Hart.{Act, HartState}
@@ -12,7 +12,7 @@ use Rattle.guest_run.specs.Run.{End, Exited, Next, end_of, step_of_act, went_to}
 unfoldable pub next_by : (HartState → Act) → GuestState → Next
 next_by acts guest = step_of_act guest (acts guest.hart)
 
--- the state after so many steps that went on; none where one of them ended the run
+-- the state after this many continuing steps; `None` if one of them ends the run
 unfoldable pub after_by : (HartState → Act) → GuestState → ℕ → Option GuestState
 after_by acts guest zero = Some guest
 after_by acts guest (suc count) = option_and_then (λ last. went_to (next_by acts last)) (after_by acts guest count)
@@ -22,7 +22,7 @@ unfoldable pub end_at_by : (HartState → Act) → GuestState → ℕ → Option
 end_at_by acts guest zero = None
 end_at_by acts guest (suc count) = option_and_then (λ last. end_of last (next_by acts last)) (after_by acts guest count)
 
--- the program starts with this box, its run ends at step n by an exit with the status s, and leaves these files
+-- the program starts in this execution context, exits at step n with the status s, and leaves these files
 pub record ProgramRunBy (acts : HartState → Act) (program : List ℕ) (setting : Setting) (n s : ℕ) (world : World) : Type 0 where
   pub start : GuestState
   pub last : GuestState

@@ -1,4 +1,4 @@
--- How the representation keeps a box: no promise rests on these files being read.
+-- How an execution context is represented. No promise depends on these files.
 pub mod Bounds
 pub mod Codes
 pub mod Given

@@ -1,4 +1,4 @@
--- A program's whole run: from its start with a box to its exit.
+-- A program's whole run, from its start in an execution context to its exit.
 -- docs/reference/running.md says the same for people.
 use Rattle.std.specs.Prelude.{◌≡◌, ℕ, Some, Ok, List}
 use Rattle.mem_files.specs.World.{World}
@@ -7,7 +7,7 @@ use Rattle.guest_run.specs.State.{GuestState}
 use Rattle.guest_run.specs.Start.{start_of}
 use Rattle.guest_run.specs.Run.{Exited, end_at}
 
--- the program starts with this box, its run ends at step n, counted from 1, by an exit with the status s, and leaves these files
+-- the program starts in this execution context, exits at step n, counted from 1, with the status s, and leaves these files
 pub record ProgramRun (program : List ℕ) (setting : Setting) (n s : ℕ) (world : World) : Type 0 where
   pub start : GuestState
   pub last : GuestState

@@ -12,18 +12,18 @@ use Rattle.guest_run.specs.declared.run.RunEnd.{RunEnd}
 use Rattle.guest_run.specs.declared.run.RunEnd.TheVariants as answer
 use Rattle.guest_run.specs.State.{GuestState}
 
--- why a program's run ends: it exits with a status, it traps, or it makes a call of a number that is none of the table
+-- why a program's run ends: it exits with a status, it traps, or it makes a call whose number is not in the table
 pub data End : Type 0 where
   Exited : ℕ → End
   Trapped : Cause → End
   UnknownCall : ℕ → End
 
--- what a step comes to: the guest goes on in a state, or its run ends and leaves the state
+-- the result of a step: the guest continues in a state, or its run ends and keeps the state
 pub data Next : Type 0 where
   Goes : GuestState → Next
   Ends : End → Next
 
--- a call's number stands in x17, its arguments in x10 to x15
+-- a call has its number in x17 and its arguments in x10 to x15
 abbrev pub call_number : GuestState → ℕ
 call_number guest = slice_index guest.hart.registers 17
 
@@ -32,7 +32,7 @@ call_arguments guest =
     slice_index guest.hart.registers 10 ∷ slice_index guest.hart.registers 11 ∷ slice_index guest.hart.registers 12
     ∷ slice_index guest.hart.registers 13 ∷ slice_index guest.hart.registers 14 ∷ slice_index guest.hart.registers 15 ∷ []
 
--- what the call that the guest makes comes to
+-- the outcome of the call that the guest makes
 abbrev pub outcome_of : GuestState → CallOutcome
 outcome_of guest = syscall (call_number guest) (call_arguments guest) (state guest.hart.memory guest.world guest.heap)
 
@@ -40,7 +40,7 @@ outcome_of guest = syscall (call_number guest) (call_arguments guest) (state gue
 abbrev pub answered : HartState → ℕ → HartState
 answered hart value = record (with_register hart 10 value) { pc = following hart; reservation = None }
 
--- the step of a call that comes to this
+-- the step of a call with this outcome
 abbrev pub step_of_call : GuestState → CallOutcome → Next
 step_of_call guest (call.goes answer left) = Goes (record {
   hart = answered (record guest.hart { memory = left.memory }) (answer_of answer);
@@ -61,50 +61,50 @@ step_of_act guest (hart.Traps cause) = Ends (Trapped cause)
 unfoldable pub next : GuestState → Next
 next guest = step_of_act guest (act guest.hart)
 
--- the state in which a step went on
+-- the state after a step that continues
 abbrev pub went_to : Next → Option GuestState
 went_to (Goes guest) = Some guest
 went_to (Ends end) = None
 
--- the state after so many steps that went on; none where one of them ended the run
+-- the state after this many continuing steps; `None` if one of them ends the run
 unfoldable pub after : GuestState → ℕ → Option GuestState
 after guest zero = Some guest
 after guest (suc count) = option_and_then (λ last. went_to (next last)) (after guest count)
 
--- the end to which a step comes, and the state that it leaves; none where it goes on
+-- the end at a step, with the state that it keeps; `None` if the step continues
 abbrev pub end_of : GuestState → Next → Option (End × GuestState)
 end_of guest (Goes to) = None
 end_of guest (Ends end) = Some (end, guest)
 
--- the end of the run from a state at its step `number`, counted from 1, and the state that it leaves; none where that step
--- goes on, or the run has ended before
+-- the end of the run at step `number`, counted from 1, with the state that it leaves. `None` if that step continues or the run ended
+-- before
 unfoldable pub end_at : GuestState → ℕ → Option (End × GuestState)
 end_at guest zero = None
 end_at guest (suc count) = option_and_then (λ last. end_of last (next last)) (after guest count)
 
--- the first end of the run at its steps 1 to `most`; none where they all go on
+-- the end that occurs within steps 1 to `most`; `None` if they all continue
 unfoldable pub first_end : GuestState → ℕ → Option (End × GuestState)
 first_end guest zero = None
 first_end guest (suc most) = option_or (first_end guest most) (end_at guest (suc most))
 
--- the call comes to this, and takes memory of the host
+-- the call with this outcome takes memory of the host
 abbrev pub CallTakesMemory : GuestState → CallOutcome → Type 0
 CallTakesMemory guest (call.goes answer left) =
     taking.TakesMemory (call_number guest) (state guest.hart.memory guest.world guest.heap) answer left
 CallTakesMemory guest (call.exits status) = ⊥
 CallTakesMemory guest (call.is_unknown number) = ⊥
 
--- the step takes memory of the host: it is a store, or a call that does
+-- the step takes memory of the host: it is a store, or a call that takes memory
 abbrev pub StepTakesMemory : GuestState → Type 0
 StepTakesMemory guest =
     IsTrue (is_store guest.hart.reservation (effect_at guest.hart)) ⊎ ((act guest.hart ≡ hart.Calls) × CallTakesMemory guest (outcome_of guest))
 
--- whether a step goes on
+-- whether a step continues
 abbrev pub step_goes_on : Next → Bool
 step_goes_on (Goes guest) = true
 step_goes_on (Ends end) = false
 
--- what a step answers, none where the guest went on, and the state that it leaves; want of memory hides no end
+-- the answer of a step, `None` if the guest continues, and the state that it leaves. Out of memory hides no end
 abbrev pub Steps : GuestState → Option RunEnd → GuestState → Type 0
 Steps old None new = next old ≡ Goes new
 Steps old (Some (answer.Exited status)) new = (next old ≡ Ends (Exited status)) × (new ≡ old)
@@ -113,12 +113,12 @@ Steps old (Some (answer.UnknownCall number)) new = (next old ≡ Ends (UnknownCa
 Steps old (Some answer.Spent) new = ⊥
 Steps old (Some answer.OutOfMemory) new = IsTrue (step_goes_on (next old)) × StepTakesMemory old × (new ≡ old)
 
--- how many steps lie between two states
+-- the number of steps between two states
 abbrev pub steps_between : GuestState → GuestState → ℕ
 steps_between old new = new.steps - old.steps
 
--- what a run of at most `most` steps answers, and the state that it leaves: the first end within them, else that they are spent;
--- or want of memory, in a step that would have gone on
+-- the answer of a run of at most `most` steps, and the state that it leaves. It is the end that occurs within them, or `Spent`. Out of
+-- memory occurs only in a step that would have continued
 abbrev pub Runs : GuestState → ℕ → RunEnd → GuestState → Type 0
 Runs old most (answer.Exited status) new = first_end old most ≡ Some (Exited status, new)
 Runs old most (answer.Trapped cause) new = first_end old most ≡ Some (Trapped cause, new)

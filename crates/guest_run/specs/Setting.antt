@@ -1,4 +1,4 @@
--- What a program is given when it starts.
+-- The execution context of a program.
 -- docs/reference/running.md says the same for people.
 use Rattle.std.specs.Prelude.{◌≡◌, ℕ, ◌^◌, ◌≤◌, ◌==◌, Bool, ◌||◌, nat_le, nat_lt, not, if◌then◌else◌, IsTrue, Option, Some, None, List, length, All, Result, Ok, Err, sum_by}
 use Rattle.std.specs.List.{list_any}
@@ -13,7 +13,7 @@ use Rattle.mem_files.specs.Sound.{AreBytes}
 abbrev pub FileMap : Type 0
 FileMap = map.FinMap bytes_cmp (List ℕ)
 
--- arguments, environment, files, and the most bytes of the heap
+-- arguments, environment, files, and the largest size of the heap in bytes
 pub record Setting : Type 0 where
   pub args : List (List ℕ)
   pub env : List (List ℕ)
@@ -34,14 +34,14 @@ file_size file = length file.1
 abbrev pub files_size : FileMap → ℕ
 files_size files = sum_by file_size (map.entries files)
 
--- a file of a box: few enough bytes, under a name that guests have without the `./` that it may begin with
+-- a file of an execution context: its size is within the limit, and its name is a file name without a leading `./`
 pub record IsBoxFile (file : List ℕ × List ℕ) : Type 0 where
   pub named : IsTrue (is_stripped_name file.0)
   pub name_bytes : AreBytes file.0
   pub small : length file.1 ≤ most_content
   pub content_bytes : AreBytes file.1
 
--- a valid box: texts of bytes, none of them zero, at most 4,096 files, and a heap of at most 2^30 bytes
+-- a valid execution context: texts of bytes without zero bytes, at most 4,096 files, and a heap of at most 2^30 bytes
 pub record IsBox (setting : Setting) : Type 0 where
   pub args : All IsText setting.args
   pub arg_bytes : All AreBytes setting.args
@@ -51,7 +51,7 @@ pub record IsBox (setting : Setting) : Type 0 where
   pub few : map.len setting.files ≤ most_names
   pub heap : setting.heap ≤ 2 ^ 30
 
--- why a file is not placed, under its name without the `./` that it begins with
+-- why a file is not placed under its name, which has no leading `./`
 abbrev pub place_refusal : FileMap → List ℕ → List ℕ → Option PlaceRefusal
 place_refusal files name content =
     if not (is_file_name name) then Some BadName
@@ -59,7 +59,7 @@ place_refusal files name content =
     else (if nat_lt most_content (length content) || nat_le most_names (map.len files) then Some Full
     else None))
 
--- a file is placed, or refused, or memory was out where it would be placed; both of the latter change nothing
+-- a file is placed, or refused, or memory runs out where it would be placed. The latter two change nothing
 abbrev pub PlacesIn : FileMap → List ℕ → List ℕ → Result (Unit {0}) PlaceRefusal → FileMap → Type 0
 PlacesIn old name content (Ok done) new = (place_refusal old name content ≡ None) × (new ≡ map.insert old name content)
 PlacesIn old name content (Err BadName) new = (place_refusal old name content ≡ Some BadName) × (new ≡ old)

@@ -1,10 +1,10 @@
--- The stack of a program that starts: its texts, and below them the words that tell where they are.
+-- The stack of a starting program: its texts, and below them the words with their addresses.
 -- Public source: System V ABI, "Process Initialization". docs/reference/running.md says the same for people, with a picture.
 use Rattle.std.specs.Prelude.{ℕ, ◌+◌, ◌-◌, ◌*◌, ◌/◌, ◌^◌, List, [], ◌∷◌, ◌++◌, length}
 use Rattle.std.specs.List.{flat_map}
 use Rattle.paged_mem.specs.Memory.{bytes_of, zeros}
 
--- the stack ends here, and has these bytes
+-- the address of the stack's end, and the stack's size in bytes
 abbrev pub stack_end : ℕ
 stack_end = 2 ^ 38
 
@@ -15,24 +15,24 @@ stack_size = 2048 * 4096
 abbrev pub zero_ended : List ℕ → List ℕ
 zero_ended text = text ++ 0 ∷ []
 
--- texts in a row, each with its zero byte
+-- consecutive texts, each with its zero byte
 abbrev pub ended_texts : List (List ℕ) → List ℕ
 ended_texts texts = flat_map zero_ended texts
 
--- where each text begins, of texts in a row from an address on
+-- the address of each of consecutive texts, the first of which is at `at`
 abbrev pub addresses : ℕ → List (List ℕ) → List ℕ
 addresses at [] = []
 addresses at (text ∷ texts) = at ∷ addresses (at + (length text + 1)) texts
 
--- how many words stand below the texts: the count of arguments, all addresses, and four zeros
+-- the number of words below the texts: the count of arguments, all addresses, and four zeros
 abbrev pub word_count : List (List ℕ) → List (List ℕ) → ℕ
 word_count args env = 5 + length args + length env
 
--- the bytes of the texts and of the words together
+-- the size of the texts and of the words together, in bytes
 abbrev pub start_size : List (List ℕ) → List (List ℕ) → ℕ
 start_size args env = length (ended_texts args) + length (ended_texts env) + 8 * word_count args env
 
--- where the first text begins: the texts end at the stack's end, arguments before environment
+-- the address of the first text: the texts end at the stack's end, arguments before environment
 abbrev pub texts_at : List (List ℕ) → List (List ℕ) → ℕ
 texts_at args env = stack_end - length (ended_texts args) - length (ended_texts env)
 
@@ -43,7 +43,7 @@ stack_words args env =
     ++ 0 ∷ addresses (texts_at args env + length (ended_texts args)) env
     ++ 0 ∷ 0 ∷ 0 ∷ []
 
--- where the words begin: a multiple of 16
+-- the address of the first word: a multiple of 16
 abbrev pub stack_pointer : List (List ℕ) → List (List ℕ) → ℕ
 stack_pointer args env = (texts_at args env - 8 * word_count args env) / 16 * 16
 

@@ -1,4 +1,4 @@
--- The state in which a program starts, or why it does not.
+-- The state in which a program starts, or why it does not start.
 -- docs/reference/running.md says the same for people.
 use Rattle.std.specs.Prelude.{◌≡◌, ℕ, nat_lt, if◌then◌else◌, None, Result, Ok, Err, IsOk, List, replicate, slice_set}
 use Rattle.std.specs.List.{fold}
@@ -16,7 +16,7 @@ use Rattle.guest_run.specs.Placed.{with_segments, with_stack}
 use Rattle.guest_run.specs.Setting.{FileMap, Setting, files_size}
 use Rattle.guest_run.specs.State.{GuestState}
 
--- the files of a guest that starts: each gets the lowest unused number, in the order of their names' bytes
+-- the files of a guest at its start: each gets the lowest unused number, in the order of their names' bytes
 abbrev pub with_given : World → List ℕ × List ℕ → World
 with_given world given = with_file world given.0 given.1
 
@@ -44,7 +44,7 @@ pub data Refusal : Type 0 where
   ArgsTooLong : Refusal
   BoxTooLarge : Refusal
 
--- the refusals, in the order in which they are tried, or else the state; 131,072 bytes are ARG_MAX of Linux (uapi/linux/limits.h)
+-- the first refusal, in the order of the checks, or else the state. 131,072 bytes are ARG_MAX of Linux (uapi/linux/limits.h)
 abbrev pub started : List ℕ → Setting → Result Image ElfRefusal → Result GuestState Refusal
 started program setting (Err refusal) = Err (Elf refusal)
 started program setting (Ok image) =
@@ -55,7 +55,7 @@ started program setting (Ok image) =
 unfoldable pub start_of : List ℕ → Setting → Result GuestState Refusal
 start_of program setting = started program setting (image_of program)
 
--- what a start answers: the state or its refusal, or want of memory where it would have started
+-- the answer of a start: the state or its refusal, or out of memory where it would have started
 abbrev pub Starts : Result GuestState Refusal → Result GuestState StartRefusal → Type 0
 Starts meant (Ok guest) = meant ≡ Ok guest
 Starts meant (Err (answer.Elf refusal)) = meant ≡ Err (Elf refusal)

@@ -1,4 +1,4 @@
--- The state of a guest: its hart with its memory, its files, its heap, and how many steps it has taken.
+-- The state of a guest: its hart with memory, its files, its heap, and the number of steps taken.
 use Rattle.std.specs.Prelude.{ℕ}
 use Rattle.rv64_machine.specs.Hart.{HartState}
 use Rattle.mem_files.specs.World.{World}

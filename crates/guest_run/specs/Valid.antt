@@ -1,4 +1,4 @@
--- The states that a start and steps can reach: what stands in memory besides the segments, and how much of it.
+-- The states that a start and steps can reach: the memory besides the segments, and its size.
 -- docs/reference/running.md says the same for people.
 use Rattle.std.specs.Prelude.{◌≡◌, ℕ, zero, suc, ◌-◌, ◌*◌, ◌^◌, ◌≤◌, true, ◌&&◌, List, [], ◌∷◌, count_by}
 use Rattle.std.specs.FinMap.{contains_key}
@@ -15,18 +15,19 @@ unfoldable pub pages_from : ℕ → ℕ → List ℕ
 pages_from number zero = []
 pages_from number (suc count) = number ∷ pages_from (suc number) count
 
--- how many pages are mapped apart from the heap
+-- the number of mapped pages outside the heap
 unfoldable pub pages_apart : Memory → Heap → ℕ
 pages_apart memory heap =
     count_by (λ page. contains_key memory (4096 * page) && is_apart_from_heap heap (4096 * page)) (pages_from 0 (2 ^ 26))
 
--- memory and heap fit together, the stack is mapped, and segments and stack have at most 65,536 and 2,048 pages, 67,584 together
+-- memory and heap fit together, the stack is mapped, and at most 67,584 pages are outside the heap: 65,536 of segments and 2,048 of the
+-- stack
 pub record Fits (memory : Memory) (heap : Heap) : Type 0 where
   pub heap_of : IsHeapOf memory heap
   pub stack : maps memory (stack_end - stack_size) stack_size ≡ true
   pub few : pages_apart memory heap ≤ 67584
 
--- a valid state: a hart, a memory that fits its heap, and files within their limits that fit together
+-- a valid state: a hart, a memory that fits its heap, and sound files
 pub record IsValid (guest : GuestState) : Type 0 where
   pub hart : IsHart guest.hart
   pub numbers : HasNumbers guest.hart

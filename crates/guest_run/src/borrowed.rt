@@ -1,10 +1,10 @@
-//! Bytes that their owner lends.
+//! Bytes borrowed from their owner.
 
 ghost use Rattle.std.specs.Prelude.{◌≡◌, length};
 
 use std::marker::Model;
 
-/// Bytes that are borrowed, which contracts see as a list of numbers below 256.
+/// Borrowed bytes. Contracts see a list of numbers below 256.
 #[derive(Drop)]
 pub(crate) struct Borrowed<'a> {
     bytes: &'a [u8],
@@ -19,21 +19,21 @@ impl<'a> Model for Borrowed<'a> {
 }
 
 impl<'a> Borrowed<'a> {
-    /// These bytes.
+    /// Borrows these bytes.
     pub(crate) fn new(bytes: &'a [u8]) -> Borrowed<'a>
         ensures { result ≡ bytes.now }
     {
         Borrowed { bytes }
     }
 
-    /// All of them.
+    /// All the bytes.
     pub(crate) fn as_slice(&self) -> &'a [u8]
         ensures { result.now ≡ self.now }
     {
         self.bytes
     }
 
-    /// How many there are.
+    /// The number of bytes.
     pub(crate) fn len(&self) -> usize
         ensures { result ≡ length self.now }
     {

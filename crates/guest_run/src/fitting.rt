@@ -11,14 +11,14 @@ use linux_calls::Heap;
 use paged_mem::{PAGE, Ram};
 use rv64_machine::Hart;
 
-/// The most bytes of a heap.
+/// The largest size of a heap, in bytes.
 const MAX_HEAP: u64 = 1 << 30;
-/// The bytes of the stack's pages.
+/// The size of the stack's pages, in bytes.
 const STACK_SIZE: u64 = 2_048 * PAGE;
-/// The most pages apart from the heap.
+/// The largest number of pages outside the heap.
 const MAX_PAGES: u64 = 67_584;
 
-/// Whether a hart's memory and a heap are those of a valid state.
+/// Whether a hart's memory and a heap fit together, as in a valid state.
 pub fn fit_together<R: Ram>(hart: &Hart<R>, heap: &Heap) -> bool
     ensures { IsTrue result ↔ Fits hart.now.memory heap.entry.now }
 {
@@ -35,7 +35,7 @@ pub fn fit_together<R: Ram>(hart: &Hart<R>, heap: &Heap) -> bool
     pages_apart(ram, heap) <= MAX_PAGES
 }
 
-/// Whether a heap's numbers are in their bounds.
+/// Whether a heap's numbers are within their bounds.
 fn has_bounds(heap: &Heap) -> bool
     ensures { IsTrue result ↔ HasBounds heap.entry.now }
 {
@@ -48,7 +48,7 @@ fn has_bounds(heap: &Heap) -> bool
     heap.first <= heap.now && heap.now <= heap.first + heap.limit
 }
 
-/// Whether the pages of a heap up to its break are mapped, and the rest of those that it may have is not.
+/// Whether the heap's pages up to its break are mapped, and its remaining pages up to its limit are unmapped.
 fn is_heap_of<R: Ram>(ram: &R, heap: &Heap) -> bool
     requires { HasBounds heap.now }
     ensures { IsTrue result ↔ IsHeapOf (R.bytes ram.now) heap.entry.now }
@@ -61,7 +61,7 @@ fn is_heap_of<R: Ram>(ram: &R, heap: &Heap) -> bool
     is_free(ram, end, top - end)
 }
 
-/// Whether none of the bytes of whole pages is mapped.
+/// Whether no byte of these whole pages is mapped.
 fn is_free<R: Ram>(ram: &R, at: u64, count: u64) -> bool
     requires aligned { at % 4096 ≡ 0 }
     requires low { at + count ≤ 2 ^ 38 }
@@ -73,7 +73,7 @@ fn is_free<R: Ram>(ram: &R, at: u64, count: u64) -> bool
     }
 }
 
-/// The first multiple of a page's bytes that is not below an address.
+/// Rounds an address up to a multiple of the page size.
 fn page_up(address: u64) -> u64
     requires { address ≤ 2 ^ 38 }
     ensures { result ≡ page_up address }
@@ -81,7 +81,7 @@ fn page_up(address: u64) -> u64
     address.next_multiple_of(PAGE)
 }
 
-/// How many pages are mapped apart from a heap.
+/// The number of mapped pages outside a heap.
 fn pages_apart<R: Ram>(ram: &R, heap: &Heap) -> u64
     requires { HasBounds heap.now }
     ensures { result ≡ pages_apart (R.bytes ram.now) heap.entry.now }
@@ -95,7 +95,7 @@ fn pages_apart<R: Ram>(ram: &R, heap: &Heap) -> u64
     count
 }
 
-/// How many of the pages in a row lie apart from a heap.
+/// The number of pages outside a heap among `pages` consecutive ones from page number `first`.
 fn apart_in_row(heap: &Heap, first: u64, pages: u64) -> u64
     requires bounds { HasBounds heap.now }
     requires low { first + pages ≤ 2 ^ 26 }
@@ -109,7 +109,7 @@ fn apart_in_row(heap: &Heap, first: u64, pages: u64) -> u64
     count
 }
 
-/// Whether an address is in none of the pages that a heap has or may have.
+/// Whether an address lies outside all pages that a heap has or may get.
 fn is_apart(heap: &Heap, at: u64) -> bool
     requires { HasBounds heap.now }
     ensures { result ≡ is_apart_from_heap heap.entry.now at }

@@ -40,7 +40,7 @@ impl<'a> Model for GivenFiles<'a> {
 }
 
 impl<'a> GivenFiles<'a> {
-    /// No files. It takes no memory.
+    /// An empty map of files. Allocates nothing.
     pub(crate) fn new(alloc: Global) -> GivenFiles<'a>
         ensures { result ≡ map.empty }
     {
@@ -58,21 +58,21 @@ impl<'a> GivenFiles<'a> {
         self.entries.contains_key(name)
     }
 
-    /// How many files there are.
+    /// The number of files.
     pub(crate) fn len(&self) -> usize
         ensures { result ≡ map.len self.now }
     {
         self.entries.len()
     }
 
-    /// The bytes of all files.
+    /// The size of all files together, in bytes.
     pub(crate) fn size(&self) -> u64
         ensures { result ≡ files_size self.now }
     {
         self.size
     }
 
-    /// Adds a file; want of memory leaves the files as they were.
+    /// Adds a file. Error: out of memory; the files are unchanged.
     pub(crate) fn insert(&mut self, name: &[u8], content: &'a [u8]) -> Result<(), OutOfMemory>
         requires absent { map.contains_key self.old name.now ≡ false }
         requires named { IsTrue (is_stripped_name name.now) }
@@ -88,7 +88,7 @@ impl<'a> GivenFiles<'a> {
         Ok(())
     }
 
-    /// The files of a guest that starts with these.
+    /// The files of a guest that starts with this map. Error: out of memory.
     pub(crate) fn start_files(&self, alloc: Global) -> Result<Files, OutOfMemory>
         requires { files_size self.now ≤ most_total }
         ensures { IfOk result (λ files. files ≡ start_world self.now) }
@@ -101,7 +101,7 @@ impl<'a> GivenFiles<'a> {
     }
 }
 
-/// Places a file that no rule refuses.
+/// Places a file that no rule refuses. Error: out of memory.
 fn place_given(files: &mut Files, name: &[u8], content: &[u8]) -> Result<(), OutOfMemory>
     requires { placed files.old name.now content.now ≡ (Ok tt, with_file files.old name.now content.now) }
     ensures { OnOk result (files.new ≡ with_file files.old name.now content.now) }

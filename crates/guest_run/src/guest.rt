@@ -23,8 +23,8 @@ use rv64_machine::Hart;
 use std::alloc::Global;
 use std::marker::Model;
 
-/// A program that was started: its hart with its memory, its files, its heap and how many steps it
-/// has taken. Two guests that are equal in these behave alike, over whatever memories they stand.
+/// A started program: its hart with memory, its files, its heap and the number of steps taken. Two guests equal in these behave alike,
+/// whatever type their memory has.
 #[derive(Drop)]
 pub struct Guest<R: Ram> {
     process: Process<R>,
@@ -45,10 +45,9 @@ impl<R: Ram> Model for Guest<R> {
 }
 
 impl<R: Ram> Guest<R> {
-    /// Starts a program with what it is given.
+    /// Starts a program in an execution context (`RunBox`).
     ///
-    /// Refuses a file that is no program, then texts that are too long, then files that are too large
-    /// together. Want of memory comes only where the program would have started.
+    /// Errors, in this order: `Elf`, `ArgsTooLong`, `BoxTooLarge`. `OutOfMemory` occurs only where the program would have started.
     pub fn start(alloc: Global, program: &[u8], setting: &RunBox) -> Result<Guest<R>, StartRefusal>
         ensures answer { Starts (start_of program.now setting.now) result }
         ensures fresh { IfOk result (λ guest. guest.steps ≡ 0) }
@@ -60,7 +59,7 @@ impl<R: Ram> Guest<R> {
         }
     }
 
-    /// The guest of these parts, in a state as it was before.
+    /// The guest made of these parts. Continues a saved state.
     pub fn restore(alloc: Global, hart: Hart<R>, files: Files, heap: Heap, steps: u64) -> Guest<R>
         requires { Fits hart.memory heap }
         ensures { result ≡ guest_state hart files heap steps }
@@ -80,8 +79,8 @@ impl<R: Ram> Guest<R> {
 
     /// Takes at most `most` steps, until one ends the run.
     ///
-    /// The answer is the first end within them, and comes again, or `Spent` exactly where there is
-    /// none. Want of memory can come only in a step that would have gone on.
+    /// Returns the end that occurs within them, or `Spent` if none does. Running an ended guest again returns its end again.
+    /// `OutOfMemory` can occur only in a step that would have continued.
     pub fn run(&mut self, most: u64) -> RunEnd
         requires some { 1 ≤ most }
         requires counted { self.old.steps + most < 2 ^ 64 }
@@ -92,10 +91,10 @@ impl<R: Ram> Guest<R> {
         self.run_to(most, None)
     }
 
-    /// The same up to an address, where one is given: the step that comes to it is the last one. At least one step is taken, unless `most`
-    /// is 0, so the address at which the guest stands is not asked.
+    /// Takes at most `most` steps, up to the one that reaches the address `stop`, if given. At least one step is taken, unless `most` is
+    /// 0: the address at which the guest already is does not count.
     ///
-    /// `Spent` says that no end came: all steps were taken, or the address was reached.
+    /// `Spent` means that the run did not end: all steps were taken, or the address was reached.
     pub fn run_to(&mut self, most: u64, stop: Option<u64>) -> RunEnd
         requires { self.old.steps + most < 2 ^ 64 }
         ensures { Travels stop self.old most result self.new }
@@ -103,7 +102,7 @@ impl<R: Ram> Guest<R> {
         self.process.run(most, stop)
     }
 
-    /// How many steps were taken that did not end the run.
+    /// The number of steps taken, without the one that ends the run.
     pub fn steps(&self) -> u64
         ensures value { result ≡ self.now.steps }
         // Every guest is in a valid state.
@@ -112,7 +111,7 @@ impl<R: Ram> Guest<R> {
         self.process.steps
     }
 
-    /// Shows that the guest is in a valid state, and that its steps are a number of 64 bits.
+    /// Shows that the guest is in a valid state, and that its number of steps is below 2^64.
     pub fn show_valid(&self)
         ensures valid { IsValid self.now }
         ensures counted { self.now.steps < 2 ^ 64 }
@@ -120,7 +119,7 @@ impl<R: Ram> Guest<R> {
         let _steps = self.process.steps;
     }
 
-    /// The value of a register.
+    /// The value of a register, by its number 0 to 31.
     pub fn reg(&self, number: u8) -> u64
         requires { number < 32 }
         ensures { result ≡ slice_index self.now.hart.registers number }
@@ -135,7 +134,7 @@ impl<R: Ram> Guest<R> {
         self.process.hart.pc()
     }
 
-    /// Fills `out` with the bytes from `at` on; `false`, with `out` as it was, where one is unmapped.
+    /// Fills `out` with the bytes from `at` on. Returns `false` and leaves `out` unchanged if a byte is unmapped.
     pub fn peek(&self, at: u64, out: &mut [u8]) -> bool
         ensures answer { result ≡ maps self.now.hart.memory at (length out.old) }
         ensures moved { out.new ≡ unwrap_or (bytes_at self.now.hart.memory at (length out.old)) out.old }
@@ -168,17 +167,17 @@ impl<R: Ram> Guest<R> {
 /// Why a program does not start.
 #[derive(Clone, Copy, Debug, PartialEq, Eq)]
 pub enum StartRefusal {
-    /// The file is no program that can be loaded.
+    /// The file is not a program that can be loaded.
     Elf(ElfRefusal),
-    /// The texts, a zero byte for each, and the words below them take more than 131,072 bytes.
+    /// The texts, each with its zero byte, and the words below them take more than 131,072 bytes.
     ArgsTooLong,
-    /// The files have more than 536,870,912 bytes together.
+    /// The files together have more than 536,870,912 bytes.
     BoxTooLarge,
-    /// Want of memory of this process.
+    /// This process is out of memory.
     OutOfMemory,
 }
 
-/// The image of a program that starts, or the first refusal.
+/// The image of a program that can start, or the first refusal.
 fn judged(program: &[u8], setting: &RunBox) -> Result<Image, StartRefusal>
     ensures sound { IfOk result (IsLoadable (length program.now)) }
     ensures texts { OnOk result (start_size setting.now.args setting.now.env ≤ 131072) }
@@ -199,7 +198,7 @@ fn judged(program: &[u8], setting: &RunBox) -> Result<Image, StartRefusal>
     Ok(image)
 }
 
-/// The guest of a program that no rule refuses.
+/// The started guest of a program that no rule refuses. Error: out of memory.
 fn started<R: Ram>(
     alloc: Global,
     program: &[u8],
@@ -235,7 +234,7 @@ fn started<R: Ram>(
 }
 
 impl<R: Ram> Guest<R> {
-    /// The guest with these files in the place of its own.
+    /// The guest with its files replaced by these.
     pub fn with_files(self, files: Files) -> Guest<R>
         ensures { result ≡ record self { world = files } }
     {
@@ -248,7 +247,7 @@ impl<R: Ram> Guest<R> {
         }
     }
 
-    /// Its files alone.
+    /// The guest's files; the rest is dropped.
     pub fn into_files(self) -> Files
         ensures { result ≡ self.world }
     {

@@ -1,4 +1,4 @@
-//! A program of a guest: how it starts, and how it runs.
+//! Starts and runs a guest program.
 //!
 //! The rules, with their public sources, are in docs/reference/running.md.
 #![tactic(auto)]
@@ -18,5 +18,5 @@ pub use guest::{Guest, StartRefusal};
 pub use run::RunEnd;
 pub use run_box::RunBox;
 
-/// The memory over which programs are run.
+/// The type of memory in which programs run.
 pub type RunRam = paged_mem::PagedRam;

@@ -1,4 +1,4 @@
-//! The memory of a program that starts.
+//! The memory of a starting program.
 
 ghost use Rattle.elf_load.specs.Segments.{first_page, paged_size, AreApart, IsPlaced};
 ghost use Rattle.guest_run.specs.Placed.{with_segment, with_segments, with_stack};
@@ -12,10 +12,10 @@ use ddc_base::OutOfMemory;
 use elf_load::Segment;
 use paged_mem::{PAGE, Ram, StoreRefusal};
 
-/// The pages of the stack.
+/// The number of the stack's pages.
 const STACK_PAGES: u64 = 2_048;
 
-/// Maps the pages of every segment and puts the segments' bytes there.
+/// Maps the pages of every segment and writes the segments' bytes there. Error: out of memory.
 pub(crate) fn place_segments<R: Ram>(
     ram: &mut R,
     program: &[u8],
@@ -32,7 +32,7 @@ pub(crate) fn place_segments<R: Ram>(
     Ok(())
 }
 
-/// Maps the pages of a segment and puts its bytes there.
+/// Maps the pages of a segment and writes its bytes there. Error: out of memory.
 #[tactic(auto, using(crate::proofs::Places::placed_low))]
 fn place_segment<R: Ram>(ram: &mut R, program: &[u8], segment: &Segment) -> Result<(), OutOfMemory>
     requires placed { IsPlaced (length program.now) segment.now }
@@ -47,7 +47,7 @@ fn place_segment<R: Ram>(ram: &mut R, program: &[u8], segment: &Segment) -> Resu
     write_mapped(ram, segment.address, bytes)
 }
 
-/// Maps the stack's pages and puts its first bytes there.
+/// Maps the stack's pages and writes its first bytes there. Error: out of memory.
 pub(crate) fn place_stack<R: Ram>(ram: &mut R, at: u64, bytes: &[u8]) -> Result<(), OutOfMemory>
     requires free { IsFree (R.bytes ram.old) (stack_end - stack_size) stack_size }
     requires low { stack_end - stack_size ≤ at }
@@ -58,7 +58,7 @@ pub(crate) fn place_stack<R: Ram>(ram: &mut R, at: u64, bytes: &[u8]) -> Result<
     write_mapped(ram, at, bytes)
 }
 
-/// Writes bytes where all addresses are mapped.
+/// Writes bytes at addresses that are all mapped. Error: out of memory.
 fn write_mapped<R: Ram>(ram: &mut R, at: u64, bytes: &[u8]) -> Result<(), OutOfMemory>
     requires { maps (R.bytes ram.old) at (length bytes.now) ≡ true }
     ensures { OnOk result (R.bytes ram.new ≡ with_bytes (R.bytes ram.old) at bytes.now) }

@@ -15,22 +15,22 @@ use paged_mem::Ram;
 use rv64_machine::{Cause, Hart, StepEnd};
 use std::alloc::Global;
 
-/// How a run ended. An end leaves the guest as it was, so that it comes again.
+/// How a run ended. Ending does not change the guest; running it again ends it the same way.
 #[derive(Clone, Copy, PartialEq, Eq)]
 pub enum RunEnd {
     /// The program called exit or exit_group; the status is the low 8 bits of its argument.
     Exited(u8),
-    /// The hart could not go on.
+    /// An instruction trapped.
     Trapped(Cause),
-    /// The program made a call of this number, which is none of the table.
+    /// The program made a call whose number is not in the table.
     UnknownCall(u64),
-    /// All steps that were asked for were taken.
+    /// All steps asked for were taken, or the stop address was reached.
     Spent,
-    /// Want of memory of this process, which the guest doesn't see. The steps that were done stand.
+    /// This process is out of memory, which the guest does not see. The completed steps count.
     OutOfMemory,
 }
 
-/// What a guest runs, in any state: a hart with its memory, files, a heap, and how many steps were taken.
+/// A running program in any state: a hart with its memory, files, a heap and the number of steps taken.
 #[derive(Drop)]
 pub(crate) struct Process<R: Ram> {
     pub(crate) hart: Hart<R>,
@@ -41,7 +41,7 @@ pub(crate) struct Process<R: Ram> {
 }
 
 impl<R: Ram> Process<R> {
-    /// At most `most` steps, up to the one that comes to the stop: the first end within them, else that they are spent.
+    /// Takes at most `most` steps, up to the one that reaches `stop`. Returns the end that occurs within them, or `Spent`.
     pub(crate) fn run(&mut self, most: u64, stop: Option<u64>) -> RunEnd
         requires heap_of { IsHeapOf self.old.hart.memory self.old.heap }
         requires counted { self.old.steps + most < 2 ^ 64 }
@@ -60,7 +60,8 @@ impl<R: Ram> Process<R> {
         RunEnd::Spent
     }
 
-    /// At most `most` steps: instructions up to the stop or a call, and the call. None where the guest goes on, else why it does not.
+    /// Takes at most `most` steps: instructions up to the stop or a call, and that call. Returns `None` if the guest continues, otherwise
+    /// the reason why not.
     fn stretch(&mut self, most: u64, stop: Option<u64>) -> Option<RunEnd>
         requires some { 0 < most }
         requires heap_of { IsHeapOf self.old.hart.memory self.old.heap }
@@ -79,7 +80,7 @@ impl<R: Ram> Process<R> {
         }
     }
 
-    /// The step of a guest that makes a call.
+    /// Takes the step of a guest that makes a call.
     fn serve(&mut self) -> Option<RunEnd>
         requires calls { act self.old.hart ≡ machine.Calls }
         requires heap_of { IsHeapOf self.old.hart.memory self.old.heap }
@@ -108,7 +109,7 @@ impl<R: Ram> Process<R> {
     }
 }
 
-/// Whether a pc is the address to stop at.
+/// Whether a pc is the address at which to stop.
 fn is_at(stop: Option<u64>, pc: u64) -> bool
     ensures { result ≡ is_stop stop pc }
 {

@@ -10,10 +10,9 @@ use mem_files::{MAX_CONTENT, MAX_NAMES, PlaceRefusal, is_file_name, strip};
 use std::alloc::Global;
 use std::marker::Model;
 
-/// What a program is given when it starts: arguments, environment texts, files by name, and the most
-/// bytes of its heap.
+/// The execution context of a program: arguments, environment texts, files by name, and the largest size of its heap in bytes.
 ///
-/// It borrows texts and contents for `'a`, and copies none of their bytes before a start. It keeps the allocator that its constructor took.
+/// It borrows texts and contents for `'a` and copies none of their bytes before a start. It keeps the allocator given to `new`.
 #[derive(Drop)]
 pub struct RunBox<'a> {
     args: Vec<Borrowed<'a>>,
@@ -37,7 +36,7 @@ impl<'a> Model for RunBox<'a> {
 }
 
 impl<'a> RunBox<'a> {
-    /// An empty box with a heap of at most `heap` bytes. It takes no memory.
+    /// An execution context without arguments, environment and files, with a heap of at most `heap` bytes (0 to 2^30). Allocates nothing.
     pub fn new(alloc: Global, heap: u64) -> RunBox<'a>
         requires { heap ≤ 2 ^ 30 }
         ensures { result ≡ record { args = []; env = []; files = map.empty; heap = heap } }
@@ -51,7 +50,7 @@ impl<'a> RunBox<'a> {
         }
     }
 
-    /// Adds an argument; want of memory leaves the box as it was.
+    /// Adds an argument. Error: out of memory; the context is unchanged.
     pub fn push_arg(&mut self, text: &'a [u8]) -> Result<(), OutOfMemory>
         requires { IsText text.now }
         ensures ok { OnOk result (self.new ≡ record self.old { args = self.old.args ++ text.now ∷ [] }) }
@@ -61,7 +60,7 @@ impl<'a> RunBox<'a> {
         Ok(())
     }
 
-    /// Adds a text of the environment; want of memory leaves the box as it was.
+    /// Adds an environment text. Error: out of memory; the context is unchanged.
     pub fn push_env(&mut self, text: &'a [u8]) -> Result<(), OutOfMemory>
         requires { IsText text.now }
         ensures ok { OnOk result (self.new ≡ record self.old { env = self.old.env ++ text.now ∷ [] }) }
@@ -71,10 +70,10 @@ impl<'a> RunBox<'a> {
         Ok(())
     }
 
-    /// Adds a file by its name, without the `./` that the name begins with.
+    /// Adds a file by its name, without a leading `./`.
     ///
-    /// Refuses as placing a file in a guest does, but the bytes of all files together are not limited
-    /// here: the start tests them. A refusal leaves the box as it was.
+    /// Refuses what `Files::place` refuses, except for the size of all files together, which the start checks. A refusal leaves the
+    /// context unchanged.
     pub fn place(&mut self, name: &[u8], content: &'a [u8]) -> Result<(), PlaceRefusal>
         ensures files { PlacesIn self.old.files (stripped name.now) content.now result self.new.files }
         ensures others { self.new ≡ record self.old { files = self.new.files } }
@@ -89,7 +88,7 @@ impl<'a> RunBox<'a> {
         self.args.as_slice()
     }
 
-    /// The texts of the environment.
+    /// The environment texts.
     pub(crate) fn env(&self) -> &[Borrowed<'a>]
         ensures { result.now ≡ self.now.env }
     {
@@ -103,17 +102,17 @@ impl<'a> RunBox<'a> {
         &self.files
     }
 
-    /// The most bytes of the heap.
+    /// The largest size of the heap, in bytes.
     pub fn heap(&self) -> u64
         ensures value { result ≡ self.now.heap }
-        // Every box is valid.
+        // Every execution context is valid.
         ensures valid { IsBox self.now }
     {
         self.heap
     }
 }
 
-/// Adds a file under its name without the `./` that it begins with.
+/// Adds a file by its name, without a leading `./`. A refusal leaves the files unchanged.
 fn place_in<'a>(
     files: &mut GivenFiles<'a>,
     name: &[u8],

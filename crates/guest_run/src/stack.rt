@@ -1,4 +1,4 @@
-//! The stack of a program that starts.
+//! The stack of a starting program.
 
 ghost use Rattle.guest_run.specs.Stack.{addresses, ended_texts, stack_bytes, stack_pointer, start_size};
 ghost use Rattle.guest_run.specs.Inside.Bounds.{cost};
@@ -10,21 +10,21 @@ use crate::borrowed::Borrowed;
 use ddc_base::OutOfMemory;
 use std::alloc::Global;
 
-/// The stack's end, above its last byte.
+/// The address after the stack's last byte.
 pub(crate) const END: u64 = 1 << 38;
-/// The most bytes that texts and words take together.
+/// The largest size of texts and words together, in bytes.
 const MOST: u64 = 131_072;
-/// Of the words, those that are no text's address: the count of arguments, and four zeros.
+/// The number of words that are not the address of a text: the count of arguments, and four zeros.
 const OTHER_WORDS: u64 = 5;
 
-/// The bytes with which a stack begins, and where the first of them stands.
+/// The initial bytes of a stack, and the address of the first of them.
 #[derive(Drop)]
 pub(crate) struct Stack {
     pub(crate) at: u64,
     pub(crate) bytes: Vec<u8>,
 }
 
-/// Whether texts and words take few enough bytes.
+/// Whether texts and words take at most 131,072 bytes.
 pub(crate) fn fits(args: &[Borrowed], env: &[Borrowed]) -> bool
     ensures { result ≡ nat_le (start_size args.now env.now) 131072 }
 {
@@ -34,8 +34,7 @@ pub(crate) fn fits(args: &[Borrowed], env: &[Borrowed]) -> bool
     }
 }
 
-/// What is left of `most` bytes after each text's bytes, its zero byte and its address; `None` where
-/// they are too many.
+/// What is left of `most` bytes after each text's bytes, its zero byte and its address. `None` if they take more.
 fn left_after(texts: &[Borrowed], most: u64) -> Option<u64>
     ensures { SomeIff result (sum_by cost texts.now ≤ most) (most - sum_by cost texts.now) }
 {
@@ -50,7 +49,7 @@ fn left_after(texts: &[Borrowed], most: u64) -> Option<u64>
     Some(left)
 }
 
-/// The stack of a program with these texts, which fit.
+/// The stack of a program with these texts, which must fit. Error: out of memory.
 pub(crate) fn stack_of(
     alloc: Global,
     args: &[Borrowed],
@@ -74,7 +73,7 @@ pub(crate) fn stack_of(
     Ok(Stack { at, bytes })
 }
 
-/// The bytes of the texts, each with its zero byte.
+/// The size of the texts, each with its zero byte.
 fn joined_size(texts: &[Borrowed]) -> u64
     requires { length (ended_texts texts.now) < 2 ^ 64 }
     ensures { result ≡ length (ended_texts texts.now) }
@@ -94,7 +93,7 @@ fn put_word(bytes: &mut Vec<u8>, word: u64) -> Result<(), OutOfMemory>
     Ok(())
 }
 
-/// Appends the addresses of texts in a row from `at` on.
+/// Appends the addresses of consecutive texts, the first of which is at `at`.
 fn put_addresses(bytes: &mut Vec<u8>, at: u64, texts: &[Borrowed]) -> Result<(), OutOfMemory>
     requires { at + length (ended_texts texts.now) < 2 ^ 64 }
     ensures { OnOk result (bytes.new.items ≡ bytes.old.items ++ flat_map (bytes_of 8) (addresses at texts.now)) }
@@ -107,7 +106,7 @@ fn put_addresses(bytes: &mut Vec<u8>, at: u64, texts: &[Borrowed]) -> Result<(),
     Ok(())
 }
 
-/// Appends zero bytes.
+/// Appends `count` zero bytes.
 #[tactic(auto, using(crate::proofs::Texts::zeros_rules))]
 fn put_zeros(bytes: &mut Vec<u8>, count: u64) -> Result<(), OutOfMemory>
     ensures { OnOk result (bytes.new.items ≡ bytes.old.items ++ zeros count) }

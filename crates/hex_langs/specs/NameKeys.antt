@@ -1,4 +1,4 @@
--- The key of a table over names: it begins with the SHA-256 digest of all of them. docs/reference/linking.md says why.
+-- The key of a table of names begins with the SHA-256 digest of all of them. docs/reference/linking.md says why.
 use Rattle.std.specs.Prelude.{◌≡◌, ℕ, Bool, true, false, List, [], ◌∷◌, ◌++◌}
 use Rattle.std.specs.Hash.DefaultHasher as sip
 use Rattle.std.specs.declared.hash.DefaultHasher.{DefaultHasher}
@@ -14,7 +14,7 @@ abbrev pub message_of : List (List ℕ) → List ℕ
 message_of [] = []
 message_of (name ∷ names) = framed name ++ message_of names
 
--- what the hash of each name of a table goes on from: the digest of all the names; nothing, where there are none
+-- the state with which the hash of each name of a table begins: the digest of all names, or the initial state for no names
 abbrev pub begun_by : List (List ℕ) → DefaultHasher
 begun_by [] = sip.initial
 begun_by (name ∷ names) = begun_with (sha256 (message_of (name ∷ names)))

@@ -1,4 +1,4 @@
-//! hex1 and hex2: what items a source stands for, before they are linked.
+//! Reads hex1 and hex2 sources as items, before they are linked.
 //!
 //! The rules, with their public sources, are in docs/reference/hex1.md and hex2.md.
 

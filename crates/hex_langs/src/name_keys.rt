@@ -1,11 +1,11 @@
-//! The key of a table over names.
+//! The key of a table of names.
 
 ghost use Rattle.std.specs.Prelude.{◌≡◌, ℕ, List, [], ◌∷◌, ◌++◌};
 ghost use Rattle.hex_langs.specs.NameKeys.{Took, begun_by};
 
 use ddc_base::{NamesDigest, NamesKey};
 
-/// The names that a table will have, as far as they are digested. It takes no memory.
+/// A digest of the names that a table will have. Allocates nothing.
 #[derive(Drop)]
 pub struct KeyNames {
     digest: NamesDigest,
@@ -13,7 +13,7 @@ pub struct KeyNames {
 }
 
 impl KeyNames {
-    /// No names.
+    /// A digest of no names yet.
     pub fn new() -> KeyNames
         ensures { Took result [] }
     {
@@ -23,7 +23,7 @@ impl KeyNames {
         }
     }
 
-    /// Takes one more name.
+    /// Adds one more name to the digest.
     pub fn add(&mut self, name: &[u8])
         ensures { (names : List (List ℕ)) → Took self.old names → Took self.new (names ++ name.now ∷ []) }
     {
@@ -35,7 +35,7 @@ impl KeyNames {
     pub fn key(self) -> NamesKey
         ensures { (names : List (List ℕ)) → Took self names → result.begun ≡ begun_by names }
     {
-        // A digest of no names would be work for nothing.
+        // An empty list of names needs no digest.
         if self.are_none {
             NamesKey::of_none()
         } else {

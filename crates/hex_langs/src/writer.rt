@@ -1,7 +1,7 @@
-//! Items written as a text of hex2. It is read again as the same items where these can be written and the text is not too long
+//! Writes items as a text of hex2. The text is read as the same items if they can be written and the text is not too long
 //! (`laws::written_is_read_again`).
 //!
-//! The lines are in docs/reference/m1.md.
+//! docs/reference/m1.md has the lines.
 
 pub mod laws;
 mod writing;

@@ -1,14 +1,14 @@
--- The commands of a script once more: the text is cut at LF into lines, and each line into its words. The law `one_reading` says that this is
--- what `commands_of` of Script.antt reads in one pass. docs/reference/kaem.md says the same for people.
+-- A second definition of a script's commands: the text is split at LF into lines, and each line into its words. The law `one_reading`
+-- says that this is what `commands_of` of Script.antt reads in one pass. docs/reference/kaem.md says the same for people.
 use Rattle.std.specs.Prelude.{ℕ, zero, suc, ◌+◌, ◌-◌, ◌==◌, nat_lt, Bool, ◌&&◌, not, if◌then◌else◌, List, [], ◌∷◌, ◌++◌, length, drop, Result, Ok, Err}
 use Rattle.std.specs.List.{after_first, before_first, list_any, position_or_len, prefix_len, slice_split}
 use Rattle.kaem_script.specs.declared.refusal.ScriptFault.{ScriptFault}
 use Rattle.kaem_script.specs.declared.refusal.ScriptFault.TheVariants.{OpenQuote, BadWord, LongWord, TooManyWords, TooMany}
 use Rattle.kaem_script.specs.Script.{Commands, ends_line, ends_or_begins, is_wrong, most_commands, most_words, names_nothing, parts_words, with_line}
 
--- ---- a word, with which this rest of its line begins
+-- ---- a word, with which the rest of a line begins
 
--- what a word says, and what of its line stands after it
+-- a word's text, and the rest of its line
 pub record WordOfLine : Type 0 where
   pub text : List ℕ
   pub following : List ℕ
@@ -22,7 +22,7 @@ plain_of line =
 abbrev pub is_double_quote : ℕ → Bool
 is_double_quote byte = byte == 34
 
--- a quoted word, of which this stands after the opening quote, ends at the next quote, which ends the line or has a blank, tab or CR after it
+-- a quoted word, given its line after the opening quote, ends at the next quote, which ends the line or is followed by a blank, tab or CR
 unfoldable pub quoted_of : List ℕ → Result WordOfLine ScriptFault
 quoted_of line =
     if not (list_any is_double_quote line) then Err OpenQuote
@@ -49,7 +49,7 @@ LineWords = Result (List (List ℕ)) (ScriptFault × ℕ)
 abbrev pub after_blanks : List ℕ → List ℕ
 after_blanks line = drop (prefix_len parts_words line) line
 
--- no word follows at the end of a line and at a comment
+-- no word follows at the end of a line or at a comment
 abbrev pub unless_over : {A : Type 0} → A → (List ℕ → A) → List ℕ → A
 unless_over over next [] = over
 unless_over over next (byte ∷ line) = if byte == 35 then over else next (byte ∷ line)
@@ -58,7 +58,7 @@ abbrev pub and_word : ℕ → Result WordOfLine ScriptFault → (WordOfLine → 
 and_word at (Err fault) next = Err (fault, at)
 and_word at (Ok word) next = next word
 
--- the words of a line from here to its end, which stands at this offset, after the words before them: so many more may come. The first word
+-- the words of the rest of a line, after `words`; the line ends at offset `end`, and this many more words are allowed. The first word
 -- begins a command, and a script has at most 4,096 of them
 unfoldable pub words_of_line : ℕ → ℕ → ℕ → List (List ℕ) → List ℕ → LineWords
 words_of_line zero commands end words line = unless_over (Ok words) (λ here. Err (TooManyWords, end - length here)) (after_blanks line)
@@ -74,7 +74,7 @@ abbrev pub and_words : LineWords → (List (List ℕ) → Commands) → Commands
 and_words (Err fault) next = Err fault
 and_words (Ok words) next = next words
 
--- the commands of these lines, the first of which begins at this offset, after the commands before them
+-- the commands of these lines, the first of which begins at offset `at`, after `commands`
 unfoldable pub commands_of_lines : ℕ → List (List (List ℕ)) → List (List ℕ) → Commands
 commands_of_lines at commands [] = Ok commands
 commands_of_lines at commands (line ∷ lines) =

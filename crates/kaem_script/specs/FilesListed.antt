@@ -7,7 +7,7 @@ use Rattle.mem_files.specs.Names.{is_stripped_name, stripped}
 use Rattle.mem_files.specs.declared.open_file.PlaceRefusal.{PlaceRefusal}
 use Rattle.mem_files.specs.declared.open_file.PlaceRefusal.TheVariants.{OutOfMemory}
 
--- the names, without the `./` that they begin with, in the order of the list; and the files, which are the world of the first command
+-- the names, without a leading `./`, in the order of the list; and the files, with which the first command starts
 pub record FilesListed : Type 0 where
   pub names : List (List ℕ)
   pub world : World
@@ -16,7 +16,7 @@ pub record FilesListed : Type 0 where
 abbrev pub AreNames : List (List ℕ) → Type 0
 AreNames names = All (λ name. IsTrue (is_stripped_name name)) names
 
--- each listed name is held by a file, and no more names are listed than there are
+-- each listed name is that of a file, and no more names are listed than there are
 pub record IsList (listed : FilesListed) : Type 0 where
   pub named : AreNames listed.names
   pub there : All (λ name. IsSome (map_of.get listed.world.names name)) listed.names
@@ -33,7 +33,7 @@ named_in world name = (name, unwrap_or (content_at world name) [])
 abbrev pub listed_files : FilesListed → List (List ℕ × List ℕ)
 listed_files listed = map (named_in listed.world) listed.names
 
--- one more file, which is placed as files are; a refusal leaves the list as it was
+-- adding a file, which is placed as files are; a refusal leaves the list unchanged
 abbrev pub Pushes : FilesListed → List ℕ → List ℕ → Result (Unit {0}) PlaceRefusal → FilesListed → Type 0
 Pushes old name content (Ok done) new =
     (placed old.world name content ≡ (Ok tt, new.world)) × (new.names ≡ old.names ++ stripped name ∷ [])

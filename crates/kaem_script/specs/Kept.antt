@@ -1,4 +1,4 @@
--- What every script keeps. docs/reference/kaem.md says the same for people.
+-- What holds of every script. docs/reference/kaem.md says the same for people.
 use Rattle.std.specs.Prelude.{ℕ, ◌≤◌, ◌==◌, not, IsTrue, List, [], ◌∷◌, length, All}
 use Rattle.std.specs.List.{list_any}
 use Rattle.mem_files.specs.Names.{is_file_name, stripped}
@@ -10,7 +10,7 @@ pub record IsWord (text : List ℕ) : Type 0 where
   pub no_zero : IsTrue (not (list_any (λ byte. byte == 0) text))
   pub short : length text ≤ 255
 
--- the first word of a line names a file of a guest, without the `./` that it begins with
+-- the first word of a line names a file of a guest, without a leading `./`
 abbrev pub NamesProgram : List (List ℕ) → Type 0
 NamesProgram [] = Unit {0}
 NamesProgram (word ∷ words) = IsTrue (is_file_name (stripped word))
@@ -28,7 +28,7 @@ pub record AreCommands (commands : List (List (List ℕ))) : Type 0 where
   pub few : length commands ≤ most_commands
   pub each : All IsCommand commands
 
--- a script that was read: the digest of its bytes, and commands that keep the rules
+-- a script that was read: the digest of its bytes, and commands that obey the rules
 pub record IsScript (said : ScriptContents) : Type 0 where
   pub digest : IsDigest said.digest
   pub commands : AreCommands said.commands

@@ -1,4 +1,4 @@
--- What is reported of a script's commands, and how an audit of a script ends. docs/reference/kaem.md says the same for people. Digests are
+-- The report on a script's commands, and how an audit of a script ends. docs/reference/kaem.md says the same for people. Digests are
 -- SHA-256 (FIPS 180-4).
 use Rattle.std.specs.Prelude.{ℕ, Ok, Err, List, map}
 use Rattle.mem_files.specs.World.{World}
@@ -32,6 +32,6 @@ abbrev pub script_ended : ScriptContents → FilesListed → Folded → ScriptRe
 script_ended script listed (RanAll ran world) = Ok (script_report script listed ran world)
 script_ended script listed (Stopped number why step) = Err (number, why, step)
 
--- what a script over the listed files comes to, each of its commands within so many steps
+-- the result of a script on the listed files, each of its commands within `most` steps
 abbrev pub end_of_script : ℕ → ScriptContents → FilesListed → ScriptResult ScriptReport
 end_of_script most script listed = script_ended script listed (folded most listed.world script.commands)

@@ -26,7 +26,7 @@ ends_quoted byte = byte == 34 || ends_line byte
 
 -- ---- a word, which begins with the first of these bytes
 
--- what a word says, and how many bytes it takes
+-- a word's text, and the number of bytes that it takes
 pub record ScriptWord : Type 0 where
   pub text : List ℕ
   pub size : ℕ
@@ -41,17 +41,17 @@ plain_text text = if list_any is_wrong text then Err BadWord else Ok (record { t
 unfoldable pub plain_word : List ℕ → Result ScriptWord ScriptFault
 plain_word here = plain_text (take (position_or_len ends_word here) here)
 
--- a text begins with a byte that passes the test
+-- whether a text begins with a byte that passes the test
 abbrev pub begins : (ℕ → Bool) → List ℕ → Bool
 begins test [] = false
 begins test (byte ∷ rest) = test byte
 
--- a text ends, or a byte that passes the test begins it
+-- whether a text is empty or begins with a byte that passes the test
 abbrev pub ends_or_begins : (ℕ → Bool) → List ℕ → Bool
 ends_or_begins test [] = true
 ends_or_begins test (byte ∷ rest) = test byte
 
--- what stands between two quotes, given what stands from the closing one on
+-- the text between two quotes, given the bytes from the closing one on
 abbrev pub between_quotes : List ℕ → List ℕ → Result ScriptWord ScriptFault
 between_quotes text closing =
     if begins (λ byte. byte == 34) closing
@@ -59,7 +59,7 @@ between_quotes text closing =
     then Ok (record { text = text; size = length text + 2 }) else Err BadWord)
     else Err OpenQuote
 
--- after an opening quote
+-- a quoted word, given the bytes after its opening quote
 unfoldable pub quoted_word : List ℕ → Result ScriptWord ScriptFault
 quoted_word rest = between_quotes (take (position_or_len ends_quoted rest) rest) (drop (position_or_len ends_quoted rest) rest)
 
@@ -84,12 +84,12 @@ most_words = 64
 abbrev pub most_commands : ℕ
 most_commands = 4096
 
--- the words of a line as a command; a line without a word is none
+-- the words of a line as a command; a line without words adds no command
 abbrev pub with_line : List (List (List ℕ)) → List (List ℕ) → List (List (List ℕ))
 with_line commands [] = commands
 with_line commands (word ∷ words) = commands ++ (word ∷ words) ∷ []
 
--- one more word, after so many commands and so many words of the line: a line has at most 64, and a script at most 4,096 commands
+-- the next word, after this many commands and this many words of the line. A line has at most 64 words, and a script at most 4,096 commands
 unfoldable pub next_word : ℕ → ℕ → List ℕ → Result ScriptWord ScriptFault
 next_word commands words here =
     if words == most_words then Err TooManyWords
@@ -104,8 +104,8 @@ abbrev pub after_word : ℕ → Result ScriptWord ScriptFault → (ScriptWord �
 after_word at (Err fault) next = Err (fault, at)
 after_word at (Ok word) next = next word
 
--- the commands of a script of which this stands from an offset on, the first bytes of it already read, after the commands before this line
--- and the words before it in the line
+-- the commands of a script from offset `at` on, after these commands and these words of the current line; the first `inside` bytes are
+-- already read
 unfoldable pub commands_from : ℕ → ℕ → List (List (List ℕ)) → List (List ℕ) → List ℕ → Commands
 commands_from at inside commands words [] = Ok (with_line commands words)
 commands_from at (suc inside) commands words (byte ∷ rest) = commands_from (at + 1) inside commands words rest
@@ -120,7 +120,7 @@ commands_from at zero commands words (byte ∷ rest) =
 abbrev pub commands_of : List ℕ → Commands
 commands_of script = commands_from 0 0 [] [] script
 
--- what a call answered: the commands or their first fault, or memory was wanting
+-- the answer of a call: the commands, their first fault, or out of memory
 abbrev pub Reads : Commands → Result (List (List (List ℕ))) ScriptRefusal → Type 0
 Reads meant (Ok commands) = meant ≡ Ok commands
 Reads meant (Err (At fault at)) = meant ≡ Err (fault, at)
@@ -133,7 +133,7 @@ pub record ScriptContents : Type 0 where
   pub digest : Digest
   pub commands : List (List (List ℕ))
 
--- what a call answered: what a script says, or its first fault, or memory was wanting
+-- the answer of a call: the contents of a script, its first fault, or out of memory
 abbrev pub ReadsScript : List ℕ → Result ScriptContents ScriptRefusal → Type 0
 ReadsScript script (Ok said) = (commands_of script ≡ Ok said.commands) × (said.digest.0 ≡ sha256 script)
 ReadsScript script (Err (At fault at)) = commands_of script ≡ Err (fault, at)

@@ -19,13 +19,14 @@ use mem_files::Files;
 use report::script::{CommandLines, ScriptReport};
 use std::alloc::Global;
 
-/// Runs a script's commands in order over one world of files, which begins with those of the list, each within `most` steps: from 1 to 2^48.
+/// Runs a script's commands in order in one file system, which begins with the listed files. Each command takes at most `most` steps,
+/// from 1 to 2^48.
 ///
-/// A command runs the content that its program's name has at that moment. Its program is given all words as arguments, no environment, a heap
-/// of 536,870,912 bytes, and all files that are there; what it leaves is there for the next one. The first command that does not exit with
-/// 0 stops the script. The report is that of commands that all exited with 0.
+/// A command runs the content that its program's name has at that moment. Its program gets all words as arguments, no environment, a heap
+/// of 536,870,912 bytes, and all files that exist. The next command gets the files that it leaves. The first command that does not exit
+/// with 0 stops the script; a report means that all commands exited with 0.
 ///
-/// Want of memory comes only at a command whose program is there and can be loaded, or for the report.
+/// `OutOfMemory` occurs only at a command whose program exists and can be loaded, or for the report.
 #[tactic(auto, unfolding(crate::specs::Reported::script_report))]
 pub fn audit(
     alloc: Global,
@@ -37,7 +38,7 @@ pub fn audit(
     requires few { most ≤ 2 ^ 48 }
     ensures answer { AnswersScript (end_of_script most script.now files.now) result }
     ensures memory { IfErr result (λ stop. OnScriptWant stop (WantsAt most files.now.world script.now.commands)) }
-    // A report that is answered has a text.
+    // A returned report has a text.
     ensures report { IfOk result IsScriptReport }
 {
     let (commands, present) = fold(alloc, script.commands(), files.files(), most)?;
@@ -49,7 +50,7 @@ pub fn audit(
     }
 }
 
-/// The report on a script whose commands all ran, with these lines, and left these files.
+/// The report on a script whose commands all ran, with these lines and the files that they left.
 fn report_of(
     alloc: Global,
     script: &Script,

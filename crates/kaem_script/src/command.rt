@@ -21,16 +21,16 @@ use report::Mark;
 use report::script::CommandLine;
 use std::alloc::Global;
 
-/// The most bytes of a program's heap.
+/// The largest size of a program's heap, in bytes.
 const HEAP: u64 = 536_870_912;
 
-/// A command that ran: what is reported of it, and the files that it left.
+/// A command that ran: its line of the report, and the files that it left.
 pub(crate) type Exited = (CommandLine, Files);
 
-/// A command that stopped its script: why, and at which step.
+/// A command that stopped its script: the cause and the step.
 pub(crate) type CommandStop = (CommandCause, u64);
 
-/// Runs a command over the files that are there, within so many steps.
+/// Runs a command on the files that exist, within `most` steps.
 pub(crate) fn run_command(
     alloc: Global,
     present: Present<'_>,
@@ -49,7 +49,7 @@ pub(crate) fn run_command(
     }
 }
 
-/// Starts the program that a command names among these files, without files, or says why it does not start, for which no memory is taken.
+/// Starts the program that a command names, without files, or returns why it does not start, which takes no memory.
 #[tactic(auto, unfolding(crate::specs::Fold::command, crate::specs::Leaving::command_left))]
 pub(crate) fn begun(
     alloc: Global,
@@ -75,7 +75,7 @@ pub(crate) fn begun(
     }
 }
 
-/// Runs a guest that is given the files that are there.
+/// Runs a guest with the files that exist.
 fn run_over(
     alloc: Global,
     guest: Guest<RunRam>,
@@ -121,7 +121,7 @@ fn start(alloc: Global, program: &[u8], words: &Command) -> Result<Guest<RunRam>
     }
 }
 
-/// Runs a guest to its exit with 0, within so many steps.
+/// Runs a guest to its exit with 0, within `most` steps.
 fn run(guest: Guest<RunRam>, most: u64) -> Result<Result<Exited, CommandStop>, OutOfMemory>
     requires fresh { guest.steps ≡ 0 }
     requires some { 1 ≤ most }
@@ -135,7 +135,7 @@ fn run(guest: Guest<RunRam>, most: u64) -> Result<Result<Exited, CommandStop>, O
     }
 }
 
-/// Runs a guest up to its exit with 0, within so many steps: the line of the command.
+/// Runs a guest up to its exit with 0, within `most` steps. Returns the line of the command.
 fn exit(
     guest: &mut Guest<RunRam>,
     most: u64,
@@ -155,7 +155,7 @@ fn exit(
     }
 }
 
-/// The line of a command whose guest stands before its exit.
+/// The line of a command whose guest is about to exit.
 fn line_of(guest: &Guest<RunRam>) -> CommandLine
     requires { guest.now.steps < 2 ^ 63 }
     ensures { result ≡ command_line (record { steps = guest.now.steps + 1; world = guest.now.world }) }

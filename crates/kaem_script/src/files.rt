@@ -8,7 +8,7 @@ use mem_files::{Files, PlaceRefusal, strip};
 use std::alloc::Global;
 use std::marker::Model;
 
-/// Files in a list, each under a name of its own: at most 4,096 files of 268,435,456 bytes each, and 536,870,912 bytes in all.
+/// A list of files with distinct names: at most 4,096 files of 268,435,456 bytes each, and 536,870,912 bytes together.
 #[derive(Drop)]
 pub struct FileList {
     names: Vec<Bytes>,
@@ -30,7 +30,7 @@ impl Model for FileList {
 }
 
 impl FileList {
-    /// No files.
+    /// An empty list. Error: out of memory.
     pub fn new(alloc: Global) -> Result<FileList, OutOfMemory>
         ensures { IfOk result (λ list. list ≡ no_files) }
     {
@@ -41,9 +41,9 @@ impl FileList {
         })
     }
 
-    /// Adds a file under its name without the `./` that it begins with.
+    /// Adds a file by its name, without a leading `./`.
     ///
-    /// Refuses as placing a file in a guest does; a refusal leaves the list as it was.
+    /// Refuses what `Files::place` refuses. A refusal leaves the list unchanged.
     pub fn push(&mut self, name: &[u8], content: &[u8]) -> Result<(), PlaceRefusal>
         ensures { Pushes self.old name.now content.now result self.new }
     {
@@ -61,7 +61,7 @@ impl FileList {
         }
     }
 
-    /// The names without the `./` that they begin with, in the order of the list.
+    /// The names without a leading `./`, in the order of the list.
     pub fn names(&self) -> &[Bytes]
         ensures value { result.now ≡ self.now.names }
         // Each is a name as files hold it.
@@ -70,16 +70,16 @@ impl FileList {
         self.names.as_slice()
     }
 
-    /// How many files there are.
+    /// The number of files.
     pub fn len(&self) -> usize
         ensures value { result ≡ length self.now.names }
-        // Each listed name is held by a file.
+        // Each listed name is that of a file.
         ensures kept { IsList self.now }
     {
         self.names.as_slice().len()
     }
 
-    /// Shows that the list keeps its rules: each listed name is held by a file.
+    /// Shows that the list obeys its rules: each listed name is that of a file.
     pub fn show_rules(&self)
         ensures { IsList self.now }
     {
@@ -94,7 +94,7 @@ impl FileList {
     }
 }
 
-/// Adds a name for which there is room.
+/// Adds a name, for which there must be room.
 fn push_name(names: &mut Vec<Bytes>, name: Bytes)
     requires { vec_len names.old < vec_capacity names.old }
     ensures { names.new.items ≡ names.old.items ++ name ∷ [] }

@@ -1,4 +1,4 @@
-//! All commands of a script, one after the other.
+//! All commands of a script, in order.
 
 ghost use Rattle.kaem_script.specs.Fold.{folded};
 ghost use Rattle.kaem_script.specs.Inside.Commands.{Folds, WantsWithin};
@@ -16,24 +16,25 @@ use mem_files::Files;
 use report::script::CommandLines;
 use std::alloc::Global;
 
-/// Why a script did not go on.
+/// Why a script stopped.
 #[derive(Clone, Copy)]
 pub enum ScriptStop {
-    /// The command of this number, from 1, stopped the script: why, and at which step. It is 0 where no program started, the most steps where
-    /// all were taken, and else the step of the end, counted from 1.
+    /// The command of this number, from 1, stopped the script for a cause at a step. The step is 0 if no program started, the largest
+    /// number of steps if all were taken, and otherwise the step of the end, counted from 1.
     Failed {
         command: u32,
         cause: CommandCause,
         step: u64,
     },
-    /// Want of memory of this process at the command of this number, from 1, after those that all ran; of an audit the number that follows the
-    /// last command is that of the report.
+    /// This process ran out of memory at the command of this number, from 1; all earlier commands ran. In an audit, the number after the
+    /// last command means the report.
     OutOfMemory {
         command: u32,
     },
 }
 
-/// Runs commands over one world of files, each within so many steps: the lines of commands that all ran, and the files that are there then.
+/// Runs commands in one file system, each within `most` steps. Returns the lines of the commands, which all ran, and the files at the
+/// end.
 pub(crate) fn fold<'a>(
     alloc: Global,
     commands: &[Command],

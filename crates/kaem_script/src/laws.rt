@@ -16,26 +16,26 @@ ghost use Rattle.kaem_script.specs.Runs.{IsCommandRun};
 ghost use Rattle.kaem_script.specs.Script.{ScriptContents, commands_of};
 ghost use Rattle.kaem_script.specs.declared.cause.CommandCause.{CommandCause};
 
-/// One reading: what a script says in one pass, byte by byte, is what it says line by line and word by word, its first fault and the offset of
-/// that included.
+/// Reading a script byte by byte in one pass gives the same as reading it line by line and word by word, including its first fault and
+/// the offset of that.
 pub fn one_reading()
     ensures { (script : List ℕ) → commands_of script ≡ commands_by_line script }
 {}
 
-/// A script that is read has at most 4,096 commands of 1 to 64 words; each word has at most 255 bytes, none of them zero, and the first
+/// A script that is read has at most 4,096 commands of 1 to 64 words. Each word has at most 255 bytes, none of them zero, and the first
 /// names a file of a guest.
 pub fn scripts_keep_the_rules()
     ensures { (script : List ℕ) (commands : List (List (List ℕ))) → commands_of script ≡ Ok commands → AreCommands commands }
 {}
 
-/// A command's start is refused where its file is no program, and for no other cause: the words of a script and the files of a world keep the
+/// A command's start is refused only if its file is not a program: the words of a script and the files of a file system are within the
 /// limits of a start.
 pub fn no_other_refusal()
     ensures { (program : List ℕ) (world : World) (words : List (List ℕ)) (refusal : Refusal) → IsSound world → IsCommand words
         → start_of program (command_box world words) ≡ Err refusal → (fault : ElfRefusal) × (refusal ≡ Elf fault) }
 {}
 
-/// A command that ran is a run of the program at its name with the box of all files that are there, and the other way round.
+/// A command that ran is a run of the program at its name in the execution context of all files that exist, and conversely.
 pub fn a_command_is_a_run()
     ensures runs { (most : ℕ) (world : World) (words : List (List ℕ)) (ran : Ran) → command most world words ≡ Ok ran
         → IsCommandRun most world words ran }
@@ -43,8 +43,9 @@ pub fn a_command_is_a_run()
         → command most world words ≡ Ok ran }
 {}
 
-/// What a command left is what all commands come to: by it a command goes on or stops the script, where one stops the script it is left at that
-/// cause and step, and where all ran the last one left its exit with 0, its step and the files that stand at the end.
+/// What a command left agrees with the result of all commands. It decides whether the command continues or stops the script. If the
+/// command stops the script, it is left at that cause and step. If all commands ran, the last one left its exit with 0, its step and the
+/// files at the end.
 pub fn what_is_left_is_folded()
     ensures alone { (most number : ℕ) (world : World) (words : List (List ℕ)) → command most world words ≡ result_of (command_left most number world words) }
     ensures stopped { (most : ℕ) (world : World) (earlier : List (List (List ℕ))) (words : List (List ℕ)) (others : List (List (List ℕ))) (why : CommandCause) (step : ℕ)
@@ -56,12 +57,12 @@ pub fn what_is_left_is_folded()
         → folded most world (earlier ++ words ∷ []) ≡ RanAll ran left → IsLast (left_of_command most world earlier words) ran left }
 {}
 
-/// One report: a script over listed files has one report without a fault, that of its commands, which each exit with 0 within 2^48 steps.
+/// A report has no fault exactly if it is that of the script's commands on the listed files, which each exit with 0 within 2^48 steps.
 pub fn one_report()
     ensures { (script : ScriptContents) (listed : FilesListed) (report : ScriptReport) → (first_script_fault script listed report ≡ None) ↔ (end_of_script (2 ^ 48) script listed ≡ Ok report) }
 {}
 
-/// The report of an audit has no fault, whatever the most steps of its commands.
+/// The report of an audit has no fault, whatever the limit of steps of its commands, up to 2^48.
 pub fn what_is_audited_is_verified()
     ensures { (most : ℕ) (script : ScriptContents) (listed : FilesListed) (report : ScriptReport) → most ≤ 2 ^ 48
         → end_of_script most script listed ≡ Ok report → first_script_fault script listed report ≡ None }

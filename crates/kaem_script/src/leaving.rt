@@ -1,4 +1,4 @@
-//! What a command left when its run ended, whatever it ended with.
+//! What a command left when its run ended, for whatever cause.
 
 ghost use Rattle.guest_run.specs.Run.{first_end};
 ghost use Rattle.kaem_script.specs.Fold.{AnswersScript};
@@ -19,17 +19,18 @@ use guest_run::{Guest, RunEnd, RunRam};
 use mem_files::Files;
 use std::alloc::Global;
 
-/// What a command's program left: how its run ended, at which step, and the files and streams then, of which that step changed nothing.
+/// What a command's program left: how and at which step its run ended, and the files and streams then. A step that ends a run changes
+/// none of them.
 #[derive(Drop)]
 pub struct CommandLeft {
-    /// How the run ended: of an exit the status, which may be 0.
+    /// How the run ended; the status of an exit may be 0.
     pub cause: CommandCause,
     pub step: u64,
     pub files: Files,
 }
 
-/// Runs a script's commands in order over one world of files, as `audit` does, and then the command after them, whatever its program ends
-/// with: what that left. A command before it may stop the script, and so does itself where its program does not start.
+/// Runs a script's commands in order in one file system, as `audit` does, then the command after them, and returns what that one left,
+/// whatever its program ended with. An earlier command may stop the script, and so does the last one if its program does not start.
 pub fn left(
     alloc: Global,
     earlier: &[Command],
@@ -57,7 +58,7 @@ pub fn left(
     }
 }
 
-/// What a command left over the files that are there, or why its program does not start.
+/// What a command on the files that exist left, or why its program does not start.
 fn left_over(
     alloc: Global,
     present: Present<'_>,
@@ -76,7 +77,7 @@ fn left_over(
     }
 }
 
-/// What a guest left that is given the files that are there.
+/// What a guest with the files that exist left.
 fn run_over(
     alloc: Global,
     guest: Guest<RunRam>,
@@ -93,7 +94,7 @@ fn run_over(
     Ok(Ok(left))
 }
 
-/// Runs a guest to the end of its run, within so many steps.
+/// Runs a guest to the end of its run, within `most` steps.
 fn run_out(guest: Guest<RunRam>, most: u64) -> Result<CommandLeft, OutOfMemory>
     requires fresh { guest.steps ≡ 0 }
     requires some { 1 ≤ most }
@@ -109,7 +110,7 @@ fn run_out(guest: Guest<RunRam>, most: u64) -> Result<CommandLeft, OutOfMemory>
     })
 }
 
-/// How a run of at most so many steps ends: the cause and the step.
+/// How a run of at most `most` steps ends: the cause and the step.
 #[tactic(auto, unfolding(crate::specs::Leaving::end_of_run))]
 fn end_of(guest: &mut Guest<RunRam>, most: u64) -> Result<(CommandCause, u64), OutOfMemory>
     requires fresh { guest.old.steps ≡ 0 }

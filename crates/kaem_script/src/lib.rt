@@ -1,4 +1,4 @@
-//! Scripts of commands over one world of files.
+//! Scripts of commands in one file system.
 //!
 //! docs/reference/kaem.md has the rules for a reader, and specs/Script.antt and specs/Fold.antt the same for the prover.
 #![tactic(auto)]

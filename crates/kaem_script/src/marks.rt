@@ -13,7 +13,7 @@ use mem_files::Files;
 use report::{LeftLine, LeftLines, Mark};
 use std::alloc::Global;
 
-/// The lines of the files of a list, in its order.
+/// The lines of the files of a list, in its order. Error: out of memory.
 pub(crate) fn listed_lines(alloc: Global, list: &FileList) -> Result<LeftLines, OutOfMemory>
     ensures { IfOk result (λ lines. lines ≡ map marked (listed_files list.now)) }
 {
@@ -24,7 +24,7 @@ pub(crate) fn listed_lines(alloc: Global, list: &FileList) -> Result<LeftLines, 
     Ok(lines)
 }
 
-/// The lines of all files that are left, by the bytes of their names.
+/// The lines of all files that are left, in the order of their names' bytes. Error: out of memory.
 pub(crate) fn left_lines(alloc: Global, files: &Files) -> Result<LeftLines, OutOfMemory>
     ensures { IfOk result (λ lines. lines ≡ map marked (left files.now)) }
 {
@@ -38,7 +38,7 @@ pub(crate) fn left_lines(alloc: Global, files: &Files) -> Result<LeftLines, OutO
     Ok(lines)
 }
 
-/// The line of a file that is there.
+/// The line of a file that exists. Error: out of memory.
 fn line_of(alloc: Global, files: &Files, name: &[u8]) -> Result<LeftLine, OutOfMemory>
     requires { IsTrue (is_stripped_name name.now) }
     ensures { IfOk result (λ line. line ≡ marked (named_in files.now name.now)) }

@@ -1,4 +1,4 @@
-//! The files that are there before a command, and how the next guest gets them.
+//! The files that exist before a command, and how the next guest gets them.
 
 ghost use Rattle.kaem_script.specs.Inside.Commands.{renewed, world_in};
 ghost use Rattle.mem_files.specs.Calls.{content_at, first_world, name_after, placed, with_file};
@@ -9,14 +9,14 @@ use ddc_base::{Bytes, OutOfMemory};
 use mem_files::{Files, PlaceRefusal};
 use std::alloc::Global;
 
-/// The files that are there: those that the script was given, which are borrowed, or those that the command before left.
+/// The files that exist: those given to the script, which are borrowed, or those that the command before left.
 #[derive(Drop)]
 pub(crate) enum Present<'a> {
     Given(&'a Files),
     Left(Files),
 }
 
-/// The files that are there.
+/// The files that exist.
 pub(crate) fn files_in<'p>(present: &'p Present<'_>) -> &'p Files
     ensures { result.now ≡ world_in present.now }
 {
@@ -26,7 +26,7 @@ pub(crate) fn files_in<'p>(present: &'p Present<'_>) -> &'p Files
     }
 }
 
-/// The files with which a program starts that is given those that are there. What a command left is moved, and no byte of it copied.
+/// The files with which the next program starts. What a command left is moved, and none of its bytes is copied. Error: out of memory.
 pub(crate) fn renewed(alloc: Global, present: Present<'_>) -> Result<Files, OutOfMemory>
     ensures { IfOk result (λ files. files ≡ renewed (world_in present.entry)) }
 {
@@ -44,7 +44,7 @@ fn copied(alloc: Global, given: &Files) -> Result<Files, OutOfMemory>
     Ok(files)
 }
 
-/// Copies all files to those of a start.
+/// Copies all files into those of a start. Error: out of memory.
 fn copy_all(alloc: Global, given: &Files, files: &mut Files) -> Result<(), OutOfMemory>
     requires { files.old ≡ first_world }
     ensures { OnOk result (files.new ≡ renewed given.now) }
@@ -67,7 +67,7 @@ fn moved(alloc: Global, left: &mut Files) -> Result<Files, OutOfMemory>
     Ok(files)
 }
 
-/// Moves all files to those of a start.
+/// Moves all files into those of a start. Error: out of memory.
 fn move_all(alloc: Global, left: &mut Files, files: &mut Files) -> Result<(), OutOfMemory>
     requires { files.old ≡ first_world }
     ensures { OnOk result (files.new ≡ renewed left.old) }
@@ -82,7 +82,7 @@ fn move_all(alloc: Global, left: &mut Files, files: &mut Files) -> Result<(), Ou
     Ok(())
 }
 
-/// The bytes of the file of a name.
+/// The content of the file with a name; empty without such a file.
 pub(crate) fn bytes_of<'f>(files: &'f Files, name: &[u8]) -> &'f [u8]
     requires { IsTrue (is_stripped_name name.now) }
     ensures { result.now ≡ unwrap_or (content_at files.now name.now) [] }
@@ -90,7 +90,7 @@ pub(crate) fn bytes_of<'f>(files: &'f Files, name: &[u8]) -> &'f [u8]
     files.content(name).unwrap_or(&[])
 }
 
-/// A copy of the first name that comes after the last one.
+/// A copy of the first name after the last one. Error: out of memory.
 fn next_name(
     alloc: Global,
     files: &Files,
@@ -108,7 +108,7 @@ fn next_name(
     }
 }
 
-/// Places a file that no rule refuses.
+/// Places a file that no rule refuses. Error: out of memory.
 fn place(files: &mut Files, name: &[u8], content: Vec<u8>) -> Result<(), OutOfMemory>
     requires { placed files.old name.now content.items ≡ (Ok tt, with_file files.old name.now content.items) }
     ensures { OnOk result (files.new ≡ with_file files.old name.now content.items) }

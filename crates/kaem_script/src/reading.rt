@@ -9,15 +9,15 @@ use ddc_base::{Bytes, ListOf, OutOfMemory};
 use std::alloc::Global;
 use std::mem;
 
-/// The most words of a line.
+/// The largest number of words of a line.
 const MAX_WORDS: usize = 64;
-/// The most commands of a script.
+/// The largest number of commands of a script.
 const MAX_COMMANDS: usize = 4_096;
 
-/// The words of a command, in order: there is at least one, and the first names the program.
+/// The words of a command, in order. There is at least one, and the first names the program.
 pub type Command = ListOf<Bytes>;
 
-/// The commands of a script, or its first fault from left to right.
+/// The commands of a script. Errors: its first fault from left to right, and out of memory.
 pub fn commands_of(alloc: Global, script: &[u8]) -> Result<ListOf<Command>, ScriptRefusal>
     ensures { Reads (commands_of script.now) result }
 {
@@ -27,7 +27,7 @@ pub fn commands_of(alloc: Global, script: &[u8]) -> Result<ListOf<Command>, Scri
     Ok(commands)
 }
 
-/// Reads a script into its commands, with the words of the line that is read.
+/// Reads a script into its commands, with the words of the current line.
 fn read(
     alloc: Global,
     script: &[u8],
@@ -63,7 +63,7 @@ fn read(
     Ok(())
 }
 
-/// The next word, after so many commands and so many words of its line.
+/// The next word, after this many commands and this many words of its line.
 #[tactic(auto, unfolding(crate::specs::Script::next_word))]
 fn next_word<'s>(
     commands: &ListOf<Command>,

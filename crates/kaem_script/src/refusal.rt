@@ -8,13 +8,13 @@ use ddc_base;
 pub enum ScriptFault {
     /// A quote is not closed in its line.
     OpenQuote = 1,
-    /// A word of no form, or the first word of a line that names no program.
+    /// A word has no valid form, or the first word of a line names no program.
     BadWord = 2,
-    /// A word of more than 255 bytes.
+    /// A word has more than 255 bytes.
     LongWord = 3,
-    /// The 65th word of a line.
+    /// A line has a 65th word.
     TooManyWords = 4,
-    /// The first word of the 4,097th command.
+    /// The script has a 4,097th command.
     TooMany = 5,
 }
 

@@ -1,4 +1,4 @@
-//! A command's line, judged by a replay. How a command is started is the audit's too; where it ends, and what it left, is found here.
+//! Replays a command to check its line. A command starts as in the audit; its end and what it left are found here.
 
 ghost use Rattle.guest_run.specs.Run.{first_end};
 ghost use Rattle.kaem_script.specs.Faults.{left_after_steps, left_at_step, replayed_command, says_streams};
@@ -20,7 +20,7 @@ use mem_files::Files;
 use report::script::CommandLine;
 use std::alloc::Global;
 
-/// The most steps that a report records of a command.
+/// The largest number of steps that a report records of a command.
 const MOST_STEPS: u64 = 1 << 48;
 
 /// What stops the replay of a command.
@@ -39,7 +39,7 @@ impl From<ddc_base::OutOfMemory> for ReplayStop {
     }
 }
 
-/// The files that a command left whose line is true.
+/// The files that a command left, if its line is true.
 #[tactic(auto, unfolding(crate::specs::Faults::replayed_command))]
 pub(crate) fn replay(
     alloc: Global,
@@ -58,7 +58,7 @@ pub(crate) fn replay(
     Ok(guest.into_files())
 }
 
-/// The guest of a command's program, which stands before its exit with 0 at exactly this step.
+/// The guest of a command's program, about to exit with 0 at exactly this step.
 #[tactic(auto, unfolding(crate::specs::Faults::left_at_step))]
 fn exited(
     alloc: Global,
@@ -96,7 +96,7 @@ fn run_command(
     }
 }
 
-/// The same of a guest that is given the files that are there.
+/// Runs a guest with the files that exist up to its exit with 0 at exactly this step.
 fn run_over(
     alloc: Global,
     guest: Guest<RunRam>,
@@ -112,7 +112,7 @@ fn run_over(
     run_to(guest.with_files(files), step)
 }
 
-/// Runs a fresh guest for so many steps, the last of which has to be its exit with 0.
+/// Runs a fresh guest for `step` steps, the last of which must be its exit with 0.
 fn run_to(guest: Guest<RunRam>, step: u64) -> Result<Guest<RunRam>, ReplayStop>
     requires fresh { guest.steps ≡ 0 }
     requires some { 1 ≤ step }
@@ -147,7 +147,7 @@ fn exit_at(guest: &mut Guest<RunRam>, step: u64) -> Result<(), ReplayStop>
     }
 }
 
-/// Whether a command's line says what it wrote to its streams.
+/// Whether a command's line agrees with what it wrote to its streams.
 fn says_streams(line: &CommandLine, files: &Files) -> bool
     ensures { result ≡ says_streams line.now files.now }
 {

@@ -39,7 +39,7 @@ impl Script {
     /// The commands, each with its words in order.
     pub fn commands(&self) -> &[Command]
         ensures value { result.now ≡ self.now.commands }
-        // Every script keeps its rules.
+        // Every script obeys its rules.
         ensures kept { AreCommands self.now.commands }
         ensures whole { IsScript self.now }
     {
@@ -47,7 +47,7 @@ impl Script {
     }
 }
 
-/// The script whose text the bytes are, or its first fault from left to right.
+/// Parses a script. Errors: its first fault from left to right, and out of memory.
 pub fn read(alloc: Global, bytes: &[u8]) -> Result<Script, ScriptRefusal>
     ensures { ReadsScript bytes.now result }
 {

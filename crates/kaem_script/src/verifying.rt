@@ -1,4 +1,4 @@
-//! The verdict on a script's report: its parts in order, up to the first that is not true.
+//! The verdict on a script's report: checks its parts in order, up to the first that is not true.
 
 ghost use Rattle.kaem_script.specs.Faults.{commands_fault, first_script_fault, left_fault, says_file, says_files, wrong_file};
 ghost use Rattle.kaem_script.specs.Kept.{AreCommands};
@@ -19,11 +19,11 @@ use report::LeftLine;
 use report::script::{CommandLine, ScriptReport};
 use std::alloc::Global;
 
-/// Replays a script's report, which it doesn't believe.
+/// Replays a script's report, without trusting it.
 ///
-/// `Refuted` names the first part that is not true, judged on the bytes that the earlier commands left. Want of memory comes only at a command,
-/// where the script's digest, all `file` lines and the lines of all commands before it are right, its own recorded step is from 1 to 2^48, and its
-/// program is there and can be loaded. docs/reference/kaem.md has the rules.
+/// `Refuted` names the first part that is not true, checked on the bytes that the earlier commands left. `OutOfMemory` occurs only at a
+/// command whose recorded step is from 1 to 2^48 and whose program exists and can be loaded. The script's digest, all `file` lines and
+/// the lines of all earlier commands are right then. docs/reference/kaem.md has the rules.
 #[tactic(auto, unfolding(crate::specs::Faults::first_script_fault))]
 pub fn verify(
     alloc: Global,
@@ -49,7 +49,7 @@ pub fn verify(
     judge_commands(alloc, script.commands(), files.files(), report)
 }
 
-/// The number of the first listed file that no line says, or that of the first line too many.
+/// The number of the first listed file without a matching line, or of the first surplus line.
 fn wrong_file(list: &FileList, lines: &[LeftLine]) -> Option<u32>
     ensures { result ≡ wrong_file 1 (listed_files list.now) lines.now }
 {
@@ -58,7 +58,7 @@ fn wrong_file(list: &FileList, lines: &[LeftLine]) -> Option<u32>
     wrong_name(list, lines)
 }
 
-/// The same of a list that is known to be short.
+/// The same number as `wrong_file`, for a list that is known to be short.
 fn wrong_name(list: &FileList, lines: &[LeftLine]) -> Option<u32>
     requires few { length list.now.names ≤ 4096 }
     ensures { result ≡ wrong_file 1 (listed_files list.now) lines.now }
@@ -83,7 +83,7 @@ fn wrong_name(list: &FileList, lines: &[LeftLine]) -> Option<u32>
     if ahead.is_empty() { None } else { Some(number) }
 }
 
-/// The verdict on the commands, each of which is replayed over the files that those before it left, and then on the files at the end.
+/// The verdict on the commands, each replayed on the files that those before it left, and then on the files at the end.
 fn judge_commands(
     alloc: Global,
     commands: &[Command],
@@ -122,7 +122,7 @@ fn judge_commands(
     }
 }
 
-/// The verdict on a report of which this part is not true.
+/// The verdict on a report in which this part is not true.
 fn refuted(part: ScriptPart, place: u32) -> ScriptVerdict
     ensures { result ≡ script_verdict (Some (part, place)) }
 {
@@ -140,7 +140,7 @@ fn judge_left(files: &Files, lines: &[LeftLine]) -> ScriptVerdict
     }
 }
 
-/// Whether the lines are those of the files that are left: walks along the names that are there, each of which the next line has to say.
+/// Whether the lines are those of the files that are left. Walks along the names that exist, each of which the next line must match.
 fn says_left(files: &Files, lines: &[LeftLine]) -> bool
     ensures { result ≡ says_files lines.now (left files.now) }
 {
@@ -160,7 +160,7 @@ fn says_left(files: &Files, lines: &[LeftLine]) -> bool
     files.name_after(last).is_none()
 }
 
-/// Whether a line says a file's name, and the mark of its bytes.
+/// Whether a line has a file's name and the mark of its bytes.
 fn says_file(line: &LeftLine, name: &[u8], content: &[u8]) -> bool
     ensures { result ≡ says_file line.now (name.now, content.now) }
 {

@@ -7,7 +7,7 @@ use crate::refusal::ScriptFault;
 use mem_files::strip;
 use std::marker::Model;
 
-/// A word: what it says, and how many bytes it takes.
+/// A word: its text, and the number of bytes that it takes.
 #[derive(Drop)]
 pub(crate) struct ScriptWord<'s> {
     pub text: &'s [u8],
@@ -22,7 +22,7 @@ impl<'s> Model for ScriptWord<'s> {
     ghost view = { λ w. record { text = w.text.now; size = w.size } };
 }
 
-/// Blank, tab and CR separate words.
+/// Whether a byte separates words: blank, tab or CR.
 pub(crate) fn parts_words(byte: u8) -> bool
     ensures { result ≡ parts_words byte }
 {
@@ -35,7 +35,7 @@ fn ends_word(byte: u8) -> bool
     parts_words(byte) || byte == b'\n'
 }
 
-/// How many bytes stand before the end of a line.
+/// The number of bytes before the end of a line.
 pub(crate) fn until_line_end(rest: &[u8]) -> usize
     ensures value { result ≡ position_or_len ends_line rest.now }
     ensures within { result ≤ length rest.now }
@@ -101,7 +101,7 @@ fn plain_word(here: &[u8]) -> Result<ScriptWord<'_>, ScriptFault>
     })
 }
 
-/// A quoted word, of which this stands after its opening quote.
+/// A quoted word, given the bytes after its opening quote.
 #[tactic(auto, unfolding(crate::specs::Script::quoted_word))]
 fn quoted_word(rest: &[u8]) -> Result<ScriptWord<'_>, ScriptFault>
     ensures value { result ≡ quoted_word rest.now }
@@ -122,7 +122,7 @@ fn quoted_word(rest: &[u8]) -> Result<ScriptWord<'_>, ScriptFault>
     }
 }
 
-/// Whether nothing stands here, or a byte that ends a word.
+/// Whether nothing follows here, or a byte that ends a word.
 fn ends_word_here(here: &[u8]) -> bool
     ensures { result ≡ ends_or_begins ends_word here.now }
 {

@@ -1,5 +1,5 @@
--- The definitions of an M1 source. Public source: the language M1 of stage0-posix and mescc-tools, whose exact rules here are this project's
--- profile. docs/reference/m1.md says the same for people.
+-- The definitions of an M1 source. Public source: the language M1 of stage0-posix and mescc-tools, whose exact rules here are this
+-- project's profile. docs/reference/m1.md says the same for people.
 use Rattle.std.specs.Prelude.{ℕ, bytes_eq, Bool, not, if◌then◌else◌, List, [], ◌∷◌, ◌++◌, codes, is_some, Option, Some, None, Result, Ok, Err}
 use Rattle.std.specs.Map.{lookup}
 use Rattle.m1_lang.specs.Words.Words.{Word, Words, open_quote, word_list}
@@ -7,7 +7,7 @@ use Rattle.m1_lang.specs.Words.Forms.{value_tokens}
 use Rattle.m1_lang.specs.declared.refusal.M1Refusal.{M1Refusal}
 use Rattle.m1_lang.specs.declared.refusal.M1Refusal.TheVariants.{BadDefine, DoubleDefine, OpenString}
 
--- a part of a source: a definition with the offset of its `DEFINE`, a `DEFINE` that fewer than two words follow, or another word
+-- a part of a source: a definition with the offset of its `DEFINE`, a `DEFINE` followed by fewer than two words, or another word
 pub data SourcePart : Type 0 where
   Defines : (at : ℕ) (name value : List ℕ) → SourcePart
   Cut : (at : ℕ) → SourcePart
@@ -31,7 +31,7 @@ defined_names [] = []
 defined_names (Defines at name value ∷ rest) = name ∷ defined_names rest
 defined_names (part ∷ rest) = defined_names rest
 
--- the words that belong to no definition
+-- the words outside definitions
 abbrev pub plain_words : List SourcePart → List Word
 plain_words [] = []
 plain_words (Plain word ∷ rest) = word ∷ plain_words rest
@@ -48,7 +48,7 @@ value_in defined text = lookup (bytes_eq text) defined
 abbrev pub is_value : List ℕ → Bool
 is_value text = is_some (value_tokens text)
 
--- one definition after those so far: BadDefine comes before DoubleDefine
+-- one definition after those so far. BadDefine precedes DoubleDefine
 abbrev pub defined_with : Defined → ℕ → List ℕ → List ℕ → Result Defined M1Refusal
 defined_with seen at name value =
     if not (is_value value) then Err (BadDefine at)
@@ -59,18 +59,18 @@ abbrev pub with_defined : Result Defined M1Refusal → (Defined → Result Defin
 with_defined (Ok seen) rest = rest seen
 with_defined (Err why) rest = Err why
 
--- the definitions of a source in order, after those so far, or the first that is refused
+-- the definitions of a source in order, after those so far, or the first refusal
 abbrev pub definitions : Defined → List SourcePart → Result Defined M1Refusal
 definitions seen [] = Ok seen
 definitions seen (Defines at name value ∷ rest) = with_defined (defined_with seen at name value) (λ more. definitions more rest)
 definitions seen (Cut at ∷ rest) = Err (BadDefine at)
 definitions seen (Plain word ∷ rest) = definitions seen rest
 
--- a quote that isn't closed comes before every definition
+-- a quote that is not closed is refused before every definition
 abbrev pub unless_open : Option ℕ → Result Defined M1Refusal → Result Defined M1Refusal
 unless_open (Some at) later = Err (OpenString at)
 unless_open None later = later
 
--- the definitions of a source, or its first refusal but those of other words
+-- the definitions of a source, or the first refusal of its quotes and definitions
 abbrev pub definitions_in : Words → Result Defined M1Refusal
 definitions_in words = unless_open (open_quote words) (definitions [] (parts (word_list words)))

@@ -14,22 +14,22 @@ use Rattle.m1_lang.specs.declared.refusal.M1Refusal.{M1Refusal}
 use Rattle.m1_lang.specs.declared.refusal.M1Refusal.TheVariants.{UnknownWord, NumberRange, Dangling, TooLong, OutOfMemory}
 use Rattle.m1_lang.specs.Definitions.{Defined, definitions_in, parts, plain_words, value_in}
 
--- tokens that all stand at one offset, and what is read later
+-- tokens at one offset, and the rest of the reading
 abbrev pub at_once : {F : Type 0} → ℕ → List Token → Reading F → Reading F
 at_once at [] later = later
 at_once at (token ∷ tokens) later = Then at token (at_once at tokens later)
 
--- the tokens of a word, and what is read later; or the fault of a word, and nothing more
+-- the tokens of a word and the rest of the reading; or the fault of the word, and nothing more
 abbrev pub then_read : ℕ → Tokens → Reading WordFault → Reading WordFault
 then_read at (Ok tokens) later = at_once at tokens later
 then_read at (Err why) later = Faulty why at
 
--- the tokens of words, each at its word's offset, by what definitions give words
+-- the tokens of words, each at its word's offset, with these values of definitions
 abbrev pub words_reading : (List ℕ → Option (List ℕ)) → List Word → Reading WordFault
 words_reading values [] = NoToken
 words_reading values (word ∷ rest) = then_read word.at (tokens_of values word.text) (words_reading values rest)
 
--- the refusal of a token that has no place in a word of four bytes
+-- the refusal of a token that a word of four bytes does not take
 abbrev pub halt_refusal : Halt → M1Refusal
 halt_refusal (halt.Dangling first) = Dangling first
 halt_refusal (halt.Second at) = UnknownWord at
@@ -41,28 +41,28 @@ abbrev pub word_refusal : WordFault → ℕ → M1Refusal
 word_refusal fault.UnknownWord at = UnknownWord at
 word_refusal fault.NumberRange at = NumberRange at
 
--- the items, unless the source is refused after them
+-- the items, unless a refusal follows them
 abbrev pub items_unless_refused : List Item → Ending WordFault → Result (List Item) M1Refusal
 items_unless_refused items Whole = Ok items
 items_unless_refused items (Halted why) = Err (halt_refusal why)
 items_unless_refused items (Faulted why at) = Err (word_refusal why at)
 
--- more items than a list may have are refused where the first one too many would be formed
+-- `TooLong` if the items before the end or the first refusal are more than 33,554,432
 abbrev pub counted_items : Formed WordFault → Result (List Item) M1Refusal
 counted_items formed = if nat_lt 33554432 (length formed.items) then Err TooLong else items_unless_refused formed.items formed.end
 
--- the items of the words that belong to no definition; fields and bytes form words of four bytes as in hex2
+-- the items of the words outside definitions; fields and bytes form words of four bytes as in hex2
 abbrev pub expansion_by : Result Defined M1Refusal → List Word → Result (List Item) M1Refusal
 expansion_by (Ok defined) words = counted_items (formed None (words_reading (value_in defined) words))
 expansion_by (Err why) words = Err why
 
--- the items of a source, or its first refusal: its length, an open quote, its definitions in order, its other words in order
+-- the items of a source, or its first refusal. The order is its length, an open quote, its definitions, its other words
 unfoldable pub expansion_of : List ℕ → Result (List Item) M1Refusal
 expansion_of source =
     if nat_lt 67108864 (length source) then Err TooLong
     else expansion_by (definitions_in (words_of source)) (plain_words (parts (word_list (words_of source))))
 
--- what expanding answers: this, or want of memory
+-- the answer of expanding: this result, or out of memory
 abbrev pub Expands : Result (List Item) M1Refusal → Result (List Item) M1Refusal → Type 0
 Expands meant (Err OutOfMemory) = Unit {0}
 Expands meant result = meant ≡ result

@@ -1,15 +1,15 @@
--- What the laws of M1 say.
+-- Definitions for the laws of M1.
 use Rattle.std.specs.Prelude.{◌≡◌, ℕ, ◌<◌, ◌≤◌, false, true, List, [], ◌∷◌, ◌++◌, map, length, Some, None}
 use Rattle.std.specs.List.{AllByRecursion, flat_map}
 use Rattle.hex_langs.specs.Items.Tokens.{is_blank, opens_gap}
 use Rattle.m1_lang.specs.Words.Words.{open_quote, Word, word_list, word_more, words_of}
 use Rattle.m1_lang.specs.Definitions.{Cut, Defines, SourcePart, parts, Plain}
 
--- each is a byte
+-- each number is a byte
 abbrev pub IsOfBytes : List ℕ → Type 0
 IsOfBytes bytes = AllByRecursion (λ byte. byte < 256) bytes
 
--- the source is no longer than a source may be, and every quote in it is closed
+-- the source has at most 67,108,864 bytes, and every quote in it is closed
 pub record IsCutIntoWords (source : List ℕ) : Type 0 where
   pub short : length source ≤ 67108864
   pub closed : open_quote (words_of source) ≡ None
@@ -18,7 +18,7 @@ pub record IsCutIntoWords (source : List ℕ) : Type 0 where
 abbrev pub texts_in : List ℕ → List (List ℕ)
 texts_in source = map (λ (word : Word). word.text) (word_list (words_of source))
 
--- bytes that are one word, from the first to the last
+-- bytes that are exactly one word
 abbrev pub IsOneWord : List ℕ → Type 0
 IsOneWord [] = ⊥
 IsOneWord (byte ∷ rest) = (opens_gap byte ≡ false) × (word_more byte rest ≡ Some (length rest))
@@ -34,7 +34,7 @@ Layout = List (List ℕ × List ℕ)
 abbrev pub IsLayout : Layout → Type 0
 IsLayout layout = AllByRecursion (λ (laid : List ℕ × List ℕ). IsOneWord laid.0 × (0 < length laid.1) × AreBlanks laid.1) layout
 
--- the source that is laid out so
+-- the source with this layout
 abbrev pub laid_out : Layout → List ℕ
 laid_out layout = flat_map (λ (laid : List ℕ × List ℕ). laid.0 ++ laid.1) layout
 

@@ -1,4 +1,4 @@
--- The number of a refusal and its place, as a command prints them. docs/reference/m1.md says the same for people.
+-- The number of a refusal and its byte offset, as a command prints them. docs/reference/m1.md says the same for people.
 use Rattle.std.specs.Prelude.{ℕ}
 use Rattle.m1_lang.specs.declared.refusal.M1Refusal.{M1Refusal}
 use Rattle.m1_lang.specs.declared.refusal.M1Refusal.TheVariants.{BadDefine, DoubleDefine, OpenString, UnknownWord, NumberRange, Dangling, TooLong, OutOfMemory}
@@ -13,7 +13,7 @@ m1_refusal_number (Dangling at) = 6
 m1_refusal_number TooLong = 7
 m1_refusal_number OutOfMemory = 8
 
--- the offset of a byte of the source; 0 where there is none
+-- the offset of a byte of the source; 0 without one
 abbrev pub m1_refusal_place : M1Refusal → ℕ
 m1_refusal_place (BadDefine at) = at
 m1_refusal_place (DoubleDefine at) = at

@@ -1,2 +1,2 @@
--- What serves the split of the code. No promise rests on its being read.
+-- Definitions for parts of the code. No promise depends on them.
 pub mod Passes

@@ -15,7 +15,7 @@ use hex_langs::name_keys::KeyNames;
 use indexmap::IndexMap;
 use std::alloc::Global;
 
-/// What each definition's name stands for.
+/// The value of each definition's name.
 pub(crate) type Definitions<'s> = IndexMap<LabelName<'s>, Value<'s>, NamesKey>;
 
 pub(crate) fn is_define(text: &[u8]) -> bool
@@ -24,7 +24,7 @@ pub(crate) fn is_define(text: &[u8]) -> bool
     text == b"DEFINE".as_slice()
 }
 
-/// Where a quote is open, from an offset on.
+/// The offset of the quote that is not closed, from an offset on; `None` if every quote is closed.
 fn open_quote(source: &[u8], from: usize) -> Option<usize>
     requires { from ≤ length source.now }
     ensures { result ≡ open_at source.now from }
@@ -40,7 +40,7 @@ fn open_quote(source: &[u8], from: usize) -> Option<usize>
     None
 }
 
-/// Takes the name of a definition after its `DEFINE`, and gives the offset after its value.
+/// Adds the name of a definition after its `DEFINE` to the digest. Returns the offset after its value.
 fn take_name(names: &mut KeyNames, source: &[u8], at: usize) -> usize
     requires { at ≤ length source.now }
     ensures { TakesName result source.now at names.old names.new }
@@ -57,7 +57,7 @@ fn take_name(names: &mut KeyNames, source: &[u8], at: usize) -> usize
     }
 }
 
-/// The key of the table of the definitions: all their names.
+/// The key of the table of definitions, made of all their names.
 fn names_key(source: &[u8]) -> NamesKey
     ensures { result.begun ≡ begun_by (defined_names (parts_at source.now 0)) }
 {
@@ -78,7 +78,7 @@ fn names_key(source: &[u8]) -> NamesKey
     names.key()
 }
 
-/// Adds a definition, and tells whether its name had one.
+/// Adds a definition. Returns whether its name was already defined. Error: out of memory.
 fn add_definition<'s>(
     table: &mut Definitions<'s>,
     name: &'s [u8],
@@ -90,7 +90,7 @@ fn add_definition<'s>(
     Ok(table.insert(LabelName::new(name), value)?.is_some())
 }
 
-/// One definition after its `DEFINE`; the offset after it.
+/// Adds one definition after its `DEFINE`. Returns the offset after it.
 fn define<'s>(
     table: &mut Definitions<'s>,
     source: &'s [u8],
@@ -116,7 +116,7 @@ fn define<'s>(
     }
 }
 
-/// The refusal of a definition, unless a quote is open after it.
+/// The refusal of an open quote from an offset on, otherwise that of a definition.
 fn unless_open(source: &[u8], at: usize, refusal: M1Refusal) -> M1Refusal
     requires { at ≤ length source.now }
     ensures { result ≡ quote_or (open_at source.now at) refusal }

@@ -13,8 +13,9 @@ use crate::words::{Ahead, WordFault, next_word};
 use hex_langs::items::{Halt, Items, LONGEST_SOURCE, Open};
 use std::alloc::Global;
 
-/// The items that an M1 source of at most 67,108,864 bytes expands to, or its first refusal: a quote that isn't closed, then the
-/// definitions in order, then the other words in order. Names lie in the source.
+/// The items that an M1 source of at most 67,108,864 bytes expands to, or its first refusal. Names are borrowed from the source.
+///
+/// Refusals come in this order: a quote that is not closed, then the definitions in order, then the other words in order.
 ///
 /// Public source: the language M1 of stage0-posix and mescc-tools. docs/reference/m1.md has the rules of this project's profile.
 pub fn expand<'s>(alloc: Global, source: &'s [u8]) -> Result<Items<'s>, M1Refusal>
@@ -64,7 +65,7 @@ fn take_word<'s>(
     }
 }
 
-/// The items of the words that belong to no definition.
+/// The items of the words outside definitions.
 fn items_by<'s>(
     alloc: Global,
     table: &Definitions<'s>,
@@ -99,7 +100,7 @@ fn items_by<'s>(
     }
 }
 
-/// The refusal of a token without a place.
+/// The refusal of a token that is not taken.
 fn halt_refusal(halt: Halt) -> M1Refusal
     ensures { result ≡ halt_refusal halt }
 {

@@ -1,4 +1,4 @@
-//! M1: the items of hex2 that a source expands to; its single words are in `words`.
+//! M1: the items of hex2 that a source expands to. Module `words` has the meaning of single words.
 //!
 //! The rules, with their public source, are in docs/reference/m1.md.
 #![tactic(auto)]

@@ -5,16 +5,16 @@ ghost use Rattle.m1_lang.specs.Refusals.{m1_refusal_number, m1_refusal_place};
 
 use ddc_base::OutOfMemory;
 
-/// The first refusal of a source, by the offset of a byte, which counts from 0.
+/// The first refusal of a source, with a byte offset, counted from 0.
 #[derive(Clone, Copy, PartialEq, Eq)]
 pub enum M1Refusal {
-    /// Fewer than two words follow the `DEFINE` at this offset, or the second is no value.
+    /// Fewer than two words follow the `DEFINE` at this offset, or the second is not a value.
     BadDefine(u64),
-    /// The name that the `DEFINE` at this offset defines was defined before.
+    /// The name that the `DEFINE` at this offset defines is already defined.
     DoubleDefine(u64),
-    /// The quote at this offset isn't closed.
+    /// The quote at this offset is not closed.
     OpenString(u64),
-    /// The word at this offset is of no form, or a second reference of a word of four bytes.
+    /// The word at this offset has no known form, or is a second reference of a word of four bytes.
     UnknownWord(u64),
     /// The number of the word at this offset is out of its sign's range.
     NumberRange(u64),
@@ -52,7 +52,7 @@ impl M1Refusal {
         }
     }
 
-    /// The offset that it holds, and 0 where it holds none.
+    /// The byte offset of the refusal; 0 if it has none.
     pub fn place(&self) -> u64
         ensures { result ≡ m1_refusal_place self.now }
     {

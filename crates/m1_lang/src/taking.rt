@@ -1,4 +1,4 @@
-//! Taking what words give.
+//! Takes the tokens that words give.
 
 ghost use Rattle.std.specs.Prelude.{◌≡◌, ◌≤◌, ℕ, [], ◌∷◌, IfSome, length, map, replicate};
 ghost use Rattle.hex_langs.specs.declared.items.token.Token.TheVariants.{Byte};
@@ -49,7 +49,7 @@ fn four_bytes(digits: &[u8]) -> Option<(u8, u8, u8, u8)>
     }
 }
 
-/// Takes the bytes of digits two by two. The eight digits after the fields of a word, which are the most, are taken at once.
+/// Takes the bytes of digits two by two. Eight digits after the fields of a word, the most frequent case, are taken at once.
 fn take_digits<'s>(
     items: &mut Items<'s>,
     word: Option<Open<'s>>,
@@ -71,7 +71,7 @@ fn take_digits<'s>(
     }
 }
 
-/// Takes the bytes of digits two by two, one after the other.
+/// Takes the bytes of digits two by two, in order.
 fn take_pairs<'s>(
     items: &mut Items<'s>,
     mut word: Option<Open<'s>>,
@@ -132,7 +132,7 @@ fn take_zeros<'s>(
     Ok(word)
 }
 
-/// Takes what a word at an offset gives.
+/// Takes the tokens of a word at an offset.
 pub(crate) fn take_meaning<'s>(
     items: &mut Items<'s>,
     word: Option<Open<'s>>,
@@ -151,7 +151,7 @@ pub(crate) fn take_meaning<'s>(
     }
 }
 
-/// What a word gives that a definition names.
+/// The meaning of a word that a definition names.
 fn defined_meaning<'s>(table: &Definitions<'s>, text: &'s [u8]) -> Option<WordMeaning<'s>>
     ensures { MeansTokens result (defined_tokens (values_in table.now text.now)) }
 {
@@ -161,7 +161,7 @@ fn defined_meaning<'s>(table: &Definitions<'s>, text: &'s [u8]) -> Option<WordMe
     }
 }
 
-/// What a word gives by the definitions.
+/// The meaning of a word, with these definitions.
 pub(crate) fn meaning_by<'s>(
     table: &Definitions<'s>,
     text: &'s [u8],

@@ -1,4 +1,4 @@
-//! The words of an M1 source, and what each of them gives.
+//! The words of an M1 source and their meaning.
 //!
 //! The rules, with their public source, are in docs/reference/m1.md.
 

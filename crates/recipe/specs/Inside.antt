@@ -1,2 +1,2 @@
--- How the code's values are seen. It serves the proofs: no promise rests on its being read.
+-- How the code's values are seen, for the proofs. No promise depends on it.
 pub mod Views

@@ -1,4 +1,4 @@
--- What every recipe keeps, so that no layer above tests it again (docs/reference/recipe.md).
+-- What holds of every recipe, so that no layer above tests it again (docs/reference/recipe.md).
 use Rattle.std.specs.Prelude.{◌≡◌, ℕ, ◌≤◌, ◌^◌, IsTrue, true, List, ◌++◌, length, map, take, bytes_eq, slice_get, Option, Some, None, IsSome, IfSome, ◌==◌, if◌then◌else◌}
 use Rattle.std.specs.List.{IsDistinct}
 use Rattle.sha2.specs.Sha256.{sha256}
@@ -20,11 +20,11 @@ use Rattle.recipe.specs.Tables.{IsFormat}
 abbrev pub Each : {A : Type 0} → (A → Type 0) → List A → Type 0
 Each {A} P xs = (i : ℕ) (x : A) → slice_get xs i ≡ Some x → P x
 
--- the source is there, where there is a name
+-- the source exists, if there is a name
 abbrev pub NamesSource : List Source → Option (List ℕ) → Type 0
 NamesSource sources name = IfSome name (λ name. IsSome (source_named sources name))
 
--- the name stands for an input or for what one of these stages makes
+-- the name stands for an input or for the artefact of one of these stages
 abbrev pub IsMade : RecipeContents → List Stage → List ℕ → Type 0
 IsMade said stages name = IsSome (content_named said.inputs stages name)
 
@@ -93,7 +93,7 @@ pub record IsStage (said : RecipeContents) (earlier : List Stage) (stage : Stage
 abbrev pub all_names : RecipeContents → List (List ℕ)
 all_names said = map (λ input. input.name) said.inputs ++ map (λ source. source.name) said.sources ++ map (λ stage. stage.name) said.stages
 
--- how many stages a recipe of a format compares at most
+-- the largest number of stages that a recipe of a format compares
 abbrev pub most_compared : ℕ → ℕ
 most_compared format = if format == 1 then 1 else 16
 

@@ -12,18 +12,18 @@ use Rattle.recipe.specs.declared.parts.SourceLanguage.TheVariants.{Defined, Othe
 use Rattle.recipe.specs.declared.parts.Stage.{Stage}
 use Rattle.recipe.specs.declared.contents.RecipeContents.{RecipeContents}
 
--- the index of the input, and of the stage, of a name
+-- the index of the input, and of the stage, with a name
 abbrev pub input_at : List Input → List ℕ → Option ℕ
 input_at inputs name = position (λ input. bytes_eq input.name name) inputs
 
 abbrev pub stage_at : List Stage → List ℕ → Option ℕ
 stage_at stages name = position (λ stage. bytes_eq stage.name name) stages
 
--- the source of a name
+-- the source with a name
 abbrev pub source_named : List Source → List ℕ → Option Source
 source_named sources name = find (λ source. bytes_eq source.name name) sources
 
--- the input of a name, or else the stage that makes what has this name
+-- the input with a name, otherwise the stage whose artefact has this name
 unfoldable pub content_named : List Input → List Stage → List ℕ → Option Content
 content_named inputs stages name = option_or (option_map content.Input (input_at inputs name)) (option_map content.Stage (stage_at stages name))
 
@@ -35,11 +35,11 @@ is_hex (Defined Hex2) = true
 is_hex (Defined M1) = false
 is_hex Other = false
 
--- the name of a check's source, where it is in hex0, hex1 or hex2
+-- the name of a check's source, if its language is hex0, hex1 or hex2
 abbrev pub hex_check : List Source → List ℕ → Option (List ℕ)
 hex_check sources name = option_and_then (λ source. if is_hex source.lang then Some name else None) (source_named sources name)
 
--- the name of an artefact's source: what it becomes, else its check's source in hex0, hex1 or hex2
+-- the name of the source of a stage's artefact: the one that it becomes, otherwise that of its check in hex0, hex1 or hex2
 unfoldable pub stage_source : List Source → Stage → Option (List ℕ)
 stage_source sources stage = option_or stage.becomes (option_and_then (hex_check sources) stage.check)
 
@@ -48,7 +48,7 @@ unfoldable pub content_source : RecipeContents → Content → Option (List ℕ)
 content_source said (content.Input index) = option_and_then (λ input. input.implements) (slice_get said.inputs index)
 content_source said (content.Stage index) = option_and_then (stage_source said.sources) (slice_get said.stages index)
 
--- the name of the source of the program of a name
+-- the name of the source of the program with this name
 abbrev pub source_of : RecipeContents → List ℕ → Option (List ℕ)
 source_of said name = option_and_then (content_source said) (content_named said.inputs said.stages name)
 

@@ -1,5 +1,5 @@
--- What the bytes of a recipe say, or the first refusal of its two walks (docs/reference/recipe.md). A recipe's digest is the SHA-256 of its
--- bytes (FIPS 180-4).
+-- The contents of a recipe's bytes, or the first refusal of its two walks (docs/reference/recipe.md). A recipe's digest is the SHA-256 of
+-- its bytes (FIPS 180-4).
 use Rattle.std.specs.Prelude.{ℕ, List, [], Result, Ok}
 use Rattle.ddc_base.specs.Results.{◌>>=◌, ◌>>◌}
 use Rattle.sha2.specs.Sha256.{sha256}

@@ -19,11 +19,11 @@ use Rattle.recipe.specs.Lookups.{input_at, stage_at, source_named, content_named
 use Rattle.recipe.specs.declared.contents.RecipeContents.{RecipeContents}
 use Rattle.recipe.specs.Tables.{input_place, source_place, stage_place, compare_place, stages_key}
 
--- whether a name stands for one of these inputs or for what one of these stages makes
+-- whether a name stands for one of these inputs or for the artefact of one of these stages
 abbrev pub is_content : List Input → List Stage → List ℕ → Bool
 is_content inputs stages name = is_some (content_named inputs stages name)
 
--- a source of this name is there, where a name stands at the key
+-- a source with this name exists, if the key has a name
 abbrev pub refers_to_source : List Source → Place → Key → Option (List ℕ) → Result (Unit {0}) RecipeRefusal
 refers_to_source sources place key None = Ok tt
 refers_to_source sources place key (Some name) = error_unless (NotMadeYet place key) (is_some (source_named sources name))
@@ -42,19 +42,19 @@ abbrev pub is_defined : SourceLanguage → Bool
 is_defined (Defined language) = true
 is_defined Other = false
 
--- the source of a check: its files stand before the stage, and its language has a definition
+-- the source of a check: its files exist before the stage, and its language has a definition
 abbrev pub checks_source : RecipeContents → List Stage → Place → Option Source → Result (Unit {0}) RecipeRefusal
 checks_source said earlier place None = Err (NotMadeYet place key.Check)
 checks_source said earlier place (Some source) = do
   error_unless (NotMadeYet place key.Check) (list_all (is_content said.inputs earlier) source.files)
   error_unless (BadName place key.Check) (is_defined source.lang)
 
--- the same, where a name stands at `check`
+-- the check of a stage, if it names one
 unfoldable pub check_refers : RecipeContents → List Stage → Place → Option (List ℕ) → Result (Unit {0}) RecipeRefusal
 check_refers said earlier place None = Ok tt
 check_refers said earlier place (Some name) = checks_source said earlier place (source_named said.sources name)
 
--- a stage after these earlier ones
+-- a stage that follows these earlier ones
 unfoldable pub stage_refers_after : RecipeContents → List Stage → Place → Stage → Result (Unit {0}) RecipeRefusal
 stage_refers_after said earlier place stage = do
   error_unless (NotMadeYet place key.Program) (is_content said.inputs earlier stage.program)
@@ -76,7 +76,7 @@ compare_refers said = do
 
 -- ---- the programs of the unchecked stages
 
--- a program without a source is refused where its source would stand (what names no content was refused above)
+-- a program without a source is refused at the key where its source would be (a name without a content was refused above)
 abbrev pub has_source : RecipeContents → Option Content → Result (Unit {0}) RecipeRefusal
 has_source said (Some (content.Input index)) =
     error_unless (Missing (input_place (index + 1)) key.Implements) (is_some (content_source said (content.Input index)))

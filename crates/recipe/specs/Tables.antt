@@ -47,7 +47,7 @@ compare_place = record { table = table.Compare; number = 0 }
 abbrev pub IsFormat : ℕ → Type 0
 IsFormat format = (format ≡ 1) ⊎ (format ≡ 2)
 
--- the tables of the top, counted
+-- the tables of the top table
 pub record Top : Type 0 where
   pub format : ℕ
   pub inputs : List Members
@@ -97,7 +97,7 @@ input_table inputs place table = do
   no_other_key place (key.Name ∷ key.Path ∷ key.Implements ∷ []) table
   Ok (record { name = name; path = path; implements = implements })
 
--- the input that a table says, after those before it
+-- the input of a table that follows these inputs
 abbrev pub next_input : List Input → Members → Result Input RecipeRefusal
 next_input inputs table = input_table inputs (input_place (length inputs + 1)) table
 
@@ -126,7 +126,7 @@ next_source inputs sources table = source_table inputs sources (source_place (le
 
 -- ---- a stage
 
--- the path of a file of a program: what is left of the text without leading `./`
+-- the path of a program's file: a text without a leading `./`
 abbrev pub guest_path : List ℕ → Option (List ℕ)
 guest_path text = path_of (stripped text)
 
@@ -137,7 +137,7 @@ is_file_path files path = list_any (λ file. bytes_eq file.path path) files
 abbrev pub entry_text : Place → Key → Key → Members → Result (List ℕ) RecipeRefusal
 entry_text place key entry_key entry = or_error (Missing place key) (option_and_then as_str (get_member (key_word entry_key) entry))
 
--- the file that an entry says, after those before it
+-- the file of an entry that follows these files
 unfoldable pub next_file : Place → Key → List StageFile → Data → Result StageFile RecipeRefusal
 next_file place listed files value = do
   entry ← a_table place listed value
@@ -154,7 +154,7 @@ some_files place key value = do
   entries ← an_array 0 256 place key value
   gathered (next_file place key) [] entries
 
--- stream 1 where it is written `-`, else a file of the program
+-- standard output if it is written `-`, otherwise a file of the program
 abbrev pub output_said : List ℕ → Option Output
 output_said text = if bytes_eq text (codes "-") then Some Stream else option_map File (guest_path text)
 
@@ -194,21 +194,21 @@ next_stage inputs sources stages table = stage_table inputs sources stages (stag
 
 -- ---- compare
 
--- the key at which a recipe of a format names the stages that it compares
+-- the key under which a recipe of a format names the stages that it compares
 abbrev pub stages_key : ℕ → Key
 stages_key format = if format == 1 then key.Stage else key.Stages
 
 abbrev pub is_among : List (List ℕ) → List ℕ → Bool
 is_among names name = list_any (λ other. bytes_eq other name) names
 
--- a name that none before it is
+-- a name that is not among these
 unfoldable pub next_stage_name : Place → Key → List (List ℕ) → Data → Result (List ℕ) RecipeRefusal
 next_stage_name place key names value = do
   name ← a_name place key value
   error_unless (DoubleName place key) (not (is_among names name))
   Ok name
 
--- 1 to 16 names, each of them once
+-- 1 to 16 names without repetition
 unfoldable pub some_stage_names : Place → Key → Data → Result (List (List ℕ)) RecipeRefusal
 some_stage_names place key value = do
   values ← an_array 1 16 place key value
@@ -220,7 +220,7 @@ one_stage table = do
   stage ← required a_name compare_place key.Stage table
   Ok (stage ∷ [])
 
--- the stages that are compared: one in format 1
+-- the stages that are compared: one in format 1, 1 to 16 in format 2
 unfoldable pub compared_stages : ℕ → Members → Result (List (List ℕ)) RecipeRefusal
 compared_stages format table = if format == 1 then one_stage table else required some_stage_names compare_place key.Stages table
 

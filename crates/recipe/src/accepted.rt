@@ -10,7 +10,7 @@ use ddc_base::digests::Digest;
 use ddc_base::{ListOf, Name};
 use std::marker::Model;
 
-/// A recipe, which contracts see as what it says. Both walks accepted it.
+/// A recipe that both walks accepted. Contracts see its contents.
 #[derive(Drop)]
 pub struct Recipe {
     said: RecipeContents,
@@ -28,7 +28,7 @@ impl Model for Recipe {
 }
 
 impl Recipe {
-    /// A recipe of what both walks accepted.
+    /// A recipe with contents that both walks accepted.
     pub(crate) fn new(said: RecipeContents) -> Recipe
         requires { IsRecipe said }
         ensures { result ≡ said }
@@ -44,7 +44,7 @@ impl Recipe {
         &self.said.digest
     }
 
-    /// Shows that the recipe keeps its rules.
+    /// Shows that the recipe is well-formed (`IsRecipe`).
     pub fn show_rules(&self)
         ensures { IsRecipe self.now }
     {
@@ -83,7 +83,7 @@ impl Recipe {
         &self.said.stages
     }
 
-    /// What is compared at the end.
+    /// The stages and the binary that are compared.
     pub fn compare(&self) -> &Compare
         ensures value { result.now ≡ self.now.compare }
         ensures kept { IsRecipe self.now }
@@ -91,7 +91,7 @@ impl Recipe {
         &self.said.compare
     }
 
-    /// What a name stands for: the input of that name, or else what the stage of that name makes.
+    /// The content that a name stands for: the input with that name, otherwise the artefact of the stage with that name.
     pub fn content(&self, name: &Name) -> Option<Content>
         ensures value { result ≡ content_named self.now.inputs self.now.stages name.now }
         ensures index { IfSome result (IsIndex self.now.inputs self.now.stages) }
@@ -103,7 +103,7 @@ impl Recipe {
         )
     }
 
-    /// What a name stands for at a stage, by its index from 0: among the inputs and the stages before it.
+    /// The content that a name stands for at a stage, given by its index from 0. Only inputs and earlier stages count.
     pub fn content_before(&self, stage: usize, name: &Name) -> Option<Content>
         requires { stage ≤ length self.now.stages }
         ensures value { result ≡ content_named self.now.inputs (take stage self.now.stages) name.now }
@@ -116,14 +116,14 @@ impl Recipe {
         )
     }
 
-    /// The source of a name.
+    /// The source with a name.
     pub fn source(&self, name: &Name) -> Option<&Source>
         ensures { option_map (λ x. x.now) result ≡ source_named self.now.sources name.now }
     {
         source_named(self.said.sources.as_slice(), name)
     }
 
-    /// The name of the source of the program of a name.
+    /// The name of the source of the program with this name.
     pub fn source_of(&self, name: &Name) -> Option<&Name>
         ensures { option_map (λ x. x.now) result ≡ source_of self.now name.now }
     {

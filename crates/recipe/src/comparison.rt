@@ -10,20 +10,20 @@ use ddc_base::{ListOf, Name};
 use std::alloc::Global;
 use toml::{Table, Value};
 
-/// The place of the one table `compare`.
+/// The place of the only table `compare`.
 pub(crate) const COMPARE: Place = Place {
     table: crate::text::Table::Compare,
     number: 0,
 };
 
-/// The key at which a recipe of a format names the stages that it compares.
+/// The key under which a recipe of a format names the stages that it compares.
 pub(crate) fn stages_key(format: u32) -> Key
     ensures { result ≡ spec.stages_key format }
 {
     if format == 1 { Key::Stage } else { Key::Stages }
 }
 
-/// What is compared at the end.
+/// Reads what is compared at the end.
 #[tactic(auto, unfolding(crate::specs::Tables::compare_table))]
 pub(crate) fn compare_of(
     alloc: Global,
@@ -38,7 +38,7 @@ pub(crate) fn compare_of(
     Ok(Compare { stages, binary })
 }
 
-/// The stages that are compared: one in format 1.
+/// The stages that are compared: one in format 1, 1 to 16 in format 2.
 #[tactic(auto, unfolding(crate::specs::Tables::compared_stages))]
 fn compared_stages(alloc: Global, format: u32, table: &Table) -> Result<ListOf<Name>, RecipeRefusal>
     ensures { Gives (λ x. x) result (compared_stages format (table_view table.now)) }
@@ -69,7 +69,7 @@ fn required_stages(alloc: Global, table: &Table) -> Result<ListOf<Name>, RecipeR
     names_of(alloc, array(1, 16, COMPARE, Key::Stages, value)?)
 }
 
-/// Names, one a value, each of them once.
+/// Reads one name from each value and refuses a repeated name.
 fn names_of(alloc: Global, values: &[Value]) -> Result<ListOf<Name>, RecipeRefusal>
     ensures { Gives (λ x. x) result (gathered (next_stage_name COMPARE Key.Stages) [] (map view values.now)) }
 {
@@ -81,7 +81,7 @@ fn names_of(alloc: Global, values: &[Value]) -> Result<ListOf<Name>, RecipeRefus
     Ok(names)
 }
 
-/// The name that a value says, which none of these is.
+/// Reads a name from a value and refuses one that is already in the list.
 #[tactic(auto, unfolding(crate::specs::Tables::next_stage_name))]
 fn next_name(names: &ListOf<Name>, value: &Value) -> Result<Name, RecipeRefusal>
     ensures value { Gives (λ x. x) result (next_stage_name COMPARE Key.Stages names.now (view value.now)) }
@@ -95,7 +95,7 @@ fn next_name(names: &ListOf<Name>, value: &Value) -> Result<Name, RecipeRefusal>
     }
 }
 
-/// Whether one of these is the name.
+/// Whether a name is in the list.
 fn is_among(names: &[Name], name: &Name) -> bool
     ensures { result ≡ is_among names.now name.now }
 {

@@ -2,7 +2,7 @@ use crate::parts::{Compare, Input, Source, Stage};
 use ddc_base::ListOf;
 use ddc_base::digests::Digest;
 
-/// What a recipe says.
+/// The contents of a recipe.
 #[derive(Drop)]
 pub(crate) struct RecipeContents {
     /// The digest of the recipe's bytes.

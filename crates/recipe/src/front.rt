@@ -12,13 +12,13 @@ use crate::top_tables::Top;
 use std::alloc::Global;
 use toml::Table;
 
-/// The place of the top.
+/// The place of the top table.
 const TOP: Place = Place {
     table: crate::text::Table::Top,
     number: 0,
 };
 
-/// The tables of the top.
+/// Reads the tables of the top table.
 #[tactic(auto, unfolding(crate::specs::Tables::top_table))]
 pub(crate) fn top_of<'a>(alloc: Global, top: &'a Table) -> Result<Top<'a>, RecipeRefusal>
     ensures { Gives top_view result (top_table (table_view top.now)) }
@@ -57,7 +57,7 @@ fn format_of(top: &Table) -> Result<u32, RecipeRefusal>
     Ok(format as u32)
 }
 
-/// 1 to 256 tables at a key of the top.
+/// Reads 1 to 256 tables at a key of the top table.
 #[tactic(auto, unfolding(crate::specs::Text::Reading::required, crate::specs::Text::Reading::a_list))]
 fn required_tables<'a>(
     alloc: Global,
@@ -71,7 +71,7 @@ fn required_tables<'a>(
     tables(alloc, TOP, key, values)
 }
 
-/// Up to 256 tables at a key of the top, where it is there.
+/// Reads 0 to 256 tables at a key of the top table; `None` if the key is absent.
 #[tactic(auto, unfolding(crate::specs::Text::Reading::optional, crate::specs::Text::Reading::a_list))]
 fn optional_tables<'a>(
     alloc: Global,
@@ -90,7 +90,7 @@ fn optional_tables<'a>(
     }
 }
 
-/// The table at a key of the top.
+/// Reads the table at a key of the top table.
 #[tactic(auto, unfolding(crate::specs::Text::Reading::required))]
 fn required_table<'a>(key: Key, top: &'a Table) -> Result<&'a Table, RecipeRefusal>
     ensures value { Gives (λ x. table_view x.now) result (required a_table TOP key (table_view top.now)) }

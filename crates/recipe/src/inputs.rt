@@ -11,7 +11,7 @@ use ddc_base::ListOf;
 use std::alloc::Global;
 use toml::Table;
 
-/// The inputs that the tables say.
+/// Reads the inputs of the tables.
 pub(crate) fn inputs_of(alloc: Global, tables: &[&Table]) -> Result<ListOf<Input>, RecipeRefusal>
     requires { length tables.now ≤ 256 }
     ensures inputs { Gives (λ x. x) result (gathered next_input [] (tables_view tables.now)) }
@@ -25,7 +25,7 @@ pub(crate) fn inputs_of(alloc: Global, tables: &[&Table]) -> Result<ListOf<Input
     Ok(inputs)
 }
 
-/// The input that a table says, after those before it.
+/// Reads the input of a table, after the inputs before it.
 fn next_input(alloc: Global, inputs: &ListOf<Input>, table: &Table) -> Result<Input, RecipeRefusal>
     requires { length inputs.now < 2 ^ 32 - 1 }
     ensures { Gives (λ x. x) result (next_input inputs.now (table_view table.now)) }
@@ -37,7 +37,7 @@ fn next_input(alloc: Global, inputs: &ListOf<Input>, table: &Table) -> Result<In
     input_of(alloc, inputs.as_slice(), place, table)
 }
 
-/// The input that a table says at its place.
+/// Reads the input of a table at its place.
 #[tactic(auto, unfolding(crate::specs::Tables::input_table))]
 fn input_of(
     alloc: Global,

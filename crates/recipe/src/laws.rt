@@ -9,17 +9,17 @@ ghost use Rattle.recipe.specs.Kept.{IsRecipe};
 ghost use Rattle.recipe.specs.Lookups.{content_named};
 ghost use Rattle.recipe.specs.Reading.{recipe_of};
 
-/// What bytes that read as a recipe say keeps the rules of a recipe.
+/// Every parsed recipe is well-formed (`IsRecipe`).
 pub fn a_recipe_that_reads_keeps_the_rules()
     ensures { (bytes : List ℕ) (said : RecipeContents) → recipe_of bytes ≡ Ok said → IsRecipe said }
 {}
 
-/// What a name stands for among the inputs and the first stages, it stands for among all of them.
+/// A name that stands for a content among the inputs and the first stages stands for it among all of them.
 pub fn a_name_keeps_its_content()
     ensures { (inputs : List Input) (stages : List Stage) (n : ℕ) (name : List ℕ) → IsSome (content_named inputs (take n stages) name) → content_named inputs stages name ≡ content_named inputs (take n stages) name }
 {}
 
-/// What bytes say is never want of memory: it comes from the reader's calls alone.
+/// `recipe_of` never returns `OutOfMemory`: only a call of the reader does.
 pub fn no_bytes_say_want_of_memory()
     ensures { (bytes : List ℕ) → ¬ (recipe_of bytes ≡ Err OutOfMemory) }
 {}

@@ -1,5 +1,5 @@
-//! The recipe of an audit: its tables, read from a TOML text by two walks, and what its names stand for. What stands at a
-//! key of a table is read in `text`.
+//! The recipe of an audit, and what its names stand for. Two walks read its tables from a TOML text; module `text` reads the value at a
+//! key of a table.
 //!
 //! Its rules for people: docs/reference/recipe.md.
 #![tactic(auto)]

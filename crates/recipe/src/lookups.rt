@@ -9,7 +9,7 @@ use crate::parts::{Content, Input, Source, SourceLanguage, Stage};
 use ddc_base::Name;
 use ddc_base::languages::Language;
 
-/// The index of the input of a name.
+/// The index of the input with a name.
 pub(crate) fn input_at(inputs: &[Input], name: &Name) -> Option<usize>
     ensures value { result ≡ input_at inputs.now name.now }
     ensures index { IfSome result (λ index. index < length inputs.now) }
@@ -17,7 +17,7 @@ pub(crate) fn input_at(inputs: &[Input], name: &Name) -> Option<usize>
     inputs.iter().position(|input| input.name == *name)
 }
 
-/// The index of the stage of a name.
+/// The index of the stage with a name.
 pub(crate) fn stage_at(stages: &[Stage], name: &Name) -> Option<usize>
     ensures value { result ≡ stage_at stages.now name.now }
     ensures index { IfSome result (λ index. index < length stages.now) }
@@ -25,14 +25,14 @@ pub(crate) fn stage_at(stages: &[Stage], name: &Name) -> Option<usize>
     stages.iter().position(|stage| stage.name == *name)
 }
 
-/// The source of a name.
+/// The source with a name.
 pub(crate) fn source_named<'a>(sources: &'a [Source], name: &Name) -> Option<&'a Source>
     ensures { option_map (λ x. x.now) result ≡ source_named sources.now name.now }
 {
     sources.iter().find(|source| source.name == *name)
 }
 
-/// The input of a name, or else the stage that makes what has this name.
+/// The input with a name, otherwise the stage whose artefact has this name.
 #[tactic(auto, unfolding(crate::specs::Lookups::content_named))]
 pub(crate) fn content_of(inputs: &[Input], stages: &[Stage], name: &Name) -> Option<Content>
     ensures value { result ≡ content_named inputs.now stages.now name.now }
@@ -47,7 +47,7 @@ pub(crate) fn content_of(inputs: &[Input], stages: &[Stage], name: &Name) -> Opt
     }
 }
 
-/// The name of a program's source.
+/// The name of the source of a program.
 #[tactic(auto, unfolding(crate::specs::Lookups::content_source))]
 pub(crate) fn content_source(said: &RecipeContents, content: Content) -> Option<&Name>
     ensures { option_map (λ x. x.now) result ≡ content_source said.now content }
@@ -72,7 +72,7 @@ fn input_source(inputs: &[Input], index: usize) -> Option<&Name>
     }
 }
 
-/// The name of the source of what a stage makes.
+/// The name of the source of a stage's artefact, by the stage's index.
 fn artefact_source<'a>(sources: &'a [Source], stages: &'a [Stage], index: usize) -> Option<&'a Name>
     ensures { option_map (λ x. x.now) result ≡ option_and_then (stage_source sources.now) (slice_get stages.now index) }
 {
@@ -82,7 +82,7 @@ fn artefact_source<'a>(sources: &'a [Source], stages: &'a [Stage], index: usize)
     }
 }
 
-/// The same, of the stage: what it becomes, else its check's source in hex0, hex1 or hex2.
+/// The name of the source of a stage's artefact: the one that it becomes, otherwise that of its check in hex0, hex1 or hex2.
 #[tactic(auto, unfolding(crate::specs::Lookups::stage_source))]
 fn stage_source<'a>(sources: &'a [Source], stage: &'a Stage) -> Option<&'a Name>
     ensures { option_map (λ x. x.now) result ≡ stage_source sources.now stage.now }
@@ -96,7 +96,7 @@ fn stage_source<'a>(sources: &'a [Source], stage: &'a Stage) -> Option<&'a Name>
     }
 }
 
-/// The name of a check's source, where it is in hex0, hex1 or hex2.
+/// The name of a check's source, if its language is hex0, hex1 or hex2.
 fn hex_check<'a>(sources: &'a [Source], name: &'a Name) -> Option<&'a Name>
     ensures { option_map (λ x. x.now) result ≡ hex_check sources.now name.now }
 {

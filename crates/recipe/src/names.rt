@@ -1,4 +1,4 @@
-//! Names that no table above has.
+//! Names that no table above a table has.
 
 ghost use Rattle.std.specs.Prelude.{◌≡◌};
 ghost use Rattle.toml.specs.View.{table_view, view};
@@ -10,7 +10,7 @@ use crate::text::{Key, Place, RecipeRefusal, name, required};
 use ddc_base::Name;
 use toml::{Table, Value};
 
-/// What stands above a table: the inputs, sources and stages that are read by then.
+/// The tables above a table: the inputs, sources and stages read so far.
 #[derive(Clone, Copy)]
 pub(crate) struct Above<'a> {
     pub(crate) inputs: &'a [Input],
@@ -18,7 +18,7 @@ pub(crate) struct Above<'a> {
     pub(crate) stages: &'a [Stage],
 }
 
-/// The name of a table, which none above has.
+/// Reads the name of a table, which must differ from all names above.
 #[tactic(auto, unfolding(crate::specs::Text::Reading::required))]
 pub(crate) fn required_new_name(
     above: &Above<'_>,
@@ -31,7 +31,7 @@ pub(crate) fn required_new_name(
     new_name(above, place, required(place, Key::Name, table)?)
 }
 
-/// The same, of the value.
+/// Reads a name from a value, which must differ from all names above.
 #[tactic(auto, unfolding(crate::specs::Tables::a_new_name))]
 fn new_name(above: &Above<'_>, place: Place, value: &Value) -> Result<Name, RecipeRefusal>
     ensures value { Gives (λ x. x) result (a_new_name above.now.inputs.now above.now.sources.now above.now.stages.now place Key.Name (view value.now)) }

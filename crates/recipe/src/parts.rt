@@ -9,7 +9,7 @@ pub type Inputs = ListOf<Bytes>;
 #[derive(Drop)]
 pub struct Input {
     pub name: Name,
-    /// Where a shelf has it.
+    /// The path by which a file store (`Shelf`) loads it.
     pub path: Path,
     /// The name of the source that it is trusted to be a program of.
     pub implements: Option<Name>,
@@ -18,9 +18,9 @@ pub struct Input {
 /// The language of a source.
 #[derive(Clone, Copy)]
 pub enum SourceLanguage {
-    /// One that ddc defines.
+    /// A language that ddc defines.
     Defined(Language),
-    /// The word `other`: one without a definition here.
+    /// The word `other`: a language without a definition here.
     Other,
 }
 
@@ -29,7 +29,7 @@ pub enum SourceLanguage {
 pub struct Source {
     pub name: Name,
     pub lang: SourceLanguage,
-    /// The address at which the value of a hex1 or hex2 source stands: at most 2^37.
+    /// The base address of the value of a hex1 or hex2 source: at most 2^37.
     pub base: u64,
     /// The names of 1 to 64 contents that make up the text, in order.
     pub files: ListOf<Name>,
@@ -38,7 +38,7 @@ pub struct Source {
 /// A file that a stage's program finds.
 #[derive(Drop)]
 pub struct StageFile {
-    /// The program's path of it: 1 to 255 bytes, which don't begin with `./`.
+    /// The program's path of it: 1 to 255 bytes that do not begin with `./`.
     pub path: Bytes,
     /// The name of its content.
     pub from: Name,
@@ -49,7 +49,7 @@ pub struct StageFile {
 pub enum Output {
     /// What the program writes on its standard output.
     Stream,
-    /// The file of this path that the program leaves: 1 to 255 bytes, which don't begin with `./`.
+    /// The file with this path that the program leaves: 1 to 255 bytes that do not begin with `./`.
     File(Bytes),
 }
 
@@ -61,25 +61,25 @@ pub struct Stage {
     pub program: Name,
     /// 1 to 64 texts of at most 255 bytes, none of them zero.
     pub args: ListOf<Bytes>,
-    /// At most 64 such texts.
+    /// At most 64 texts of at most 255 bytes, none of them zero.
     pub env: ListOf<Bytes>,
-    /// At most 256 files, of distinct paths.
+    /// At most 256 files with distinct paths.
     pub files: ListOf<StageFile>,
     pub output: Output,
-    /// The most steps of the run: 1 to 2^48.
+    /// The largest number of steps of the run: 1 to 2^48.
     pub steps: u64,
-    /// The most bytes of the heap: at most 2^30.
+    /// The largest size of the heap in bytes: at most 2^30.
     pub heap: u64,
-    /// The name of the source whose value the artefact is to be.
+    /// The name of the source whose value the artefact must be.
     pub check: Option<Name>,
     /// The name of the source that the artefact is a program of.
     pub becomes: Option<Name>,
 }
 
-/// What is compared at the end.
+/// The stages and the binary that are compared at the end.
 #[derive(Drop)]
 pub struct Compare {
-    /// The names of stages: one in format 1, 1 to 16 in format 2, each of them once.
+    /// The names of stages without repetition: one in format 1, 1 to 16 in format 2.
     pub stages: ListOf<Name>,
     /// The name of an input.
     pub binary: Name,
@@ -88,8 +88,8 @@ pub struct Compare {
 /// What the name of an input or a stage stands for, by its index from 0.
 #[derive(Clone, Copy, PartialEq, Eq)]
 pub enum Content {
-    /// What an input is.
+    /// The input with this index.
     Input(usize),
-    /// What a stage makes.
+    /// The artefact of the stage with this index.
     Stage(usize),
 }

@@ -13,7 +13,7 @@ use crate::stages::stages_of;
 use crate::text::{RecipeRefusal, document};
 use std::alloc::Global;
 
-/// Reads a recipe: the first refusal of its two walks, or what it says.
+/// Reads a recipe. Error: the first refusal of its two walks.
 #[tactic(auto, using(crate::proofs::Keeps::keeps), unfolding(crate::specs::Reading::recipe_of))]
 pub fn read(alloc: Global, bytes: &[u8]) -> Result<Recipe, RecipeRefusal>
     ensures { Gives (λ recipe. recipe) result (recipe_of bytes.now) }
@@ -23,7 +23,7 @@ pub fn read(alloc: Global, bytes: &[u8]) -> Result<Recipe, RecipeRefusal>
     Ok(Recipe::new(said))
 }
 
-/// The first walk: each table with its keys.
+/// The first walk: reads each table with its keys.
 #[tactic(auto, unfolding(crate::specs::Reading::first_walk))]
 fn first_walk(alloc: Global, bytes: &[u8]) -> Result<RecipeContents, RecipeRefusal>
     ensures said { Gives (λ said. said) result (first_walk bytes.now) }

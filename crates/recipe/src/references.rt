@@ -16,7 +16,7 @@ use crate::parts::{Content, Input, Source, SourceLanguage, Stage, StageFile};
 use crate::text::{Key, Place, RecipeRefusal, Table};
 use ddc_base::Name;
 
-/// Whether all names refer to what is there by then.
+/// Checks that every name refers to something that exists by then.
 #[tactic(auto, unfolding(crate::specs::SecondWalk::second_walk))]
 pub(crate) fn second_walk(said: &RecipeContents) -> Result<(), RecipeRefusal>
     requires inputs { length said.now.inputs ≤ 256 }
@@ -32,7 +32,7 @@ pub(crate) fn second_walk(said: &RecipeContents) -> Result<(), RecipeRefusal>
     programs_have_sources(said, said.stages.as_slice())
 }
 
-/// The inputs' `implements`.
+/// Checks the inputs' `implements`.
 fn inputs_refer(said: &RecipeContents, inputs: &[Input]) -> Result<(), RecipeRefusal>
     requires { length inputs.now < 2 ^ 32 - 1 }
     ensures refers { Gives (λ x. x) result (each_passes (input_refers said.now) 1 inputs.now) }
@@ -62,7 +62,7 @@ fn input_refers(said: &RecipeContents, number: u32, input: &Input) -> Result<(),
     )
 }
 
-/// Whether a source of the name is there, where there is a name.
+/// Checks that a source with the name exists, if there is a name.
 fn refers_to_source(
     sources: &[Source],
     place: Place,
@@ -78,7 +78,7 @@ fn refers_to_source(
     }
 }
 
-/// Refuses a name that stands for nothing that is there by then.
+/// Refuses a name that stands for nothing that exists by then.
 fn made_by_now(made: bool, place: Place, key: Key) -> Result<(), RecipeRefusal>
     ensures refers { Gives (λ x. x) result (error_unless (NotYet place key) made) }
     ensures memory { NeverWants result }
@@ -90,7 +90,7 @@ fn made_by_now(made: bool, place: Place, key: Key) -> Result<(), RecipeRefusal>
     }
 }
 
-/// The sources' files.
+/// Checks the sources' files.
 fn sources_refer(said: &RecipeContents, sources: &[Source]) -> Result<(), RecipeRefusal>
     requires { length sources.now < 2 ^ 32 - 1 }
     ensures refers { Gives (λ x. x) result (each_passes (source_refers said.now) 1 sources.now) }
@@ -120,21 +120,21 @@ fn source_refers(said: &RecipeContents, number: u32, source: &Source) -> Result<
     made_by_now(made, place, Key::Files)
 }
 
-/// Whether each name stands for one of these inputs or for what one of these stages makes.
+/// Whether each name stands for one of these inputs or for the artefact of one of these stages.
 fn are_contents(inputs: &[Input], stages: &[Stage], names: &[Name]) -> bool
     ensures { result ≡ list_all (is_content inputs.now stages.now) names.now }
 {
     names.iter().all(|name| is_content(inputs, stages, name))
 }
 
-/// Whether a name stands for one of these inputs or for what one of these stages makes.
+/// Whether a name stands for one of these inputs or for the artefact of one of these stages.
 fn is_content(inputs: &[Input], stages: &[Stage], name: &Name) -> bool
     ensures { result ≡ is_content inputs.now stages.now name.now }
 {
     content_of(inputs, stages, name).is_some()
 }
 
-/// The stages' programs, files, checks and what they become.
+/// Checks the stages' programs, files, checks and what they become.
 fn stages_refer(said: &RecipeContents, stages: &[Stage]) -> Result<(), RecipeRefusal>
     requires few { length stages.now < 2 ^ 32 - 1 }
     requires same { stages.now ≡ said.now.stages }
@@ -163,7 +163,7 @@ fn stage_refers(said: &RecipeContents, number: u32, stage: &Stage) -> Result<(),
     stage_refers_after(said, earlier, place, stage)
 }
 
-/// The same, of a stage after these earlier ones.
+/// Checks a stage that follows these earlier ones.
 #[tactic(auto, unfolding(crate::specs::SecondWalk::stage_refers_after))]
 fn stage_refers_after(
     said: &RecipeContents,
@@ -189,7 +189,7 @@ fn stage_refers_after(
     refers_to_source(said.sources.as_slice(), place, Key::Becomes, &stage.becomes)
 }
 
-/// Whether the content of each file is one of these inputs or what one of these stages makes.
+/// Whether the content of each file is one of these inputs or the artefact of one of these stages.
 fn are_made(inputs: &[Input], stages: &[Stage], files: &[StageFile]) -> bool
     ensures { result ≡ list_all (λ file. is_content inputs.now stages.now file.from) files.now }
 {
@@ -198,7 +198,7 @@ fn are_made(inputs: &[Input], stages: &[Stage], files: &[StageFile]) -> bool
         .all(|file| is_content(inputs, stages, &file.from))
 }
 
-/// Whether a stage may be checked against a source, where it names one.
+/// Checks that a stage may be checked against its source, if it names one.
 #[tactic(auto, unfolding(crate::specs::SecondWalk::check_refers))]
 fn check_refers(
     said: &RecipeContents,
@@ -230,7 +230,7 @@ fn named_source_checks(
     }
 }
 
-/// Whether a source's files stand before the stage, and its language has a definition.
+/// Checks that a source's files exist before the stage, and that its language has a definition.
 fn source_checks(
     said: &RecipeContents,
     earlier: &[Stage],
@@ -249,7 +249,7 @@ fn source_checks(
     }
 }
 
-/// What is compared.
+/// Checks the names that are compared.
 #[tactic(auto, unfolding(crate::specs::SecondWalk::compare_refers))]
 fn compare_refers(said: &RecipeContents) -> Result<(), RecipeRefusal>
     ensures refers { Gives (λ x. x) result (compare_refers said.now) }
@@ -275,7 +275,7 @@ fn is_stage(stages: &[Stage], name: &Name) -> bool
     stage_at(stages, name).is_some()
 }
 
-/// Whether each unchecked stage's program has a source.
+/// Checks that the program of each unchecked stage has a source.
 fn programs_have_sources(said: &RecipeContents, stages: &[Stage]) -> Result<(), RecipeRefusal>
     requires few { length stages.now < 2 ^ 32 - 1 }
     requires few_inputs { length said.now.inputs ≤ 256 }
@@ -319,7 +319,7 @@ fn named_has_source(said: &RecipeContents, program: &Name) -> Result<(), RecipeR
     }
 }
 
-/// Refuses a program without a source where its source would stand.
+/// Refuses a program without a source, at the key where its source would be.
 fn has_source(said: &RecipeContents, content: Content) -> Result<(), RecipeRefusal>
     requires index { IsIndex said.now.inputs said.now.stages content }
     requires few_inputs { length said.now.inputs ≤ 256 }

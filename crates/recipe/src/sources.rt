@@ -17,7 +17,7 @@ use toml::{Table, Value};
 /// The base of a source that names none: 0x600000.
 const DEFAULT_BASE: u64 = 6_291_456;
 
-/// The sources that the tables say.
+/// Reads the sources of the tables.
 pub(crate) fn sources_of(
     alloc: Global,
     inputs: &[Input],
@@ -35,7 +35,7 @@ pub(crate) fn sources_of(
     Ok(sources)
 }
 
-/// The source that a table says, after those before it.
+/// Reads the source of a table, after the sources before it.
 fn next_source(
     alloc: Global,
     inputs: &[Input],
@@ -52,7 +52,7 @@ fn next_source(
     source_of(alloc, inputs, sources.as_slice(), place, table)
 }
 
-/// The source that a table says at its place.
+/// Reads the source of a table at its place.
 #[tactic(auto, unfolding(crate::specs::Tables::source_table))]
 fn source_of(
     alloc: Global,
@@ -81,7 +81,7 @@ fn source_of(
     })
 }
 
-/// The language of a source.
+/// Reads the language of a source.
 #[tactic(auto, unfolding(crate::specs::Text::Reading::required))]
 fn required_language(place: Place, table: &Table) -> Result<SourceLanguage, RecipeRefusal>
     ensures value { Gives (λ x. x) result (required a_language place Key.Lang (table_view table.now)) }
@@ -90,7 +90,7 @@ fn required_language(place: Place, table: &Table) -> Result<SourceLanguage, Reci
     language(place, required(place, Key::Lang, table)?)
 }
 
-/// The same, of the value.
+/// Reads a language from a value.
 #[tactic(auto, unfolding(crate::specs::Tables::a_language))]
 fn language(place: Place, value: &Value) -> Result<SourceLanguage, RecipeRefusal>
     ensures value { Gives (λ x. x) result (a_language place Key.Lang (view value.now)) }
@@ -113,7 +113,7 @@ fn source_language(word: &[u8]) -> Option<SourceLanguage>
     }
 }
 
-/// The files of a source.
+/// Reads the files of a source.
 #[tactic(auto, unfolding(crate::specs::Text::Reading::required, crate::specs::Text::Reading::a_list))]
 fn required_names(alloc: Global, place: Place, table: &Table) -> Result<ListOf<Name>, RecipeRefusal>
     ensures { Gives (λ x. x) result (required (a_list a_name 1 64) place Key.Files (table_view table.now)) }

@@ -1,4 +1,4 @@
-//! The files of a stage and what it makes: the paths of its program.
+//! The files of a stage and its output: the paths of its program.
 
 ghost use Rattle.std.specs.Prelude.{◌≡◌, [], IfOk, map, option_map};
 ghost use Rattle.toml.specs.View.{table_view, view};
@@ -14,7 +14,7 @@ use mem_files::strip;
 use std::alloc::Global;
 use toml::{Table, Value};
 
-/// The files of a stage, none where the key is absent.
+/// Reads the files of a stage; `None` if the key is absent.
 #[tactic(auto, unfolding(crate::specs::Text::Reading::optional))]
 pub(crate) fn optional_files(
     alloc: Global,
@@ -29,7 +29,7 @@ pub(crate) fn optional_files(
     }
 }
 
-/// The files that an array says.
+/// Reads the files of an array.
 #[tactic(auto, unfolding(crate::specs::Tables::some_files))]
 fn some_files(
     alloc: Global,
@@ -41,7 +41,7 @@ fn some_files(
     files_of(alloc, place, array(0, 256, place, Key::Files, value)?)
 }
 
-/// The files that the entries say.
+/// Reads the files of the entries.
 fn files_of(
     alloc: Global,
     place: Place,
@@ -57,7 +57,7 @@ fn files_of(
     Ok(files)
 }
 
-/// The file that an entry says, after those before it.
+/// Reads the file of an entry, after the files before it.
 #[tactic(auto, unfolding(crate::specs::Tables::next_file))]
 fn next_file(
     alloc: Global,
@@ -100,7 +100,7 @@ fn entry_text<'a>(place: Place, key: Key, entry: &'a Table) -> Result<&'a str, R
     }
 }
 
-/// The path of a program's file that a text is: what is left of it without leading `./`.
+/// The path of a program's file: a text without a leading `./`; `None` if it is not a path.
 fn guest_path(text: &[u8]) -> Option<&[u8]>
     ensures { option_map (λ x. x.now) result ≡ guest_path text.now }
 {
@@ -115,7 +115,7 @@ fn is_file_path(files: &[StageFile], path: &[u8]) -> bool
     files.iter().any(|file| file.path.as_slice() == path)
 }
 
-/// What a stage makes.
+/// Reads the output of a stage.
 #[tactic(auto, unfolding(crate::specs::Text::Reading::required))]
 pub(crate) fn required_output(
     alloc: Global,
@@ -127,7 +127,7 @@ pub(crate) fn required_output(
     output(alloc, place, required(place, Key::Output, table)?)
 }
 
-/// The same, of the value.
+/// Reads an output from a value.
 #[tactic(auto, unfolding(crate::specs::Tables::an_output))]
 fn output(alloc: Global, place: Place, value: &Value) -> Result<Output, RecipeRefusal>
     ensures { Gives (λ x. x) result (an_output place Key.Output (view value.now)) }

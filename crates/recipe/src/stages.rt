@@ -15,7 +15,7 @@ use ddc_base::{Bytes, ListOf};
 use std::alloc::Global;
 use toml::Table;
 
-/// The most bytes of the heap of a stage that names none: 512 MiB.
+/// The heap size of a stage that names none: 512 MiB, in bytes.
 const DEFAULT_HEAP: u64 = 536_870_912;
 
 /// The keys of a stage.
@@ -32,7 +32,7 @@ const KEYS: [Key; 10] = [
     Key::Becomes,
 ];
 
-/// The stages that the tables say.
+/// Reads the stages of the tables.
 pub(crate) fn stages_of(
     alloc: Global,
     inputs: &[Input],
@@ -51,7 +51,7 @@ pub(crate) fn stages_of(
     Ok(stages)
 }
 
-/// The stage that a table says, after those before it.
+/// Reads the stage of a table, after the stages before it.
 fn next_stage(
     alloc: Global,
     inputs: &[Input],
@@ -74,7 +74,7 @@ fn next_stage(
     stage_of(alloc, &above, place, table)
 }
 
-/// The stage that a table says at its place.
+/// Reads the stage of a table at its place.
 #[tactic(auto, unfolding(crate::specs::Tables::stage_table))]
 fn stage_of(
     alloc: Global,
@@ -109,7 +109,7 @@ fn stage_of(
     })
 }
 
-/// The arguments of a stage's program.
+/// Reads the arguments of a stage's program.
 #[tactic(auto, unfolding(crate::specs::Text::Reading::required, crate::specs::Text::Reading::a_list))]
 fn required_args(alloc: Global, place: Place, table: &Table) -> Result<ListOf<Bytes>, RecipeRefusal>
     ensures { Gives (λ x. x) result (required (a_list a_word 1 64) place Key.Args (table_view table.now)) }
@@ -119,7 +119,7 @@ fn required_args(alloc: Global, place: Place, table: &Table) -> Result<ListOf<By
     words(alloc, place, Key::Args, values)
 }
 
-/// The environment of a stage's program, where it names one.
+/// Reads the environment of a stage's program; `None` if the key is absent.
 #[tactic(auto, unfolding(crate::specs::Text::Reading::optional, crate::specs::Text::Reading::a_list))]
 fn optional_env(
     alloc: Global,

@@ -1,6 +1,7 @@
-//! What stands at a key of a recipe's tables: its value, or the refusal.
+//! Reads the value at a key of a recipe's tables, or refuses it.
 //!
-//! The tables are those of a document of TOML 1.0.0 (toml.io), whose bytes are UTF-8 (RFC 3629). Its rules for people: docs/reference/recipe.md.
+//! The tables are those of a document of TOML 1.0.0 (toml.io), whose bytes are UTF-8 (RFC 3629). docs/reference/recipe.md has the rules
+//! for a reader.
 
 mod documents;
 mod fields;

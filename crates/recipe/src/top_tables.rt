@@ -2,7 +2,7 @@ ghost use Rattle.std.specs.Prelude.{◌≤◌, length};
 
 use toml::Table;
 
-/// The tables of the top, counted.
+/// The tables of the top table, within their limits.
 #[derive(Drop)]
 pub(crate) struct Top<'a> {
     pub(crate) format: u32,

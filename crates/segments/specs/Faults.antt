@@ -1,4 +1,4 @@
--- The faults of texts and starts, beside the refusals of the layers below, which may also be want of memory.
+-- The faults of texts and starts, and the refusals of the layers below, which may also be out of memory.
 use Rattle.std.specs.Prelude.{ℕ}
 use Rattle.checkpoints.specs.declared.reading.StateRefusal.{StateRefusal}
 use Rattle.checkpoints.specs.declared.reading.StateRefusal.TheVariants as state

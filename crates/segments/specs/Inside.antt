@@ -1,2 +1,2 @@
--- No promise rests on this file being read.
+-- No promise depends on these files.
 pub mod Recorded

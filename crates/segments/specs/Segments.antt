@@ -1,4 +1,4 @@
--- A run that is checked in pieces: what each answer says of the bytes, and what the answers say together.
+-- A run that is checked in segments: the meaning of each answer on the bytes, and of the answers together.
 -- docs/reference/segments.md says the same for people.
 use Rattle.std.specs.Prelude.{◌≡◌, ℕ, ◌+◌, ◌-◌, ◌<◌, ◌≤◌, ◌^◌, ◌⊎◌, IsOk, Ok, Err, Some, None, List, [], ◌∷◌}
 use Rattle.ddc_base.specs.Difference.{first_difference}
@@ -18,9 +18,9 @@ use Rattle.segments.specs.declared.answers.SegmentAnswer.TheVariants as segment
 use Rattle.segments.specs.declared.answers.StartAnswer.{StartAnswer}
 use Rattle.segments.specs.declared.answers.StartAnswer.TheVariants as beginning
 
--- ---- a piece of a run
+-- ---- a segment of a run
 
--- from the former state to the latter the run takes so many steps, at least one, and goes on
+-- `steps` steps, at least one, lead from the first state to the second, and all of them continue
 pub record IsPieceOf (from to : GuestState) (steps : ℕ) : Type 0 where
   pub some : 1 ≤ steps
   pub counted : to.steps ≡ from.steps + steps
@@ -28,11 +28,11 @@ pub record IsPieceOf (from to : GuestState) (steps : ℕ) : Type 0 where
 
 -- ---- a text of a state
 
--- the one text of a state that has the second form
+-- the only text of a state in format 2
 abbrev pub second_text : GuestState → List ℕ
 second_text guest = text_of_state (state_of guest)
 
--- the bytes are a text of this state, of either form
+-- the bytes are a text of this state, in either format
 abbrev pub IsStateOf : List ℕ → GuestState → Type 0
 IsStateOf text guest = ReadsState text (Ok guest)
 
@@ -48,13 +48,13 @@ pub record AreTwoStates (from to : List ℕ) : Type 0 where
   pub from_is : IsStateOf from first
   pub to_is : IsStateOf to last
 
--- the latter is later, by at most 2^48 steps
+-- the second state is later, by at most 2^48 steps
 pub record IsLater (from to : List ℕ) : Type 0 where
   pub states : AreTwoStates from to
   pub later : states.first.steps < states.last.steps
   pub near : states.last.steps ≤ states.first.steps + 2 ^ 48
 
--- how many steps lie between them
+-- the number of steps between them
 abbrev pub steps_apart : {from to : List ℕ} → AreTwoStates from to → ℕ
 steps_apart states = states.last.steps - states.first.steps
 
@@ -76,8 +76,8 @@ pub record IsSegment (from to : List ℕ) (steps : ℕ) : Type 0 where
   pub piece : IsPieceOf states.first states.last steps
   pub near : steps ≤ 2 ^ 48
 
--- what an answer on two texts says; the first that fits is given, since each says that those before it do not fit. Memory may be wanting only where
--- the former's form holds, and its runs can be mapped
+-- the meaning of an answer on two texts. The first answer that applies is given, since each says that those before it do not apply.
+-- Memory may run out only if the first text's form is right and its runs can be mapped
 abbrev pub ChecksPiece : List ℕ → List ℕ → SegmentAnswer → Type 0
 ChecksPiece from to (segment.Yes steps) = IsSegment from to steps
 ChecksPiece from to (segment.No (fault.From why)) = IsNoState from why
@@ -90,7 +90,7 @@ ChecksPiece from to segment.OutOfMemory = MayWantMemory from
 
 -- ---- the start
 
--- the program starts with this box in the state that the bytes say
+-- the program starts in this execution context, in the state of the bytes
 pub record BeginsWith (program : List ℕ) (setting : Setting) (text : List ℕ) : Type 0 where
   pub guest : GuestState
   pub starts : start_of program setting ≡ Ok guest
@@ -103,7 +103,7 @@ pub record BeginsOtherwise (program : List ℕ) (setting : Setting) (text : List
   pub is : IsStateOf text other
   pub differs : first_difference (second_text guest) (second_text other) ≡ Some offset
 
--- what an answer on a program and a text says; memory may be wanting only where the program starts
+-- the meaning of an answer on a program and a text; memory may run out only if the program starts
 abbrev pub StartChecks : List ℕ → Setting → List ℕ → StartAnswer → Type 0
 StartChecks program setting text beginning.Yes = BeginsWith program setting text
 StartChecks program setting text (beginning.Start why) = start_of program setting ≡ Err (start_refusal_of why)
@@ -121,7 +121,7 @@ IsRunsEnd (run.UnknownCall number) = Unit {0}
 IsRunsEnd run.Spent = ⊥
 IsRunsEnd run.OutOfMemory = ⊥
 
--- from the state that the bytes say, the run ends so at a step up to the limit, and leaves this guest
+-- from the state of the bytes, the run ends so at a step up to the limit, and leaves this guest
 pub record EndsWith (text : List ℕ) (limit : ℕ) (guest : GuestState) (why : RunEnd) : Type 0 where
   pub from : GuestState
   pub is : IsStateOf text from
@@ -129,15 +129,15 @@ pub record EndsWith (text : List ℕ) (limit : ℕ) (guest : GuestState) (why : 
   pub end : IsRunsEnd why
   pub ends : Runs from (limit - from.steps) why guest
 
--- it has no end at a step up to the limit
+-- the run from the state of the bytes does not end at a step up to the limit
 pub record GoesOnFrom (text : List ℕ) (limit : ℕ) : Type 0 where
   pub from : GuestState
   pub is : IsStateOf text from
   pub over : (limit ≤ from.steps) ⊎ (first_end from (limit - from.steps) ≡ None)
 
--- ---- all pieces together
+-- ---- all segments together
 
--- each text and the next one are a piece
+-- each text and the next one are a segment
 abbrev pub AreLinked : List ℕ → List (List ℕ) → Type 0
 AreLinked text [] = Unit {0}
 AreLinked text (next ∷ texts) = ((steps : ℕ) × ChecksPiece text next (segment.Yes steps)) × AreLinked next texts
@@ -146,7 +146,7 @@ abbrev pub last_text : List ℕ → List (List ℕ) → List ℕ
 last_text text [] = text
 last_text text (next ∷ texts) = last_text next texts
 
--- the whole run of a program with a box ends so, and first there, at the step after those that its last guest counts
+-- the whole run of a program in an execution context ends so and not before, at the step after those that its last guest counts
 pub record IsWholeRun (program : List ℕ) (setting : Setting) (guest : GuestState) (why : RunEnd) : Type 0 where
   pub begun : GuestState
   pub starts : start_of program setting ≡ Ok begun

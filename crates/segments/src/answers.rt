@@ -1,16 +1,16 @@
-//! What the checks answer. None of the faults is want of memory.
+//! The answers of the checks. No fault is out of memory.
 
 ghost use Rattle.std.specs.Prelude.{◌≡◌};
 ghost use Rattle.segments.specs.Faults.{state_fault_number};
 
 use elf_load::ElfRefusal;
 
-/// Why bytes are no text of a state. The form is judged first, then counts and ranges, then references.
+/// Why bytes are not the text of a state. The form is checked first, then counts and ranges, then references.
 #[derive(Clone, Copy, PartialEq, Eq)]
 pub enum StateFault {
-    /// The field that begins at this offset is the first that is wrong.
+    /// The field that begins at this offset is the first wrong one.
     Form(u64),
-    /// A count or a range is that of no guest.
+    /// A count or a range is not that of a guest.
     Range,
     /// A descriptor's file is missing, or a file has neither a name nor a descriptor.
     FileRef,
@@ -37,40 +37,40 @@ pub enum StartFault {
     BoxTooLarge,
 }
 
-/// Why two texts are no piece of a run.
+/// Why two texts are not a segment of a run.
 #[derive(Clone, Copy, PartialEq, Eq)]
 pub enum SegmentFault {
-    /// The former is no text of a state.
+    /// The first text is not the text of a state.
     From(StateFault),
-    /// The latter is none.
+    /// The second text is not the text of a state.
     To(StateFault),
-    /// The latter state has taken no more steps.
+    /// The second state has taken no more steps than the first.
     NotLater,
-    /// It has taken more than 2^48 steps more.
+    /// The second state has taken more than 2^48 steps more than the first.
     TooFar,
-    /// The run from the former state ends at this step, counted from the program's start.
+    /// The run from the first state ends at this step, counted from the program's start.
     EndsAt(u64),
-    /// The first offset at which the text of the state that is reached differs from that of the latter state.
+    /// The first offset at which the text of the reached state differs from that of the second state.
     Differs(u64),
 }
 
-/// What a check of two texts answers.
+/// The answer of a check of two texts.
 #[derive(Clone, Copy, PartialEq, Eq)]
 pub enum SegmentAnswer {
-    /// They are a piece of so many steps.
+    /// They are a segment of this many steps.
     Yes(u64),
     No(SegmentFault),
     OutOfMemory,
 }
 
-/// What a check of a first text answers.
+/// The answer of a check of a first text.
 #[derive(Clone, Copy, PartialEq, Eq)]
 pub enum StartAnswer {
     /// Its state is that of the program's start.
     Yes,
     Start(StartFault),
     NotState(StateFault),
-    /// The first offset at which the text of the program's start differs from that of its state.
+    /// The first offset at which the text of the program's start differs from that of the text's state.
     Differs(u64),
     OutOfMemory,
 }

@@ -1,4 +1,4 @@
-//! Two texts, and the first one.
+//! The checks of two texts and of the first one.
 
 ghost use Rattle.std.specs.Prelude.{◌≡◌, ◌<◌, ◌^◌, IfOk, None, Ok};
 ghost use Rattle.ddc_base.specs.Difference.{first_difference};
@@ -14,10 +14,10 @@ use ddc_base::{OutOfMemory, first_difference};
 use guest_run::{Guest, RunBox, RunEnd, RunRam, StartRefusal};
 use std::alloc::Global;
 
-/// The most steps of a piece: 2^48.
+/// The largest number of steps of a segment: 2^48.
 const MOST_STEPS: u64 = 281_474_976_710_656;
 
-/// Whether two texts are a piece of a run: the latter's state is reached from the former's by some steps, none of which ends the run.
+/// Checks that two texts are a segment of a run: one or more steps lead from the first state to the second, and none ends the run.
 pub fn check(alloc: Global, from: &[u8], to: &[u8]) -> SegmentAnswer
     ensures { ChecksPiece from.now to.now result }
 {
@@ -39,7 +39,7 @@ fn check_from(alloc: Global, guest: &mut Guest<RunRam>, from: &[u8], to: &[u8]) 
     }
 }
 
-/// The former guest goes on to the steps of the latter.
+/// Runs the first guest up to the steps of the second.
 fn check_to(
     alloc: Global,
     guest: &mut Guest<RunRam>,
@@ -72,7 +72,7 @@ fn check_to(
     }
 }
 
-/// The first offset at which the text of a guest's state differs from another.
+/// The first offset at which the text of a guest's state differs from another text; `None` if they are equal.
 fn difference(alloc: Global, guest: &Guest<RunRam>, text: &[u8]) -> Result<Option<u64>, OutOfMemory>
     ensures offset { IfOk result (λ offset. offset ≡ first_difference (second_text guest.now) text.now) }
     ensures none { IfOk result (λ offset. offset ≡ None → text.now ≡ second_text guest.now) }
@@ -84,7 +84,7 @@ fn difference(alloc: Global, guest: &Guest<RunRam>, text: &[u8]) -> Result<Optio
     Ok(first_difference(found.as_slice(), text))
 }
 
-/// Whether a text's state is that in which a program starts with this box.
+/// Checks that a text's state is the start of a program in this execution context (`RunBox`).
 pub fn check_start(alloc: Global, program: &[u8], setting: &RunBox, first: &[u8]) -> StartAnswer
     ensures { StartChecks program.now setting.now first.now result }
 {
@@ -97,7 +97,7 @@ pub fn check_start(alloc: Global, program: &[u8], setting: &RunBox, first: &[u8]
     }
 }
 
-/// The program's start beside the state of the first text.
+/// Compares the program's start with the state of the first text.
 fn check_first(
     alloc: Global,
     guest: &Guest<RunRam>,

@@ -1,4 +1,4 @@
-//! The last text.
+//! The check of the last text.
 
 ghost use Rattle.segments.specs.Ending.{EndChecks};
 ghost use Rattle.segments.specs.Segments.{IsStateOf};
@@ -8,18 +8,18 @@ use crate::reading::{Unread, guest_of};
 use guest_run::{Guest, RunEnd, RunRam};
 use std::alloc::Global;
 
-/// What a check of a last text answers.
+/// The answer of a check of a last text.
 #[derive(Drop)]
 pub enum EndAnswer {
     /// The guest before the end of its run, and the end: an exit, a trap or an unknown call.
     Ended(Guest<RunRam>, RunEnd),
     NotState(StateFault),
-    /// The run has no end at a step up to the limit.
+    /// The run does not end at a step up to the limit.
     Over,
     OutOfMemory,
 }
 
-/// How the run from a text's state ends, at a step up to the limit, counted from the program's start.
+/// Finds how the run from a text's state ends, at a step up to `limit` (included), counted from the program's start.
 pub fn check_end(alloc: Global, last: &[u8], limit: u64) -> EndAnswer
     ensures { EndChecks last.now limit result }
 {

@@ -1,5 +1,5 @@
-//! A run that is checked in pieces, each by itself and in any order. A piece is two texts of states, of which the latter's state is to be
-//! reached from the former's.
+//! Checks a run in segments, each by itself and in any order. A segment is two texts of states, and the run must lead from the first to
+//! the second.
 //!
 //! docs/reference/segments.md has the rules for a reader, and specs/Segments.antt the same for the prover.
 #![tactic(auto)]

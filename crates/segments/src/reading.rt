@@ -1,4 +1,4 @@
-//! Texts of states.
+//! Reads texts of states.
 
 ghost use Rattle.std.specs.Prelude.{Ok};
 ghost use Rattle.segments.specs.Inside.Recorded.{ReadBy, RecordedBy};
@@ -16,14 +16,14 @@ pub(crate) enum Unread {
     OutOfMemory,
 }
 
-/// A state that was read and is not kept: its steps, and its text of the second form.
+/// What is kept of a state that was read: its steps, and its text in format 2.
 #[derive(Drop)]
 pub(crate) struct Recorded {
     pub(crate) steps: u64,
     pub(crate) text: Bytes,
 }
 
-/// The guest whose state the text says.
+/// Reads the guest of a text.
 pub(crate) fn guest_of(alloc: Global, text: &[u8]) -> Result<Guest<RunRam>, Unread>
     ensures { ReadBy text.now result }
 {
@@ -36,7 +36,7 @@ pub(crate) fn guest_of(alloc: Global, text: &[u8]) -> Result<Guest<RunRam>, Unre
     }
 }
 
-/// What is kept of the state that a text says.
+/// Reads a text and keeps the steps and the text of its state.
 pub(crate) fn recorded_by(alloc: Global, text: &[u8]) -> Result<Recorded, Unread>
     ensures { RecordedBy text.now result }
 {

@@ -1,3 +1,3 @@
--- How the parts of files are seen, and their rules as tests. It serves the code and the proofs: no promise rests on this file being read.
+-- How the parts of files are seen, and their rules as tests. No promise depends on it.
 pub mod Judged
 pub mod Views

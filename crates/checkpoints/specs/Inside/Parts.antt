@@ -1,4 +1,4 @@
--- What becomes of the reservation, of the memory and of the files that a text says, each by itself.
+-- The results for the reservation, the memory and the files of a parsed text, each by itself.
 use Rattle.std.specs.Prelude.{◌≡◌, ℕ, Option, Result, Ok, Err}
 use Rattle.mem_files.specs.Lists.{AreInRange, AreJoined, FileLists, world_of}
 use Rattle.mem_files.specs.World.{World}
@@ -15,13 +15,13 @@ RefusesReservation reservation restored.Range = ¬ (IsReservation reservation)
 RefusesReservation reservation restored.FileRef = ⊥
 RefusesReservation reservation restored.OutOfMemory = ⊥
 
--- why there is no memory; want of memory comes only where the runs can be mapped
+-- why there is no memory; memory of the host runs out only if the runs can be mapped
 abbrev pub RefusesMemory : StateText → RestoreRefusal → Type 0
 RefusesMemory s restored.Range = ¬ (IsInMemory s)
 RefusesMemory s restored.FileRef = ⊥
 RefusesMemory s restored.OutOfMemory = AreMappable s.runs
 
--- what becomes of the files that a text says; want of memory says nothing of them
+-- the result for the files of a parsed text; out of memory says nothing of them
 abbrev pub MakesFiles : FileLists → Result World RestoreRefusal → Type 0
 MakesFiles lists (Ok made) = AreInRange lists × AreJoined lists × (made ≡ world_of lists)
 MakesFiles lists (Err restored.Range) = ¬ (AreInRange lists)

@@ -1,4 +1,5 @@
--- The rules of what a text says, as tests that compute. They are the rules (proofs/Decided.antt), so no promise rests on this file being read.
+-- The rules of a parsed text, as tests that compute. proofs/Decided.antt shows that they are the rules, so no promise depends on this
+-- file.
 use Rattle.std.specs.Prelude.{ℕ, zero, suc, ◌+◌, ◌-◌, ◌*◌, ◌%◌, ◌^◌, Bool, true, not, ◌&&◌, ◌||◌, ◌==◌, nat_le, nat_lt, is_none, Option, None, Some, List, [], ◌∷◌, length, map, sum_by}
 use Rattle.std.specs.FinMap.{get}
 use Rattle.std.specs.List.{list_all}

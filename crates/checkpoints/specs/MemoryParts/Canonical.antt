@@ -9,14 +9,14 @@ use Rattle.save_format.specs.ByteFields.Spelling.{InTurn}
 abbrev pub is_mapped : Memory → ℕ → Bool
 is_mapped m page = contains_key m (4096 * page)
 
--- a mapped page with the runs after it: it begins the first of them where that follows at once
+-- a mapped page in front of runs: it begins the first run if that follows at once
 abbrev pub with_page : ℕ → List Run → List Run
 with_page page [] = record { first = page; pages = 1 } ∷ []
 with_page page (run ∷ runs) =
     if run.first == page + 1 then record { first = page; pages = run.pages + 1 } ∷ runs
     else record { first = page; pages = 1 } ∷ (run ∷ runs)
 
--- the runs of mapped pages among so many pages
+-- the runs of mapped pages among `count` pages from `page` on
 unfoldable pub runs_from : (ℕ → Bool) → ℕ → ℕ → List Run
 runs_from mapped page zero = []
 runs_from mapped page (suc count) = if mapped page then with_page page (runs_from mapped (page + 1) count) else runs_from mapped (page + 1) count
@@ -36,14 +36,14 @@ runs_of m = runs_from (is_mapped m) 0 (2 ^ 26)
 abbrev pub pages_of : Memory → List PageText
 pages_of m = page_texts_from m 0 (2 ^ 26)
 
--- ---- the memory that runs and pages say
+-- ---- the memory of runs and pages
 
--- the memory with these runs mapped one after the other, all zeros
+-- the memory with these runs mapped in order, filled with zeros
 unfoldable pub mapped_runs : Memory → List Run → Memory
 mapped_runs m [] = m
 mapped_runs m (run ∷ runs) = mapped_runs (with_bytes m (4096 * run.first) (zeros (4096 * run.pages))) runs
 
--- the memory with these pages written over it
+-- the memory with these pages written into it
 unfoldable pub with_pages : Memory → List PageText → Memory
 with_pages m [] = m
 with_pages m (page ∷ pages) = with_bytes (with_pages m pages) (4096 * page.number) page.bytes
@@ -57,7 +57,7 @@ pub record IsNextRun (least : ℕ) (run : Run) : Type 0 where
 abbrev pub ArePlaced : ℕ → List Run → Type 0
 ArePlaced least runs = InTurn IsNextRun after_run least runs
 
--- a page after the earlier ones, whole and not all zero
+-- a whole page after the earlier ones, not all zero
 pub record IsShown (least : ℕ) (page : PageText) : Type 0 where
   pub from : least ≤ page.number
   pub low : page.number < 2 ^ 26

@@ -1,2 +1,2 @@
--- What serves the proofs. No promise rests on this file being read.
+-- Definitions for the proofs. No promise depends on them.
 pub mod Zeros

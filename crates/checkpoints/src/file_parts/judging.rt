@@ -1,4 +1,4 @@
-//! Whether parts keep the rules of files.
+//! Whether parts obey the rules of files.
 
 ghost use Rattle.std.specs.Prelude.{◌≡◌, ◌+◌, ◌-◌, ◌≤◌, ◌==◌, ℕ, List, SomeIff, nat_le, map, length, sum_by, count_by, is_some};
 ghost use Rattle.std.specs.List.{list_all, list_any};
@@ -14,10 +14,10 @@ use mem_files::{
     FileView, MAX_CONTENT, MAX_NAMES, MAX_OPEN_FILES, MAX_TOTAL, OpenFile, is_stripped_name,
 };
 
-/// A file has a name or a descriptor, so its number is below the most of both together.
+/// File numbers are below this: each file has a name or a descriptor, and this is the most of both together.
 const MAX_FILES: u32 = 5_120;
 
-/// May a file have this name, or none?
+/// Whether a file may have this name, or no name.
 fn is_good_name(name: Option<&[u8]>) -> bool
     ensures { result ≡ is_good_name (option_copied name.entry) }
 {
@@ -69,7 +69,7 @@ fn are_good_streams(streams: &[&[u8]]) -> bool
         .all(|stream| stream.len() as u64 <= MAX_CONTENT)
 }
 
-/// Are there no more names than there may be?
+/// Whether the number of names is within its limit.
 fn are_few_names(files: &[FileView<'_>]) -> bool
     ensures { result ≡ nat_le (count_by (λ file. is_some file.name) files.now) most_names }
 {
@@ -77,7 +77,7 @@ fn are_few_names(files: &[FileView<'_>]) -> bool
     names <= MAX_NAMES
 }
 
-/// What is left of so many bytes after all contents; `None` where they are too many.
+/// What is left of `most` bytes after all contents; `None` if they have more.
 fn left_after_files(files: &[FileView<'_>], most: u64) -> Option<u64>
     ensures { SomeIff result (sum_by content_size files.now ≤ most) (most - sum_by content_size files.now) }
 {
@@ -106,7 +106,7 @@ fn left_after_streams(streams: &[&[u8]], most: u64) -> Option<u64>
     Some(left)
 }
 
-/// Are all bytes together no more than there may be?
+/// Whether all bytes together are within their limit.
 fn is_small(files: &[FileView<'_>], streams: &[&[u8]]) -> bool
     ensures { result ≡ nat_le (sum_by stream_size streams.now + sum_by content_size files.now) most_total }
 {
@@ -116,7 +116,7 @@ fn is_small(files: &[FileView<'_>], streams: &[&[u8]]) -> bool
     }
 }
 
-/// Is this the name of a file?
+/// Whether this is the name of a file.
 fn is_called(name: &[u8], file: &FileView<'_>) -> bool
     ensures { result ≡ is_called name.now (listed file.now).name }
 {
@@ -126,7 +126,7 @@ fn is_called(name: &[u8], file: &FileView<'_>) -> bool
     }
 }
 
-/// Does one of these files have this name, if it is one?
+/// Whether one of these files has this name; `false` without a name.
 fn is_taken(name: Option<&[u8]>, files: &[FileView<'_>]) -> bool
     ensures { result ≡ is_taken (option_copied name.entry) (map listed files.now) }
 {
@@ -136,14 +136,14 @@ fn is_taken(name: Option<&[u8]>, files: &[FileView<'_>]) -> bool
     }
 }
 
-/// Does one of these files have this name?
+/// Whether one of these files has this name.
 fn has_name(name: &[u8], files: &[FileView<'_>]) -> bool
     ensures { result ≡ list_any (λ file. is_called name.now (listed file).name) files.now }
 {
     files.iter().any(|file| is_called(name, file))
 }
 
-/// Are the names distinct?
+/// Whether the names are distinct.
 fn have_own_names(files: &[FileView<'_>]) -> bool
     ensures { result ≡ have_own_names (map listed files.now) }
 {
@@ -157,14 +157,14 @@ fn have_own_names(files: &[FileView<'_>]) -> bool
     true
 }
 
-/// Is a file among these?
+/// Whether a file with this number is among these.
 fn is_number_listed(files: &[FileView<'_>], number: u32) -> bool
     ensures { result ≡ list_any (λ file. file.number == number) files.now }
 {
     files.iter().any(|file| file.number == number)
 }
 
-/// Is the file that a descriptor stands for among these?
+/// Whether the file that a descriptor stands for is among these.
 fn is_listed(files: &[FileView<'_>], open_file: OpenFile) -> bool
     ensures { result ≡ is_listed (map listed files.now) open_file }
 {
@@ -176,7 +176,7 @@ fn is_listed(files: &[FileView<'_>], open_file: OpenFile) -> bool
     }
 }
 
-/// Does what a descriptor stands for have this file number?
+/// Whether a descriptor stands for the file with this number.
 fn is_of(number: u32, open_file: OpenFile) -> bool
     ensures { result ≡ is_of number open_file }
 {
@@ -188,7 +188,7 @@ fn is_of(number: u32, open_file: OpenFile) -> bool
     }
 }
 
-/// Does one of these descriptors stand for a file?
+/// Whether one of these descriptors stands for the file with this number.
 fn is_open(open_files: &[(u32, OpenFile)], number: u32) -> bool
     ensures { result ≡ list_any (λ held. is_of number held.1) open_files.now }
 {
@@ -197,7 +197,7 @@ fn is_open(open_files: &[(u32, OpenFile)], number: u32) -> bool
         .any(|(_, open_file)| is_of(number, *open_file))
 }
 
-/// Does a file have a name, or one of these descriptors?
+/// Whether a file has a name or one of these descriptors.
 fn is_used(open_files: &[(u32, OpenFile)], file: &FileView<'_>) -> bool
     ensures { result ≡ is_used open_files.now (listed file.now) }
 {
@@ -218,7 +218,7 @@ fn are_all_used(files: &[FileView<'_>], open_files: &[(u32, OpenFile)]) -> bool
     files.iter().all(|file| is_used(open_files, file))
 }
 
-/// Do counts and ranges allow these?
+/// Whether counts and ranges are right.
 #[tactic(auto, using(crate::proofs::FilePartsLemmas::Tests::all_map, crate::proofs::FilePartsLemmas::Tests::sum_map, crate::proofs::FilePartsLemmas::Tests::names_count), unfolding(crate::specs::FileParts::Inside::Judged::in_range))]
 pub(crate) fn are_in_range(
     files: &[FileView<'_>],
@@ -235,7 +235,7 @@ pub(crate) fn are_in_range(
         && have_own_names(files)
 }
 
-/// Do references?
+/// Whether references are right.
 #[tactic(auto, using(crate::proofs::FilePartsLemmas::Tests::all_map), unfolding(crate::specs::FileParts::Inside::Judged::are_joined))]
 pub(crate) fn are_joined(files: &[FileView<'_>], open_files: &[(u32, OpenFile)]) -> bool
     ensures { (streams : List (Bor (List ℕ))) → result ≡ are_joined (view_of files.now open_files.now streams) }

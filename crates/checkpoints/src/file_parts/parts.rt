@@ -1,4 +1,4 @@
-//! Files, descriptors and streams in lists that grow.
+//! Lists of files, descriptors and streams that grow.
 
 ghost use Rattle.std.specs.Prelude.{◌≡◌, ◌<◌, ◌++◌, ◌∷◌, [], IfOk, IfSome, IsTrue, OnErr, OnOk, ◌↔◌, length};
 ghost use Rattle.mem_files.specs.Lists.{AreInRange, AreJoined, world_of};
@@ -12,10 +12,10 @@ use mem_files::{FileView, Files, OpenFile};
 use std::alloc::Global;
 use std::marker::Model;
 
-/// The parts of which files are made: files and descriptors, ascending, and the contents of the streams. Names and contents
-/// are borrowed.
+/// The parts of which files are made: files and descriptors in ascending order, and the contents of the streams. Names and contents are
+/// borrowed.
 ///
-/// Seen as three lists.
+/// Contracts see three lists.
 #[derive(Drop)]
 pub struct FileParts<'a> {
     files: Vec<FileView<'a>>,
@@ -37,7 +37,7 @@ impl<'a> Model for FileParts<'a> {
 }
 
 impl<'a> FileParts<'a> {
-    /// No file, no descriptor and no stream.
+    /// Parts without files, descriptors and streams.
     pub fn new(alloc: Global) -> FileParts<'a>
         ensures { result ≡ record { files = []; open_files = []; streams = [] } }
     {
@@ -48,21 +48,21 @@ impl<'a> FileParts<'a> {
         }
     }
 
-    /// Whether names, numbers, lengths, counts and descriptors are those of files.
+    /// Whether names, numbers, lengths, counts and descriptors are allowed for files.
     pub(crate) fn is_in_range(&self) -> bool
         ensures { IsTrue result ↔ AreInRange self.now }
     {
         are_in_range(&self.files, &self.open_files, &self.streams)
     }
 
-    /// Whether each descriptor's file is there, and each file has a name or a descriptor.
+    /// Whether each descriptor's file exists, and each file has a name or a descriptor.
     pub(crate) fn is_joined(&self) -> bool
         ensures { IsTrue result ↔ AreJoined self.now }
     {
         are_joined(&self.files, &self.open_files)
     }
 
-    /// The files, where the parts keep the rules.
+    /// The files of these parts, which must obey the rules. Error: out of memory.
     pub(crate) fn files(&self, alloc: Global) -> Result<Files, OutOfMemory>
         requires streams { length self.now.streams ≡ 2 }
         requires within { AreInRange self.now }
@@ -78,7 +78,7 @@ impl<'a> FileParts<'a> {
         )
     }
 
-    /// Adds a file, whose number is above all earlier ones.
+    /// Adds a file, whose number must be above all earlier ones. Error: out of memory; the parts are unchanged.
     pub fn push_file(
         &mut self,
         number: u32,
@@ -101,7 +101,7 @@ impl<'a> FileParts<'a> {
         Ok(())
     }
 
-    /// Adds a descriptor, which is above all earlier ones, with what it stands for.
+    /// Adds a descriptor, which must be above all earlier ones, and what it stands for. Error: out of memory; the parts are unchanged.
     pub fn push_open_file(&mut self, fd: u32, open_file: OpenFile) -> Result<(), OutOfMemory>
         requires { All (λ held. held.0 < fd) self.old.open_files }
         ensures ok { OnOk result (self.new ≡ record self.old { open_files = self.old.open_files ++ (fd, open_file) ∷ [] }) }
@@ -111,7 +111,7 @@ impl<'a> FileParts<'a> {
         Ok(())
     }
 
-    /// Adds the content of a stream, where there are fewer than two.
+    /// Adds the content of a stream; there must be fewer than two. Error: out of memory; the parts are unchanged.
     pub fn push_stream(&mut self, content: &'a [u8]) -> Result<(), OutOfMemory>
         requires { length self.old.streams < 2 }
         ensures ok { OnOk result (self.new ≡ record self.old { streams = self.old.streams ++ content.now ∷ [] }) }
@@ -122,7 +122,7 @@ impl<'a> FileParts<'a> {
     }
 }
 
-/// Shows that the items of a name, where there is one, are numbers below 256.
+/// Shows that a name, if there is one, consists of numbers below 256.
 fn show_name_bytes(name: Option<&[u8]>)
     ensures { IfSome (option_copied name.entry) AreBytes }
 {

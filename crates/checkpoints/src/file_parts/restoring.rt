@@ -1,4 +1,4 @@
-//! Files made of parts.
+//! Makes files from parts.
 
 ghost use Rattle.std.specs.Prelude.{◌≡◌, length};
 ghost use Rattle.checkpoints.specs.FileParts.Restored.{Restores};
@@ -8,14 +8,14 @@ use ddc_base::OutOfMemory;
 use mem_files::Files;
 use std::alloc::Global;
 
-/// Why parts are no files.
+/// Why parts do not make files.
 #[derive(Clone, Copy, Debug, PartialEq, Eq)]
 pub enum RestoreRefusal {
-    /// A name, a number, a length, a count or a descriptor that no files have.
+    /// A name, a number, a length, a count or a descriptor is not allowed for files.
     Range,
-    /// A descriptor whose file is not there, or a file with neither a name nor a descriptor.
+    /// A descriptor's file does not exist, or a file has neither a name nor a descriptor.
     FileRef,
-    /// Want of memory of this process.
+    /// This process is out of memory.
     OutOfMemory,
 }
 
@@ -29,7 +29,7 @@ impl From<OutOfMemory> for RestoreRefusal {
     }
 }
 
-/// The files of these parts.
+/// Makes files from these parts.
 pub fn restore(alloc: Global, parts: &FileParts<'_>) -> Result<Files, RestoreRefusal>
     requires { length parts.now.streams ≡ 2 }
     ensures { Restores parts.now result }

@@ -1,4 +1,4 @@
-//! What a memory has.
+//! The runs and pages of a memory.
 
 ghost use Rattle.std.specs.Prelude.{◌≡◌, ◌≤◌, ◌+◌, ◌*◌, ◌^◌, ◌==◌, ◌++◌, ◌∷◌, [], map, IfOk, OnOk, MatchOption};
 ghost use Rattle.std.specs.List.{list_all};
@@ -11,7 +11,7 @@ use paged_mem::{PAGE, PageView, Ram};
 use save_format::state_text::{Page, Run};
 use std::alloc::Global;
 
-/// The runs of mapped pages, ascending, as few as there can be.
+/// The runs of mapped pages, ascending and as few as possible. Error: out of memory.
 pub fn runs<R: Ram>(alloc: Global, ram: &R) -> Result<Vec<Run>, OutOfMemory>
     ensures { IfOk result (λ v. v.items ≡ runs_of (R.bytes ram.now)) }
 {
@@ -27,7 +27,7 @@ pub fn runs<R: Ram>(alloc: Global, ram: &R) -> Result<Vec<Run>, OutOfMemory>
     Ok(found)
 }
 
-/// The pages that are not all zeros, ascending. Their bytes are borrowed.
+/// The pages that are not all zeros, ascending. Their bytes are borrowed. Error: out of memory.
 pub fn pages<R: Ram>(alloc: Global, ram: &R) -> Result<Vec<Page<'_>>, OutOfMemory>
     ensures { IfOk result (λ v. map page_view v.items ≡ pages_of (R.bytes ram.now)) }
 {
@@ -40,7 +40,7 @@ pub fn pages<R: Ram>(alloc: Global, ram: &R) -> Result<Vec<Page<'_>>, OutOfMemor
     Ok(found)
 }
 
-/// Adds those of so many pages that are listed.
+/// Adds the listed ones among `count` pages from `first` on.
 fn push_pages<'a, R: Ram>(
     ram: &'a R,
     first: u64,
@@ -59,7 +59,7 @@ fn push_pages<'a, R: Ram>(
     Ok(())
 }
 
-/// The bytes of a page that is listed.
+/// The bytes of a page, if it is listed.
 fn listed_bytes<R: Ram>(ram: &R, number: u32) -> Option<&[u8]>
     ensures { MatchOption result (listed_page number (bytes_at (R.bytes ram.now) (4096 * number) 4096) ≡ [])
         (λ bytes. listed_page number (bytes_at (R.bytes ram.now) (4096 * number) 4096) ≡ record { number = number; bytes = bytes.now } ∷ []) }

@@ -11,7 +11,7 @@ use paged_mem::{PAGE, Ram, StoreRefusal};
 use save_format::state_text::{Page, Run};
 use std::alloc::Global;
 
-/// A memory with the pages of these runs, all zeros.
+/// A memory with the pages of these runs, filled with zeros. Error: out of memory.
 pub fn map_runs<R: Ram>(alloc: Global, runs: &[Run]) -> Result<R, OutOfMemory>
     requires { ArePlaced 0 runs.now }
     ensures { IfOk result (λ ram. R.bytes ram ≡ mapped_runs finite.empty runs.now) }
@@ -36,11 +36,12 @@ pub fn are_mapped<R: Ram>(ram: &R, pages: &[Page<'_>]) -> bool
         .all(|page| ram.mapped(PAGE * u64::from(page.number), PAGE))
 }
 
-/// Writes the bytes of pages that are mapped. Want of memory leaves the first so many of them written, and no part of another.
+/// Writes the bytes of pages, which must be mapped. Error: out of memory; then some first pages are written whole, and no part of
+/// another.
 pub fn fill_pages<R: Ram>(ram: &mut R, pages: &[Page<'_>]) -> Result<(), OutOfMemory>
     requires mapped { All (λ page. IsTrue (maps (R.bytes ram.old) (4096 * page.number) 4096)) pages.now }
     requires full { All (λ page. length page.bytes.now ≡ 4096) pages.now }
-    // Where two of them are one page, the later one stands.
+    // If two of them are the same page, the later one counts.
     ensures ok { OnOk result (R.bytes ram.new ≡ with_pages (R.bytes ram.old) (reverse (map page_view pages.now))) }
     ensures err { OnErr result ((count : ℕ) × (R.bytes ram.new ≡ with_pages (R.bytes ram.old) (reverse (map page_view (take count pages.now))))) }
 {

@@ -1,4 +1,4 @@
--- A heap's numbers in their bounds, whatever memory it stands in, and what a text takes of the stack.
+-- The bounds of a heap's numbers, for any memory, and the stack space of a text.
 use Rattle.std.specs.Prelude.{◌≡◌, ℕ, ◌+◌, ◌-◌, ◌%◌, ◌^◌, ◌≤◌, List, length}
 use Rattle.linux_calls.specs.declared.Heap.{Heap}
 
@@ -9,6 +9,6 @@ pub record HasBounds (heap : Heap) : Type 0 where
   pub to : heap.now ≤ heap.first + heap.limit
   pub low : heap.first + heap.limit ≤ 2 ^ 38 - 8388608
 
--- what a text takes of a program's stack: its bytes, its zero byte and its address
+-- the bytes that a text takes of a program's stack: its own, its zero byte and its address
 abbrev pub cost : List ℕ → ℕ
 cost text = length text + 9

@@ -1,4 +1,4 @@
--- How the prover stores what contracts see of a guest, of a box and of its files: a crate above that stores one names it.
+-- How the prover stores the model of a guest, of an execution context and of its files. A crate above that stores one names it.
 use Rattle.std.specs.Prelude.{ℕ, List, refl}
 use Rattle.std.specs.FinMap as map
 use Rattle.std.specs.Coded.{Coded, code_by, coded×, coded_ℕ, coded_list}

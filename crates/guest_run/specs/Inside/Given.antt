@@ -1,11 +1,11 @@
--- The files of a box as a list.
+-- The files of an execution context as a list.
 use Rattle.std.specs.Prelude.{◌≡◌, ℕ, ◌*◌, ◌≤◌, IsTrue, List, length, All, sum_by}
 use Rattle.std.specs.FinMap as map
 use Rattle.mem_files.specs.Limits.{most_content, most_names}
 use Rattle.mem_files.specs.Names.{bytes_cmp}
 use Rattle.guest_run.specs.Setting.{file_size, IsBoxFile}
 
--- files in the order of their names, with `size` bytes together
+-- files in the order of their names, of `size` bytes together
 pub record IsGiven (files : List (List ℕ × List ℕ)) (size : ℕ) : Type 0 where
   pub sorted : IsTrue (map.is_sorted bytes_cmp files)
   pub each : All IsBoxFile files

@@ -1,16 +1,16 @@
--- A stretch of steps, which is how the code takes them; no promise rests on its being read.
+-- A stretch of steps, the unit in which the code takes them. No promise depends on this file.
 use Rattle.std.specs.Prelude.{◌≡◌, ℕ, ◌+◌, ◌<◌, Option, Some}
 use Rattle.guest_run.specs.declared.run.RunEnd.{RunEnd}
 use Rattle.guest_run.specs.Run.{after, Steps}
 use Rattle.guest_run.specs.State.{GuestState}
 use Rattle.guest_run.specs.Travels.{travel}
 
--- so many steps lead from one state to another and come to no stop: going on from either comes to the same
+-- `count` steps lead from one state to another without a stop, and both states continue to the same result
 pub record Leads (stop : Option ℕ) (old last : GuestState) (count : ℕ) : Type 0 where
   pub reached : after old count ≡ Some last
   pub same : (left : ℕ) → travel stop old (count + left) ≡ travel stop last left
 
--- fewer steps than so many, which come to no stop, and then one that answers this
+-- fewer than `most` steps without a stop, and then one step with this answer
 pub record Stretches (stop : Option ℕ) (old : GuestState) (most : ℕ) (end : Option RunEnd) (new : GuestState) : Type 0 where
   pub count : ℕ
   pub last : GuestState

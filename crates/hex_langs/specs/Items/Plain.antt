@@ -5,7 +5,7 @@ use Rattle.hex.specs.Hex.{is_hex_digit}
 use Rattle.hex_langs.specs.Hex0.{begins_comment, lines_of}
 use Rattle.hex_langs.specs.Items.Tokens.{is_blank}
 
--- up to its comment a line has digits and blanks alone
+-- a line has only digits and blanks before its comment
 abbrev pub is_plain_line : List ℕ → Bool
 is_plain_line line = list_all (λ byte. is_hex_digit byte || is_blank byte) (before_first begins_comment line)
 

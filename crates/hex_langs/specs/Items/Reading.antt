@@ -1,6 +1,6 @@
 -- A source of hex1 or hex2 read from left to right: its tokens, their items, and the first refusal. Public source: the languages of these
--- names of stage0-posix and mescc-tools, whose exact rules here are this project's profile. docs/reference/hex1.md and hex2.md say the same for
--- people.
+-- names of stage0-posix and mescc-tools, whose exact rules here are this project's profile. docs/reference/hex1.md and hex2.md say the
+-- same for people.
 use Rattle.std.specs.Prelude.{◌≡◌, ℕ, zero, suc, ◌+◌, ◌-◌, nat_lt, if◌then◌else◌, List, [], ◌∷◌, ◌++◌, length, Option, Some, None, Result, Ok, Err}
 use Rattle.hex_langs.specs.declared.items.item.Item.{Item}
 use Rattle.hex_langs.specs.declared.items.token.Dialect.{Dialect}
@@ -15,13 +15,13 @@ use Rattle.hex_langs.specs.declared.items.reader.HexRefusal.TheVariants.{OddDigi
 use Rattle.hex_langs.specs.Items.Tokens.{opens_gap, gap_length, token_at}
 use Rattle.hex_langs.specs.Items.Words.{taken, Step}
 
--- the tokens of a source with their offsets, up to its end or to the first place that has no token
+-- the tokens of a source with their offsets, up to its end or the first offset without a token
 pub data Reading (F : Type 0) : Type 0 where
   NoToken : Reading F
   Faulty : (why : F) (at : ℕ) → Reading F
   Then : (at : ℕ) (token : Token) (later : Reading F) → Reading F
 
--- what stands from an offset on, of which the first bytes belong to a token or gap that is already read
+-- the tokens from offset `at` on; the first `inside` bytes belong to a token or gap that is already read
 unfoldable pub reading : Dialect → ℕ → ℕ → List ℕ → Reading TokenFault
 reading dialect at inside [] = NoToken
 reading dialect at (suc inside) (byte ∷ remaining) = reading dialect (at + 1) inside remaining
@@ -32,7 +32,7 @@ reading dialect at zero (byte ∷ remaining) =
       | Err why ↦ Faulty why at
     ]
 
--- how it ends
+-- how the items end: complete, at a token that is not taken, or at an offset without a token
 pub data Ending (F : Type 0) : Type 0 where
   Whole : Ending F
   Halted : Halt → Ending F
@@ -46,23 +46,23 @@ pub record Formed (F : Type 0) : Type 0 where
 abbrev pub with_front : {F : Type 0} → List Item → Formed F → Formed F
 with_front front formed = record { items = front ++ formed.items; end = formed.end }
 
--- a word that is open at the end isn't whole
+-- a word that is open at the end is not complete
 abbrev pub word_end : {F : Type 0} → Option Open → Ending F
 word_end None = Whole
 word_end (Some word) = Halted (halt.Dangling word.first)
 
--- after one step: the items that it forms and what the rest gives, or no more
+-- the items that a step forms, and those of the rest; after a refusal, no more
 abbrev pub after_step : {F : Type 0} → Step → (Option Open → Formed F) → Formed F
 after_step (Ok step) rest = with_front step.0 (rest step.1)
 after_step (Err why) rest = record { items = []; end = Halted why }
 
--- the items of tokens, after an open word or none
+-- the items of tokens, with or without an open word before them
 abbrev pub formed : {F : Type 0} → Option Open → Reading F → Formed F
 formed word NoToken = record { items = []; end = word_end word }
 formed word (Faulty why at) = record { items = []; end = Faulted why at }
 formed word (Then at token later) = after_step (taken word at token) (λ next. formed next later)
 
--- the refusal of a token without a place, and of a place without a token
+-- the refusal of a token that is not taken, and of an offset without a token
 abbrev pub halted : Halt → HexRefusal
 halted (halt.Dangling first) = Dangling first
 halted (halt.Second at) = BadField at
@@ -78,7 +78,7 @@ answer items Whole = Ok items
 answer items (Halted why) = Err (halted why)
 answer items (Faulted why at) = Err (fault_at why at)
 
--- more items than a list may have are refused where the first one too many would be formed
+-- `TooLong` if the items before the end or the first refusal are more than 33,554,432
 abbrev pub limited_items : Formed TokenFault → Result (List Item) HexRefusal
 limited_items formed = if nat_lt 33554432 (length formed.items) then Err TooLong else answer formed.items formed.end
 
@@ -88,7 +88,7 @@ items_of dialect source =
     if nat_lt 67108864 (length source) then Err TooLong
     else limited_items (formed None (reading dialect 0 0 source))
 
--- what a reader answers: this, or want of memory
+-- the answer of a reader: this result, or out of memory
 abbrev pub ReadsItems : Result (List Item) HexRefusal → Result (List Item) HexRefusal → Type 0
 ReadsItems meant (Err OutOfMemory) = Unit {0}
 ReadsItems meant result = meant ≡ result

@@ -1,4 +1,4 @@
--- The number of a refusal and its place, as a command prints them. docs/reference/hex2.md says the same for people.
+-- The number of a refusal, and its byte offset or item number, as a command prints them. docs/reference/hex2.md says the same for people.
 use Rattle.std.specs.Prelude.{ℕ}
 use Rattle.hex_langs.specs.declared.items.reader.HexRefusal.{HexRefusal}
 use Rattle.hex_langs.specs.declared.items.reader.HexRefusal.TheVariants.{OddDigits, BadField, Dangling, DoubleLabel, NoLabel, OutOfReach, TooLong, OutOfMemory}
@@ -13,7 +13,7 @@ hex_refusal_number (OutOfReach index) = 6
 hex_refusal_number TooLong = 7
 hex_refusal_number OutOfMemory = 8
 
--- the offset of a byte of the source, or the number of an item; 0 where there is none
+-- the offset of a byte of the source, or the number of an item; 0 without either
 abbrev pub hex_refusal_place : HexRefusal → ℕ
 hex_refusal_place (OddDigits at) = at
 hex_refusal_place (BadField at) = at

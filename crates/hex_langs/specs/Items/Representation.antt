@@ -1,2 +1,2 @@
--- What serves the way items lie in memory. No promise rests on its being read.
+-- How items lie in memory. No promise depends on it.
 pub mod Packed

@@ -20,7 +20,7 @@ use Rattle.hex_langs.specs.declared.items.token.Token.TheVariants.{Byte, Field, 
 abbrev pub is_blank : ℕ → Bool
 is_blank byte = byte == 32 || byte == 9 || byte == 10 || byte == 13
 
--- how many bytes of blanks and comments stand at the front; `true`: the front lies in a comment, which runs up to and over the next LF
+-- the number of bytes of blanks and comments at the front. `true`: the front is in a comment, which ends with the next LF
 abbrev pub gap_from : Bool → List ℕ → ℕ
 gap_from in_comment [] = 0
 gap_from true (byte ∷ remaining) = suc (gap_from (not (byte == 10)) remaining)
@@ -39,12 +39,12 @@ opens_gap byte = is_blank byte || begins_comment byte
 abbrev pub ends_name : ℕ → Bool
 ends_name byte = is_blank byte || byte == 62
 
--- a name of hex1 is the one next byte, which is no blank
+-- a name of hex1 is the next byte, unless that is a blank
 abbrev pub one_byte : List ℕ → ℕ
 one_byte [] = 0
 one_byte (byte ∷ remaining) = if is_blank byte then 0 else 1
 
--- how many bytes the name at the front has; 0: there is none
+-- the number of bytes of the name at the front; 0 if there is no name
 unfoldable pub name_length : Dialect → List ℕ → ℕ
 name_length Hex1 remaining = one_byte remaining
 name_length Hex2 remaining = position_or_len ends_name remaining
@@ -54,7 +54,7 @@ abbrev pub byte_of : Option ℕ → Option ℕ → Option ℕ
 byte_of (Some high) (Some low) = Some (16 * high + low)
 byte_of _ _ = None
 
--- a byte's second digit, past blanks and comments
+-- the second digit of a byte, after blanks and comments
 abbrev pub low_digit : List ℕ → Option ℕ
 low_digit [] = None
 low_digit (byte ∷ remaining) = hex_digit_value byte
@@ -66,7 +66,7 @@ pair_with gap None = Err OddDigits
 unfoldable pub pair_at : ℕ → List ℕ → Result (Token × ℕ) TokenFault
 pair_at digit remaining = pair_with (gap_length remaining) (byte_of (hex_digit_value digit) (low_digit (drop (gap_length remaining) remaining)))
 
--- the byte of the digits at a place and after it
+-- the byte of the digits at an index and after it
 abbrev pub byte_at : List ℕ → ℕ → Option ℕ
 byte_at remaining place = byte_of (hex_digit_value (slice_index remaining place)) (hex_digit_value (slice_index remaining (place + 1)))
 
@@ -74,13 +74,13 @@ abbrev pub field_of : Option ℕ → Option ℕ → Option ℕ → Option ℕ �
 field_of (Some a) (Some b) (Some c) (Some d) = Ok (Field (from_le_bytes w32 (a ∷ b ∷ c ∷ d ∷ [])), 8)
 field_of _ _ _ _ = Err BadField
 
--- after `.` at once 8 digits
+-- a field after `.`: 8 digits that follow at once
 unfoldable pub field_at : List ℕ → Result (Token × ℕ) TokenFault
 field_at remaining =
     if nat_lt (length remaining) 8 then Err BadField
     else field_of (byte_at remaining 0) (byte_at remaining 2) (byte_at remaining 4) (byte_at remaining 6)
 
--- after a sign at once a name
+-- a sign and the name that follows at once
 abbrev pub named_by : (List ℕ → Token) → ℕ → List ℕ → Result (Token × ℕ) TokenFault
 named_by make size remaining = if size == 0 then Err BadField else Ok (make (take size remaining), size)
 
@@ -90,7 +90,7 @@ sign_token sign.Label name = Alone (item.Label name)
 sign_token sign.Absolute name = Alone (item.Abs name)
 sign_token (sign.Reference kind) name = Reference kind name
 
--- after `%` a name, and in hex2 perhaps `>` and a second one
+-- after `%` a name and, in hex2, optionally `>` and a second one
 abbrev pub second_name : ℕ → ℕ → List ℕ → Result (Token × ℕ) TokenFault
 second_name size more remaining =
     if more == 0 then Err BadField
@@ -110,8 +110,8 @@ pad_at Hex2 byte remaining =
     if byte == 60 then Ok (Alone item.Pad, 0)
     else Err BadField
 
--- the table of tokens, by the first byte and what stands after it: the token, and how many bytes it takes after the first.
--- The signs are `.` `:` `!` `@` `$` `~` `&` `%`, and `<` in hex2 alone
+-- the table of tokens, by the first byte and the bytes after it: the token, and the number of bytes it takes after the first. The signs
+-- are `.` `:` `!` `@` `$` `~` `&` `%`, and `<` in hex2 alone
 unfoldable pub token_at : Dialect → ℕ → List ℕ → Result (Token × ℕ) TokenFault
 token_at dialect byte remaining =
     if is_hex_digit byte then pair_at byte remaining
@@ -125,7 +125,7 @@ token_at dialect byte remaining =
     else if byte == 37 then rel_at dialect remaining
     else pad_at dialect byte remaining
 
--- what two digits give, without the token
+-- the result for two digits, without the token
 abbrev pub IsPair : Result (ℕ × ℕ) TokenFault → Result (Token × ℕ) TokenFault → Type 0
 IsPair (Ok pair) meant = meant ≡ Ok (Byte pair.0, pair.1)
 IsPair (Err why) meant = meant ≡ Err why

@@ -1,16 +1,16 @@
--- What the laws of linking say.
+-- Definitions for the laws of linking.
 use Rattle.std.specs.Prelude.{◌≡◌, ℕ, ◌+◌, Bool, true, false, List, [], ◌∷◌}
 use Rattle.hex_langs.specs.declared.items.item.Item.{Item}
 use Rattle.hex_langs.specs.declared.items.item.Item.TheVariants.{Byte, Label, Word, Rel, Gap, Abs, Pad}
 use Rattle.hex_langs.specs.Link.Link.{size_at}
 
--- an item that is no reference and no pad
+-- an item that is neither a reference nor a pad
 abbrev pub is_fixed : Item → Bool
 is_fixed (Byte byte) = true
 is_fixed (Label name) = true
 is_fixed it = false
 
--- the address after the last of items that stand from an address on
+-- the address after the last of the items, the first of which is at `address`
 abbrev pub address_after : ℕ → List Item → ℕ
 address_after address [] = address
 address_after address (it ∷ items) = address_after (address + size_at address it) items
@@ -25,6 +25,6 @@ renamed rename (Gap x y) = Gap (rename x) (rename y)
 renamed rename (Abs x) = Abs (rename x)
 renamed rename Pad = Pad
 
--- two names stay two
+-- different names stay different
 abbrev pub KeepsApart : (List ℕ → List ℕ) → Type 0
 KeepsApart rename = (a b : List ℕ) → rename a ≡ rename b → a ≡ b

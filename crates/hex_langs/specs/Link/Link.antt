@@ -1,5 +1,5 @@
--- Linking: where items lie, where their labels stand, and what bytes they give. Public source: the languages hex1 and hex2 of stage0-posix
--- and mescc-tools, whose exact rules here are this project's profile; the fields are those of the RISC-V Unprivileged ISA, "Immediate
+-- Linking: the addresses of items and labels, and the bytes of items. Public source: the languages hex1 and hex2 of stage0-posix and
+-- mescc-tools, whose exact rules here are this project's profile. The fields are those of the RISC-V Unprivileged ISA, "Immediate
 -- Encoding Variants". docs/reference/linking.md says the same for people.
 use Rattle.std.specs.Prelude.{◌≡◌, ℕ, ◌+◌, ◌-◌, ◌*◌, ◌/◌, ◌%◌, ◌==◌, bytes_eq, nat_lt, Bool, false, not, ◌&&◌, if◌then◌else◌, List, [], ◌∷◌, ◌++◌, replicate, Option, Some, None, Result, Ok, Err, bit_xor, ℤ, pos, neg_ℤ, ◌+ℤ◌, ◌-ℤ◌, int_lt, unsigned_abs}
 use Rattle.std.specs.Int.{w32, to_le_bytes, int_rem_euclid}
@@ -21,14 +21,14 @@ Labels = List ℕ → Option ℕ
 abbrev pub pad_size : ℕ → ℕ
 pad_size address = (4 - address % 4) % 4
 
--- how many bytes an item has, which stands at an address
+-- the number of bytes of an item at an address
 abbrev pub size_at : ℕ → Item → ℕ
 size_at address (Byte byte) = 1
 size_at address (Label name) = 0
 size_at address Pad = pad_size address
 size_at address it = 4
 
--- an item defines a name
+-- whether an item defines a name
 abbrev pub defines : List ℕ → Item → Bool
 defines name (Label other) = bytes_eq other name
 defines name it = false
@@ -40,7 +40,7 @@ address_of address (it ∷ items) name =
     if defines name it then Some address
     else address_of (address + size_at address it) items name
 
--- whether an item defines a label that was seen
+-- whether an item defines a label that is among those seen
 abbrev pub repeats : List (List ℕ) → Item → Bool
 repeats seen (Label name) = list_any (bytes_eq name) seen
 repeats seen it = false
@@ -62,7 +62,7 @@ modulo_word z = unsigned_abs (int_rem_euclid z (pos 4294967296))
 abbrev pub fits_word : ℤ → Bool
 fits_word d = not (int_lt d (neg_ℤ (pos 2147483648))) && int_lt d (pos 2147483648)
 
--- a number, unless it is out of reach
+-- a number, if it is in reach
 abbrev pub in_reach : Bool → ℕ → Result ℕ Miss
 in_reach fits n = if fits then Ok n else Err OutOfReach
 
@@ -86,8 +86,8 @@ j_field d = d / 1048576 % 2 * 2147483648 + d / 2 % 1024 * 2097152 + d / 2048 % 2
 abbrev pub fits_even : ℤ → ℕ → Bool
 fits_even d half = modulo_word d % 2 == 0 && not (int_lt d (neg_ℤ (pos half))) && int_lt d (pos half)
 
--- a word's value with the field of the distance of its label, by its kind. An I counts from the U before it, four bytes earlier; the
--- upper part is rounded, since the lower one is signed
+-- a word's value with its label's distance in the field of its kind. The distance of an I counts from the U before it, four bytes
+-- earlier. The upper part is rounded, since the lower one is signed
 abbrev pub word_number : ℕ → Kind → ℤ → Result ℕ Miss
 word_number value I d = Ok (bit_xor value (i_field (modulo_word (d +ℤ pos 4))))
 word_number value B d = in_reach (fits_even d 4096) (bit_xor value (b_field (modulo_word d)))
@@ -98,12 +98,12 @@ word_number value U d = in_reach (fits_word (d +ℤ pos 2048)) (bit_xor value (u
 abbrev pub distance_number : ℤ → Result ℕ Miss
 distance_number d = in_reach (fits_word d) (modulo_word d)
 
--- with the address of a label that is defined
+-- the result for the address of a defined label; `NoLabel` without a definition
 abbrev pub with_label : Option ℕ → (ℕ → Result ℕ Miss) → Result ℕ Miss
 with_label (Some at) rest = rest at
 with_label None rest = Err NoLabel
 
--- the number of an item of four bytes that stands at an address, by the addresses of labels; no other item has one
+-- the number of an item of four bytes at an address, by the addresses of labels; 0 for any other item
 abbrev pub written_number : Labels → ℕ → Item → Result ℕ Miss
 written_number labels p (Word value kind x) = with_label (labels x) (λ at. word_number value kind (pos at -ℤ pos p))
 written_number labels p (Rel x) = with_label (labels x) (λ at. distance_number (pos at -ℤ pos p -ℤ pos 4))
@@ -118,7 +118,7 @@ abbrev pub four : Result ℕ Miss → Result (List ℕ) Miss
 four (Ok n) = Ok (to_le_bytes w32 n)
 four (Err miss) = Err miss
 
--- the bytes of an item that stands at an address
+-- the bytes of an item at an address
 abbrev pub item_bytes : Labels → ℕ → Item → Result (List ℕ) Miss
 item_bytes labels p (Byte byte) = Ok (byte ∷ [])
 item_bytes labels p (Label name) = Ok []
@@ -130,23 +130,23 @@ abbrev pub refused : Miss → ℕ → HexRefusal
 refused NoLabel index = refusal.NoLabel index
 refused OutOfReach index = refusal.OutOfReach index
 
--- after bytes
+-- these bytes in front of the result
 abbrev pub onto : List ℕ → Result (List ℕ) HexRefusal → Result (List ℕ) HexRefusal
 onto front (Ok bytes) = Ok (front ++ bytes)
 onto front (Err why) = Err why
 
--- after the bytes of one item, if it has any
+-- the bytes of one item in front of the rest, or its refusal
 abbrev pub appended : Result (List ℕ) Miss → ℕ → Result (List ℕ) HexRefusal → Result (List ℕ) HexRefusal
 appended (Ok bytes) index later = onto bytes later
 appended (Err miss) index later = Err (refused miss index)
 
--- the bytes of items from an address on, of which the first has a number
+-- the bytes of items, the first of which has this address and number
 abbrev pub bytes_from : Labels → ℕ → ℕ → List Item → Result (List ℕ) HexRefusal
 bytes_from labels address index [] = Ok []
 bytes_from labels address index (it ∷ items) =
     appended (item_bytes labels address it) index (bytes_from labels (address + size_at address it) (index + 1) items)
 
--- a label that is defined again comes before everything else
+-- the refusal of a label that is defined again precedes every other result
 abbrev pub unless_repeat : Option ℕ → Result (List ℕ) HexRefusal → Result (List ℕ) HexRefusal
 unless_repeat (Some index) later = Err (refusal.DoubleLabel index)
 unless_repeat None later = later
@@ -155,7 +155,7 @@ unless_repeat None later = later
 unfoldable pub link_of : List Item → ℕ → Result (List ℕ) HexRefusal
 link_of items base = unless_repeat (first_repeat [] 0 items) (bytes_from (address_of base items) base 0 items)
 
--- what linking answers: this, or want of memory
+-- the answer of linking: this result, or out of memory
 abbrev pub Links : Result (List ℕ) HexRefusal → Result (List ℕ) HexRefusal → Type 0
 Links (Err refusal.OutOfMemory) meant = Unit {0}
 Links result meant = result ≡ meant

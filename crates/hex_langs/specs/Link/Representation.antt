@@ -1,2 +1,2 @@
--- What serves the code that links. No promise rests on its being read.
+-- Definitions for the code that links. No promise depends on it.
 pub mod Tables

@@ -10,12 +10,12 @@ use Rattle.hex_langs.specs.declared.link.values.HexLanguage.{HexLanguage}
 use Rattle.hex_langs.specs.declared.link.values.HexLanguage.TheVariants.{Hex0, Hex1, Hex2}
 use Rattle.hex_langs.specs.Link.Link.{link_of}
 
--- the items of a source are linked at a base, if it has any
+-- the items of a source, if it has any, linked at a base
 abbrev pub linked : ℕ → Result (List Item) HexRefusal → Result (List ℕ) HexRefusal
 linked base (Ok items) = link_of items base
 linked base (Err why) = Err why
 
--- the value of a source at a base; hex0 knows no base
+-- the value of a source at a base; hex0 ignores the base
 abbrev pub value_of : HexLanguage → ℕ → List ℕ → Result (List ℕ) HexRefusal
 value_of Hex0 base source = Ok (hex0_of source)
 value_of Hex1 base source = linked base (items_of dialect.Hex1 source)

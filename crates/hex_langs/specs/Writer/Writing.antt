@@ -15,8 +15,8 @@ kind_sign B = 64
 kind_sign J = 36
 kind_sign U = 126
 
--- the line of an item, ended by LF (10): a byte as two upper-case digits; `:name`; a word's sign and name, a blank (32) and its four bytes as
--- eight upper-case digits, the low byte first; `%name`; `%name>other`; `&name`; `<`
+-- the line of an item, ended by LF (10). A byte is two upper-case digits; the others are `:name`, `%name`, `%name>other`, `&name` and
+-- `<`. A word is its sign and name, a blank (32), and its four bytes as eight upper-case digits, the low byte first
 abbrev pub item_line : Item → List ℕ
 item_line (Byte byte) = encode_upper (byte ∷ []) ++ 10 ∷ []
 item_line (Label name) = 58 ∷ (name ++ 10 ∷ [])

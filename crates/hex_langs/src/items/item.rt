@@ -1,4 +1,4 @@
-//! Items: what a source of hex1, hex2 or M1 says, before it is linked.
+//! Items: the contents of a hex1, hex2 or M1 source before it is linked.
 
 ghost use Rattle.std.specs.Prelude.{◌≡◌, ◌<◌, ℕ, List};
 ghost use Rattle.std.specs.Prelude.{[], ◌∷◌, nat_eq};
@@ -9,8 +9,8 @@ ghost use Rattle.std.proofs.Common.{ap};
 use std::hash::{Hash, Hasher};
 use std::marker::Model;
 
-/// The kind of a reference inside a word: the immediate of the instruction format of this name that the label's distance goes to
-/// (RISC-V Unprivileged ISA, "Base Instruction Formats" and "Immediate Encoding Variants").
+/// The kind of a reference inside a word: the instruction format whose immediate gets the label's distance (RISC-V Unprivileged ISA,
+/// "Base Instruction Formats" and "Immediate Encoding Variants").
 #[derive(Clone, Copy, PartialEq, Eq)]
 pub enum Kind {
     /// `!name`: 12 bits, after a `U` of the word before.
@@ -23,7 +23,7 @@ pub enum Kind {
     U,
 }
 
-/// A name, which lies in the source. Contracts see its bytes.
+/// A label's name, borrowed from the source. Contracts see its bytes.
 #[derive(Drop)]
 pub struct LabelName<'s> {
     bytes: &'s [u8],
@@ -36,14 +36,14 @@ impl<'s> Model for LabelName<'s> {
 }
 
 impl<'s> LabelName<'s> {
-    /// The name of these bytes.
+    /// The name made of these bytes.
     pub fn new(bytes: &'s [u8]) -> LabelName<'s>
         ensures { result ≡ bytes.now }
     {
         LabelName { bytes }
     }
 
-    /// Its bytes.
+    /// The name's bytes.
     pub fn bytes(&self) -> &'s [u8]
         ensures { result.now ≡ self.now }
     {
@@ -75,17 +75,17 @@ impl<'s> Hash for LabelName<'s> {
     }
 }
 
-/// One item of a source. Names lie in the source.
+/// One item of a source. Its names are borrowed from the source.
 #[derive(Drop)]
 pub enum Item<'s> {
     Byte(u8),
     /// Defines the label at the item's address.
     Label(LabelName<'s>),
-    /// Four bytes of an instruction, whose value gets the distance of the label by its kind.
+    /// Four bytes of an instruction: the value, with the label's distance in the field of its kind.
     Word(u32, Kind, LabelName<'s>),
-    /// Four bytes: how far the label is from the end of them.
+    /// Four bytes: the distance of the label from the end of these bytes.
     Rel(LabelName<'s>),
-    /// Four bytes: how far the first label is from the second.
+    /// Four bytes: the distance of the first label from the second.
     Gap(LabelName<'s>, LabelName<'s>),
     /// Four bytes: the address of the label.
     Abs(LabelName<'s>),

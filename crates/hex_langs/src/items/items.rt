@@ -1,4 +1,4 @@
-//! Items in little memory.
+//! A compact list of items.
 
 ghost use Rattle.std.specs.Prelude.{◌≡◌, ◌<◌, ◌≤◌, ◌+◌, List, [], ◌∷◌, ◌++◌, length, map, slice_get, OnOk, OnErr};
 ghost use Rattle.std.specs.List.{AllByRecursion};
@@ -12,10 +12,10 @@ use ddc_base::OutOfMemory;
 use std::alloc::{AllocFailed, Global};
 use std::marker::Model;
 
-/// At most so many items stand in a list.
+/// The largest number of items in a list.
 pub const MOST_ITEMS: usize = 33_554_432;
 
-/// Items in a row. A byte takes four bytes of memory, and every other item its own size besides.
+/// A list of items. A byte takes four bytes of memory; every other item takes four bytes and its own size.
 #[derive(Drop)]
 pub struct Items<'s> {
     codes: Vec<u32>,
@@ -44,7 +44,7 @@ fn add_byte(codes: &mut Vec<u32>, byte: u8) -> Result<(), OutOfMemory>
     Ok(())
 }
 
-/// Adds four bytes, or none.
+/// Adds four bytes. Error: out of memory; the codes are unchanged.
 fn add_four(codes: &mut Vec<u32>, bytes: [u8; 4]) -> Result<(), OutOfMemory>
     ensures ok { OnOk result (codes.new.items ≡ codes.old.items ++ bytes) }
     ensures err { OnErr result (codes.new.items ≡ codes.old.items) }
@@ -56,7 +56,7 @@ fn add_four(codes: &mut Vec<u32>, bytes: [u8; 4]) -> Result<(), OutOfMemory>
     Ok(())
 }
 
-/// Adds four bytes as items, or none.
+/// Adds four bytes as items. Error: out of memory; the items are unchanged.
 fn add_bytes(codes: &mut Vec<u32>, others: &[Item<'_>], bytes: [u8; 4]) -> Result<(), OutOfMemory>
     requires packed { ArePacked codes.old.items others.now }
     requires room { length codes.old.items + 4 ≤ 33554432 }
@@ -110,7 +110,7 @@ fn add_item<'s>(
 }
 
 impl<'s> Items<'s> {
-    /// Adds one item at the end; want of memory leaves the items as they were.
+    /// Adds one item at the end. Error: out of memory; the items are unchanged.
     pub fn push(&mut self, item: Item<'s>) -> Result<(), OutOfMemory>
         requires { length self.old < 33554432 }
         ensures ok { OnOk result (self.new ≡ self.old ++ item.entry ∷ []) }
@@ -121,7 +121,7 @@ impl<'s> Items<'s> {
 }
 
 impl<'s> Items<'s> {
-    /// Adds four bytes at the end; want of memory leaves the items as they were.
+    /// Adds four bytes at the end. Error: out of memory; the items are unchanged.
     pub fn push_bytes(&mut self, bytes: [u8; 4]) -> Result<(), OutOfMemory>
         requires { length self.old + 4 ≤ 33554432 }
         ensures ok { OnOk result (self.new ≡ self.old ++ map Byte bytes) }
@@ -132,7 +132,7 @@ impl<'s> Items<'s> {
 }
 
 impl<'s> Items<'s> {
-    /// No items. It takes no memory.
+    /// An empty list. Allocates nothing.
     #[tactic(auto, unfolding(crate::specs::Items::Representation::Packed::items_of))]
     pub fn new(alloc: Global) -> Items<'s>
         ensures { result ≡ [] }
@@ -143,7 +143,7 @@ impl<'s> Items<'s> {
         }
     }
 
-    /// How many items there are.
+    /// The number of items.
     pub fn len(&self) -> usize
         ensures value { result ≡ length self.now }
         ensures few { result ≤ 33554432 }
@@ -151,7 +151,7 @@ impl<'s> Items<'s> {
         self.codes.len()
     }
 
-    /// The items that are no bytes, in their order, for a reader of the labels: they define the same ones.
+    /// The items that are not bytes, in order. They define the same labels as all items.
     pub(crate) fn others(&self) -> &[Item<'s>]
         ensures { label_names result.now ≡ label_names self.now }
     {
@@ -166,7 +166,7 @@ impl<'s> Items<'s> {
     }
 }
 
-/// The same item.
+/// A copy of an item.
 fn copied<'s>(item: &Item<'s>) -> Item<'s>
     ensures { result ≡ item.now }
 {

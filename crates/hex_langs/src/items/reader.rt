@@ -1,4 +1,4 @@
-//! Sources of hex1 and hex2, read to items.
+//! Reads sources of hex1 and hex2 as items.
 
 ghost use Rattle.hex_langs.specs.Items.Reading.{items_of, ReadsItems, fault_at, halted};
 ghost use Rattle.hex_langs.specs.Items.Refusals.{hex_refusal_number, hex_refusal_place};
@@ -13,18 +13,18 @@ use crate::items::words::{Halt, take, take_byte};
 use ddc_base::OutOfMemory;
 use std::alloc::Global;
 
-/// The first refusal of a source, by the offset of a byte, or of its items, by the number of an item; both count from 0.
+/// The first refusal of a source, with a byte offset, or of its items, with an item number. Both count from 0.
 #[derive(Clone, Copy, PartialEq, Eq)]
 pub enum HexRefusal {
     /// The digit at this offset has no partner.
     OddDigits(u64),
-    /// What begins at this offset has no token's form, or is a second reference of a word.
+    /// No token begins at this offset, or the token there is a second reference of a word.
     BadField(u64),
     /// The fields from this offset on are not followed by exactly the four bytes of their word.
     Dangling(u64),
     /// The label of this item was defined by an earlier one.
     DoubleLabel(u64),
-    /// A label that this item names is nowhere defined.
+    /// A label that this item names is not defined.
     NoLabel(u64),
     /// A distance or an address of this item does not fit.
     OutOfReach(u64),
@@ -60,7 +60,7 @@ impl HexRefusal {
         }
     }
 
-    /// The offset or the item's number that it holds, and 0 where it holds none.
+    /// The byte offset or item number of the refusal; 0 if it has none.
     pub fn place(&self) -> u64
         ensures { result ≡ hex_refusal_place self.now }
     {
@@ -76,10 +76,10 @@ impl HexRefusal {
     }
 }
 
-/// A source has at most so many bytes.
+/// The largest size of a source, in bytes.
 pub const LONGEST_SOURCE: usize = 67_108_864;
 
-/// The items of a hex1 source of at most 67,108,864 bytes, or the first refusal from left to right. Names lie in the source.
+/// The items of a hex1 source of at most 67,108,864 bytes, or the first refusal from left to right. Names are borrowed from the source.
 ///
 /// Public source: the language hex1 of stage0-posix. docs/reference/hex1.md has the rules of this project's profile.
 pub fn items1<'s>(alloc: Global, source: &'s [u8]) -> Result<Items<'s>, HexRefusal>
@@ -88,7 +88,7 @@ pub fn items1<'s>(alloc: Global, source: &'s [u8]) -> Result<Items<'s>, HexRefus
     items_of(alloc, Dialect::Hex1, source)
 }
 
-/// The items of a hex2 source of at most 67,108,864 bytes, or the first refusal from left to right. Names lie in the source.
+/// The items of a hex2 source of at most 67,108,864 bytes, or the first refusal from left to right. Names are borrowed from the source.
 ///
 /// Public source: the language hex2 of stage0-posix and mescc-tools. docs/reference/hex2.md has the rules of this project's profile.
 pub fn items2<'s>(alloc: Global, source: &'s [u8]) -> Result<Items<'s>, HexRefusal>
@@ -141,7 +141,7 @@ fn items_of<'s>(alloc: Global, dialect: Dialect, source: &'s [u8]) -> Result<Ite
     }
 }
 
-/// The refusal of a place without a token.
+/// The refusal of an offset at which no token begins.
 fn fault_at(fault: TokenFault, at: usize) -> HexRefusal
     ensures { result ≡ fault_at fault at }
 {
@@ -151,7 +151,7 @@ fn fault_at(fault: TokenFault, at: usize) -> HexRefusal
     }
 }
 
-/// The refusal of a token without a place.
+/// The refusal of a token that is not taken.
 fn halted(halt: Halt) -> HexRefusal
     ensures { result ≡ halted halt }
 {

@@ -9,14 +9,14 @@ ghost use Rattle.std.specs.Prelude.{◌≡◌, ℕ, List, ◌<◌, ◌≤◌, �
 
 use crate::items::item::{Item, Kind, LabelName};
 
-/// The two languages.
+/// The language of a source.
 #[derive(Clone, Copy)]
 pub enum Dialect {
     Hex1,
     Hex2,
 }
 
-/// Why there is no token.
+/// Why no token begins at an offset.
 #[derive(Clone, Copy)]
 pub enum TokenFault {
     OddDigits,
@@ -50,7 +50,7 @@ fn begins_comment(byte: u8) -> bool
     matches!(byte, b'#' | b';')
 }
 
-/// How many bytes the blanks and comments at the front take.
+/// The number of bytes of the blanks and comments at the front.
 pub fn gap_length(source: &[u8]) -> usize
     ensures value { result ≡ gap_length source.now }
     ensures within { result ≤ length source.now }
@@ -74,7 +74,7 @@ fn ends_name(byte: u8) -> bool
     matches!(byte, b' ' | b'\t' | b'\n' | b'\r' | b'>')
 }
 
-/// How many bytes the name at the front has; 0 where there is none.
+/// The number of bytes of the name at the front; 0 if there is no name.
 #[tactic(auto, unfolding(crate::specs::Items::Tokens::name_length))]
 fn name_length(dialect: Dialect, rest: &[u8]) -> usize
     ensures value { result ≡ name_length dialect rest.now }
@@ -121,7 +121,7 @@ fn digit_value(byte: u8) -> Option<u8>
     }
 }
 
-/// The byte of two digits.
+/// The byte of two hexadecimal digits, the high one first; `None` if one of the two is not a digit.
 pub fn byte_of(high: u8, low: u8) -> Option<u8>
     ensures { result ≡ byte_of (hex_digit_value high) (hex_digit_value low) }
 {
@@ -131,7 +131,7 @@ pub fn byte_of(high: u8, low: u8) -> Option<u8>
     }
 }
 
-/// The byte of a digit and of the next one past blanks and comments, and how many bytes after the first digit it takes.
+/// The byte of a digit and the next one after blanks and comments, and the number of bytes it takes after the first digit.
 #[tactic(auto, unfolding(crate::specs::Items::Tokens::pair_at))]
 pub(crate) fn pair_at(digit: u8, rest: &[u8]) -> Result<(u8, usize), TokenFault>
     ensures value { IsPair result (pair_at digit rest.now) }
@@ -147,7 +147,7 @@ pub(crate) fn pair_at(digit: u8, rest: &[u8]) -> Result<(u8, usize), TokenFault>
     }
 }
 
-/// The token of such a byte.
+/// The token of a byte that `pair_at` found.
 fn byte_token<'s>(pair: Result<(u8, usize), TokenFault>) -> Result<(Token<'s>, usize), TokenFault>
     ensures { IsPair pair result }
 {
@@ -155,7 +155,7 @@ fn byte_token<'s>(pair: Result<(u8, usize), TokenFault>) -> Result<(Token<'s>, u
     Ok((Token::Byte(value), more))
 }
 
-/// The byte of the digits at a place and after it.
+/// The byte of the digits at an index and after it.
 fn byte_at(rest: &[u8], place: usize) -> Option<u8>
     requires { place + 1 < length rest.now }
     ensures { result ≡ byte_at rest.now place }
@@ -163,7 +163,7 @@ fn byte_at(rest: &[u8], place: usize) -> Option<u8>
     byte_of(rest[place], rest[place + 1])
 }
 
-/// After `.` at once 8 digits.
+/// The field after `.`: 8 digits that follow at once.
 #[tactic(auto, unfolding(crate::specs::Items::Tokens::field_at))]
 fn field_at<'s>(rest: &'s [u8]) -> Result<(Token<'s>, usize), TokenFault>
     ensures value { result ≡ field_at rest.now }
@@ -204,7 +204,7 @@ fn signed<'s>(sign: Sign, name: LabelName<'s>) -> Token<'s>
     }
 }
 
-/// After a sign at once a name.
+/// The token of a sign and the name that follows at once.
 fn named<'s>(dialect: Dialect, sign: Sign, rest: &'s [u8]) -> Result<(Token<'s>, usize), TokenFault>
     ensures value { result ≡ named_by (sign_token sign) (name_length dialect rest.now) rest.now }
     ensures within { IfOk result (λ found. found.1 ≤ length rest.now) }
@@ -216,7 +216,7 @@ fn named<'s>(dialect: Dialect, sign: Sign, rest: &'s [u8]) -> Result<(Token<'s>,
     Ok((signed(sign, LabelName::new(&rest[..size])), size))
 }
 
-/// After `%` a name, and in hex2 perhaps `>` and a second one.
+/// The token after `%`: a name and, in hex2, optionally `>` and a second name.
 fn relative<'s>(dialect: Dialect, rest: &'s [u8]) -> Result<(Token<'s>, usize), TokenFault>
     ensures value { result ≡ rel_at dialect rest.now }
     ensures within { IfOk result (λ found. found.1 ≤ length rest.now) }
@@ -237,7 +237,7 @@ fn relative<'s>(dialect: Dialect, rest: &'s [u8]) -> Result<(Token<'s>, usize), 
     }
 }
 
-/// The second name after the first one's `>`.
+/// The token of two names: the second follows the first one's `>`.
 fn gap_after<'s>(size: usize, rest: &'s [u8]) -> Result<(Token<'s>, usize), TokenFault>
     requires { size < length rest.now }
     ensures value { result ≡ second_name size (name_length Hex2 (drop (size + 1) rest.now)) rest.now }
@@ -255,7 +255,7 @@ fn gap_after<'s>(size: usize, rest: &'s [u8]) -> Result<(Token<'s>, usize), Toke
     Ok((Token::Alone(gap), size + 1 + more))
 }
 
-/// The token that begins with a byte, by what stands after it, and how many of those bytes it takes.
+/// The token that begins with a byte, and the number of bytes it takes after that byte.
 #[tactic(auto, unfolding(crate::specs::Items::Tokens::token_at))]
 pub fn token_at<'s>(
     dialect: Dialect,
@@ -279,7 +279,7 @@ pub fn token_at<'s>(
     }
 }
 
-/// `<`, which hex1 lacks.
+/// The token of `<`, which hex1 lacks.
 fn pad_at<'s>(dialect: Dialect, byte: u8) -> Result<(Token<'s>, usize), TokenFault>
     ensures value { (rest : List ℕ) → result ≡ pad_at dialect byte rest }
     ensures within { IfOk result (λ found. found.1 ≡ 0) }

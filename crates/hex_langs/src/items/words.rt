@@ -1,4 +1,4 @@
-//! Words: fields and at most one reference, and then exactly four bytes.
+//! Words: fields and at most one reference, followed by exactly four bytes.
 
 ghost use Rattle.hex_langs.specs.Items.Words.{taken, byte_taken, word_items, Takes, Adds};
 ghost use Rattle.hex_langs.specs.declared.items.item.Item.TheVariants.{Byte};
@@ -21,7 +21,7 @@ pub enum Begun {
     Three(u8, u8, u8),
 }
 
-/// A word whose four bytes aren't there yet.
+/// A word that lacks some of its four bytes.
 #[derive(Drop)]
 pub struct Open<'s> {
     /// The offset of its first field or reference.
@@ -32,14 +32,14 @@ pub struct Open<'s> {
     pub begun: Begun,
 }
 
-/// Why a token has no place.
+/// Why a token is not taken.
 #[derive(Clone, Copy)]
 pub enum Halt {
-    /// The word whose first field stands at this offset is not whole.
+    /// The word that begins at this offset is not complete.
     Dangling(usize),
     /// The reference at this offset is the second one of its word.
     Second(usize),
-    /// One more item than a list may have would be formed.
+    /// The list would have more items than allowed.
     TooLong,
     OutOfMemory,
 }
@@ -54,7 +54,7 @@ impl From<OutOfMemory> for Halt {
     }
 }
 
-/// Takes one token after an open word, or after none. An error leaves the items as they were.
+/// Takes one token, with or without an open word before it. An error leaves the items unchanged.
 pub fn take<'s>(
     items: &mut Items<'s>,
     word: Option<Open<'s>>,
@@ -107,7 +107,7 @@ pub fn take<'s>(
     }
 }
 
-/// Takes a byte after an open word, or after none. An error leaves the items as they were.
+/// Takes a byte, with or without an open word before it. An error leaves the items unchanged.
 pub fn take_byte<'s>(
     items: &mut Items<'s>,
     word: Option<Open<'s>>,
@@ -155,7 +155,7 @@ fn byte_of_word<'s>(
     }))
 }
 
-/// Takes all four bytes of an open word at once. An error leaves the items as they were.
+/// Takes all four bytes of an open word at once. An error leaves the items unchanged.
 pub fn take_four<'s>(items: &mut Items<'s>, word: Open<'s>, bytes: [u8; 4]) -> Result<(), Halt>
     requires { length items.old ≤ 33554432 }
     ensures adds { Adds (word_items word.entry.reference (bit_xor word.entry.mask (from_le_bytes w32 bytes))) result items.old items.new }
@@ -169,7 +169,7 @@ pub fn take_four<'s>(items: &mut Items<'s>, word: Open<'s>, bytes: [u8; 4]) -> R
     }
 }
 
-/// Adds an item, unless too many are there.
+/// Adds an item, unless the list is full.
 fn add<'s>(items: &mut Items<'s>, item: Item<'s>) -> Result<(), Halt>
     requires { length items.old ≤ 33554432 }
     ensures adds { Adds (item.entry ∷ []) result items.old items.new }

@@ -10,7 +10,7 @@ use crate::link::number::{Miss, number_of};
 use ddc_base::{Bytes, OutOfMemory};
 use std::alloc::Global;
 
-/// The bytes of items at a base. It takes as many steps as there are items, and as long as their names are.
+/// The bytes of items at a base address, or the first refusal. The time grows with the number of items and the length of their names.
 pub fn link(alloc: Global, items: &Items<'_>, base: u64) -> Result<Bytes, HexRefusal>
     requires { base ≤ 2 ^ 37 }
     ensures { Links result (link_of items.now base) }
@@ -19,7 +19,7 @@ pub fn link(alloc: Global, items: &Items<'_>, base: u64) -> Result<Bytes, HexRef
     joined(alloc, &table, items, base)
 }
 
-/// Why an item is not put.
+/// Why an item's bytes are not written.
 pub(crate) enum JoinFail {
     Miss(Miss),
     OutOfMemory,
@@ -35,7 +35,7 @@ impl From<OutOfMemory> for JoinFail {
     }
 }
 
-/// Puts the bytes of one item.
+/// Writes the bytes of one item.
 fn put<'s>(
     out: &mut Bytes,
     table: &LabelTable<'s>,
@@ -58,7 +58,7 @@ fn put<'s>(
     Ok(())
 }
 
-/// Puts at most three zero bytes.
+/// Writes at most three zero bytes.
 fn put_zeros(out: &mut Bytes, count: u64) -> Result<(), OutOfMemory>
     requires { count < 4 }
     ensures ok { OnOk result (out.new ≡ out.old ++ replicate count 0) }

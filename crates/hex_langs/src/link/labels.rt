@@ -23,7 +23,7 @@ pub(crate) fn address_in<'s>(table: &LabelTable<'s>, name: &LabelName<'s>) -> Op
     table.get(name).copied()
 }
 
-/// How many bytes an item has, which stands at an address.
+/// The number of bytes of an item at an address, 0 to 4.
 pub(crate) fn size_at(address: u64, item: &Item<'_>) -> u64
     ensures value { result ≡ size_at address item.now }
     ensures small { result ≤ 4 }
@@ -47,7 +47,7 @@ pub(crate) fn item_at<'s>(items: &Items<'s>, index: usize) -> Item<'s>
     }
 }
 
-/// An empty table with room for the labels of items, and with their names as its key.
+/// An empty table with room for the labels of items. Its key is made of their names.
 fn table_for<'s>(alloc: Global, items: &Items<'s>) -> Result<LabelTable<'s>, OutOfMemory>
     ensures empty { IfOk result IsEmpty }
     ensures keyed { IfOk result (λ table. IsKeyedBy (label_names items.now) table) }
@@ -56,7 +56,7 @@ fn table_for<'s>(alloc: Global, items: &Items<'s>) -> Result<LabelTable<'s>, Out
     Ok(IndexMap::with_capacity_and_hasher(alloc, count, key)?)
 }
 
-/// How many labels items define, and the key of a table of them.
+/// The number of labels that items define, and the key of a table of them.
 fn count_and_key(items: &[Item<'_>]) -> (usize, NamesKey)
     ensures { result.1.begun ≡ begun_by (label_names items.now) }
 {
@@ -71,7 +71,7 @@ fn count_and_key(items: &[Item<'_>]) -> (usize, NamesKey)
     (count, names.key())
 }
 
-/// Adds the label that an item at an address defines, and tells whether its name had one.
+/// Adds the label that an item at an address defines. Returns whether its name was already in the table.
 fn add_label<'s>(
     table: &mut LabelTable<'s>,
     item: &Item<'s>,
@@ -90,7 +90,7 @@ fn add_label<'s>(
     }
 }
 
-/// The address of each label, or the first item that defines a label again.
+/// The address of each label. Errors: the first item that defines a label again, out of memory.
 pub(crate) fn labels_of<'s>(
     alloc: Global,
     items: &Items<'s>,

@@ -1,4 +1,4 @@
-//! What holds of linking. Each law is the contract of a function that does nothing.
+//! Laws of linking. Each law is the contract of a function that does nothing.
 
 ghost use Rattle.std.specs.Prelude.{◌≡◌, ℕ, ◌+◌, ◌≤◌, List, Ok, length, map, IsTrue};
 ghost use Rattle.std.specs.List.{list_all};
@@ -15,18 +15,18 @@ pub fn same_at_every_base()
     ensures { (items : List Item) → IsTrue (list_all is_fixed items) → (base other : ℕ) → link_of items base ≡ link_of items other }
 {}
 
-/// The bytes of items are as many as their sizes say: they end where the address after the last item is.
+/// The bytes of linked items end at the address after the last item.
 pub fn bytes_end_after_the_last()
     ensures { (items : List Item) → (base : ℕ) → (bytes : List ℕ) → link_of items base ≡ Ok bytes → base + length bytes ≡ address_after base items }
 {}
 
-/// Linking looks at labels by name alone: other names that keep names apart change nothing.
+/// Linking only compares labels' names: other names that keep different names different change nothing.
 pub fn names_do_not_matter()
     ensures { (rename : List ℕ → List ℕ) → KeepsApart rename → (items : List Item) → (base : ℕ)
         → link_of (map (renamed rename) items) base ≡ link_of items base }
 {}
 
-/// A source of digits, blanks and comments alone, with an even number of digits, means the same in all three languages.
+/// A source of digits, blanks and comments alone, with an even number of digits, has the same value in all three languages.
 pub fn plain_sources()
     ensures { (language : HexLanguage) → (base : ℕ) → (source : List ℕ) → length source ≤ 67108864 → IsTrue (is_plain source) → HasEvenDigits source
         → value_of language base source ≡ Ok (hex0_of source) }

@@ -16,7 +16,7 @@ pub enum Miss {
     OutOfReach,
 }
 
-/// A distance as a word.
+/// A distance as a word of 32 bits, if it fits.
 fn distance_number(distance: i64) -> Result<u32, Miss>
     ensures { result ≡ distance_number distance }
 {
@@ -66,7 +66,7 @@ fn is_even_within(distance: i64, half: i64) -> bool
     modulo_word(distance) % 2 == 0 && distance >= -half && distance < half
 }
 
-/// The number of a word whose label lies at a distance.
+/// The number of a word whose label is at a distance.
 fn word_number(value: u32, kind: Kind, distance: i64) -> Result<u32, Miss>
     requires low { neg_ℤ (pos 1099511627776) ≤ℤ distance }
     requires high { distance ≤ℤ pos 1099511627776 }
@@ -96,7 +96,7 @@ fn word_number(value: u32, kind: Kind, distance: i64) -> Result<u32, Miss>
     }
 }
 
-/// How far one address is from another.
+/// The distance of one address from another.
 fn distance(at: u64, from: u64) -> i64
     requires at { at < 2 ^ 40 }
     requires from { from < 2 ^ 40 }

@@ -18,7 +18,8 @@ pub enum HexLanguage {
     Hex2,
 }
 
-/// The bytes that a source stands for in a language, from the address `base` on, or the first refusal. hex0 knows neither.
+/// The bytes that a source stands for in a language, from the address `base` on, or the first refusal. hex0 ignores the base and refuses
+/// nothing.
 ///
 /// docs/reference/hex0.md, hex1.md, hex2.md and linking.md have the rules.
 pub fn value(
@@ -37,7 +38,7 @@ pub fn value(
     }
 }
 
-/// Links the items of a source, if it has any.
+/// The bytes of the items of a source, if it has items; otherwise its refusal.
 fn linked(
     alloc: Global,
     base: u64,

@@ -1,4 +1,4 @@
-//! What holds of written texts. The law is the contract of a function that does nothing.
+//! The law of written texts. It is the contract of a function that does nothing.
 
 ghost use Rattle.hex_langs.specs.declared.items.item.Item.{Item};
 ghost use Rattle.hex_langs.specs.declared.items.token.Dialect.TheVariants.{Hex2};
@@ -7,8 +7,8 @@ ghost use Rattle.hex_langs.specs.Writer.Writable.{AreWritable};
 ghost use Rattle.hex_langs.specs.Writer.Writing.{items_text};
 ghost use Rattle.std.specs.Prelude.{◌≡◌, ◌≤◌, List, Ok, length};
 
-/// What is written is read again: hex2 gives the same items, if they can be written, they are no more than a list may have, and their
-/// text is no longer than a source may be.
+/// hex2 reads a written text as the same items. The items must be writable and at most 33,554,432, and their text must have at most
+/// 67,108,864 bytes.
 pub fn written_is_read_again()
     ensures { (items : List Item) → AreWritable items → length items ≤ 33554432 → length (items_text items) ≤ 67108864
         → items_of Hex2 (items_text items) ≡ Ok items }

@@ -10,9 +10,9 @@ use crate::items::{Item, Items, Kind};
 use ddc_base::{Bytes, OutOfMemory};
 use std::alloc::Global;
 
-/// The written text of these items: one line an item, with upper-case digits.
+/// The hex2 text of these items: one line for each item, with upper-case digits. Error: out of memory.
 ///
-/// hex2 reads it as the same items if each name has a byte and no blank or `>`, each number fits its field, and the text has at most
+/// hex2 reads it as the same items if no name is empty or has a blank or `>`, each number fits its field, and the text has at most
 /// 67,108,864 bytes.
 pub fn write_items(alloc: Global, items: &Items<'_>) -> Result<Bytes, OutOfMemory>
     ensures { IfOk result (λ text. text ≡ items_text items.now) }

@@ -1,4 +1,4 @@
--- How the prover stores what contracts see of a list of files.
+-- How the prover stores the model of a list of files.
 use Rattle.std.specs.Prelude.{ℕ, List, refl}
 use Rattle.std.specs.Coded.{Coded, code_by, coded×, coded_ℕ, coded_list}
 use Rattle.mem_files.specs.World.{World}

@@ -1,4 +1,4 @@
--- What a command and all commands come to, as the code has it.
+-- The results of a command and of all commands, as the code has them.
 use Rattle.std.specs.Prelude.{◌≡◌, ℕ, ◌≤◌, Result, Ok, Err, List, [], map}
 use Rattle.std.specs.List.{fold}
 use Rattle.std.specs.FinMap as files
@@ -20,25 +20,25 @@ use Rattle.kaem_script.specs.Leaving.{LeftResult, command_left, end_of_run}
 use Rattle.kaem_script.specs.Reported.{command_line}
 use Rattle.kaem_script.specs.declared.leaving.CommandLeft.{CommandLeft}
 
--- the files that are there
+-- the files that exist
 abbrev pub world_in : Present → World
 world_in (Given files) = files.now
 world_in (Left files) = files
 
--- the files with which a program starts that is given what these leave
+-- the files with which a program starts after one that left these
 unfoldable pub renewed : World → World
 renewed world = fold with_given first_world (left world)
 
--- what a command's program is given, but for the files
+-- the execution context of a command's program, without its files
 abbrev pub texts_of : List (List ℕ) → Setting
 texts_of words = record { args = words; env = []; files = files.empty; heap = 536_870_912 }
 
--- how a command goes on with the guest that its program starts as, without files, or why that does not start
+-- the result of a command by the guest that its program starts as, without files, or why it does not start
 abbrev pub Begins : World → List (List ℕ) → ℕ → Result GuestState CommandCause → Type 0
 Begins world words most (Ok guest) = command most world words ≡ by_first_end most (first_end (record guest { world = renewed world }) most)
 Begins world words most (Err why) = command most world words ≡ Err (why, 0)
 
--- what a command leaves, by the guest that its program starts as, without files, or why that does not start
+-- what a command leaves by the guest that its program starts as, without files, or why it does not start
 abbrev pub BeginsLeft : World → List (List ℕ) → ℕ → ℕ → Result GuestState CommandCause → Type 0
 BeginsLeft world words most number (Ok guest) = command_left most number world words ≡ Ok (end_of_run (record guest { world = renewed world }) most)
 BeginsLeft world words most number (Err why) = command_left most number world words ≡ Err (number, why, 0)
@@ -47,7 +47,7 @@ abbrev pub LeavesOver : LeftResult → ℕ → Result CommandLeft CommandCause �
 LeavesOver meant number (Ok left) = meant ≡ Ok left
 LeavesOver meant number (Err why) = meant ≡ Err (number, why, 0)
 
--- a command that ran, by its line and by the files that it left
+-- a command that ran, by its line and the files that it left
 abbrev pub ran_with : CommandLine → World → Ran
 ran_with line world = record { steps = line.steps; world = world }
 
@@ -73,12 +73,12 @@ Folds meant (Ok ran) = Finishes meant ran.0 (world_in ran.1)
 Folds meant (Err (Failed number why step)) = meant ≡ Stopped number why step
 Folds meant (Err (OutOfMemory number)) = Unit {0}
 
--- memory was wanting at one of so many commands
+-- memory ran out at one of `count` commands
 abbrev pub WantsWithin : ℕ → ScriptStop → Type 0
 WantsWithin count (Failed number why step) = Unit {0}
 WantsWithin count (OutOfMemory number) = number ≤ count
 
--- a fact where a command did not stop its script: it went on, or memory was wanting
+-- a fact, unless a command stopped its script: the script continues, or memory ran out
 abbrev pub UnlessStopped : {A B E : Type 0} → Result (Result A B) E → Type 0 → Type 0
 UnlessStopped (Ok (Err why)) fact = Unit {0}
 UnlessStopped answer fact = fact

@@ -1,4 +1,4 @@
--- What the code's passes over a source do. No promise rests on its being read.
+-- What the code's passes over a source do. No promise depends on this file.
 use Rattle.std.specs.Prelude.{◌≡◌, ℕ, ◌<◌, ◌≤◌, bytes_eq, Bool, not, if◌then◌else◌, is_some, List, [], ◌∷◌, ◌++◌, length, Option, Some, None, Result, Ok, Err}
 use Rattle.indexmap.specs.IndexMap.{IndexMap, get}
 use Rattle.ddc_base.specs.declared.name_tables.NamesKey.{NamesKey}
@@ -23,11 +23,11 @@ use Rattle.m1_lang.specs.Expansion.{at_once, counted_items, halt_refusal, then_r
 abbrev pub parts_at : List ℕ → ℕ → List SourcePart
 parts_at source at = parts (word_list (words_at source at))
 
--- where a quote is open from an offset on
+-- the offset of an open quote, from an offset on
 abbrev pub open_at : List ℕ → ℕ → Option ℕ
 open_at source at = open_quote (words_at source at)
 
--- what definitions give words
+-- the text of the value of each defined word
 abbrev pub Values : Type 0
 Values = List ℕ → Option (List ℕ)
 
@@ -35,11 +35,11 @@ Values = List ℕ → Option (List ℕ)
 abbrev pub Definitions : Type 0
 Definitions = IndexMap (List ℕ) (List ℕ) NamesKey
 
--- what it gives words
+-- the values in the table
 abbrev pub values_in : Definitions → Values
 values_in table text = get bytes_eq table text
 
--- a definition goes into the table: whether its name was there, and then what is
+-- adding a definition to the table: whether its name was there, and the table afterwards
 abbrev pub Enters : {E : Type 0} → Result Bool E → List ℕ → List ℕ → Definitions → Definitions → Type 0
 Enters (Ok again) name value old new =
     (again ≡ is_some (values_in old name)) × ((text : List ℕ) → values_in new text ≡ (if bytes_eq name text then Some value else values_in old text))
@@ -49,7 +49,7 @@ abbrev pub or_value : Option (List ℕ) → Option (List ℕ) → Option (List �
 or_value (Some value) later = Some value
 or_value None later = later
 
--- what definitions give words, one definition on
+-- the values of definitions after one more definition
 abbrev pub valued_with : Values → ℕ → List ℕ → List ℕ → Result Values M1Refusal
 valued_with values at name value =
     if not (is_value value) then Err (refusal.BadDefine at)
@@ -60,24 +60,24 @@ abbrev pub with_values : Result Values M1Refusal → (Values → Result Values M
 with_values (Ok values) rest = rest values
 with_values (Err why) rest = Err why
 
--- what the definitions give words that are among parts, after those so far, or the first that is refused
+-- the values of the definitions among parts, after those so far, or the first refusal
 abbrev pub valued : Values → List SourcePart → Result Values M1Refusal
 valued values [] = Ok values
 valued values (Defines at name value ∷ rest) = with_values (valued_with values at name value) (λ more. valued more rest)
 valued values (Cut at ∷ rest) = Err (refusal.BadDefine at)
 valued values (Plain word ∷ rest) = valued values rest
 
--- definitions by what they give words
+-- definitions as the values that they give
 abbrev pub looked_up : Result Defined M1Refusal → Result Values M1Refusal
 looked_up (Ok defined) = Ok (value_in defined)
 looked_up (Err why) = Err why
 
--- a quote that isn't closed comes before every definition
+-- a quote that is not closed is refused before every definition
 abbrev pub unless_quoted : Option ℕ → Result Values M1Refusal → Result Values M1Refusal
 unless_quoted (Some at) later = Err (refusal.OpenString at)
 unless_quoted None later = later
 
--- what the table of definitions is
+-- the table has the values of these definitions
 abbrev pub Tabulates : Result Definitions M1Refusal → Result Defined M1Refusal → Type 0
 Tabulates (Ok table) meant = looked_up meant ≡ Ok (values_in table)
 Tabulates (Err refusal.OutOfMemory) meant = Unit {0}
@@ -89,7 +89,7 @@ after_define values at [] = Err (refusal.BadDefine at)
 after_define values at (name ∷ []) = Err (refusal.BadDefine at)
 after_define values at (name ∷ value ∷ rest) = with_values (valued_with values at name.text value.text) (λ more. valued more (parts rest))
 
--- what one definition does: `DEFINE` stood at start, and its name and value stand from at on
+-- the effect of one definition: `DEFINE` is at `start`, and its name and value follow from `at` on
 abbrev pub DefinesOne : Result ℕ M1Refusal → ℕ → List ℕ → ℕ → Definitions → Definitions → Type 0
 DefinesOne (Ok after) start source at old new =
     (after_define (values_in old) start (word_list (words_at source at)) ≡ valued (values_in new) (parts_at source after))
@@ -114,7 +114,7 @@ names_after [] = []
 names_after (name ∷ []) = []
 names_after (name ∷ value ∷ rest) = name.text ∷ defined_names (parts rest)
 
--- names are digested up to an offset: they and those of the definitions from there on are all of these
+-- names are digested up to an offset. They and those of the definitions from there on are `all`
 pub record TookUpTo (names : KeyNames) (source : List ℕ) (at : ℕ) (all : List (List ℕ)) : Type 0 where
   pub seen : List (List ℕ)
   pub took : Took names seen
@@ -126,16 +126,16 @@ TakesName after source at old new =
     ((seen : List (List ℕ)) → Took old seen → TookUpTo new source after (seen ++ names_after (word_list (words_at source at))))
     × (at ≤ after) × (after ≤ length source)
 
--- the words after a definition are left
+-- `after` follows one definition: the plain words from there on are the same
 abbrev pub SkipsOne : ℕ → List ℕ → ℕ → Type 0
 SkipsOne after source at =
     (plain_after (word_list (words_at source at)) ≡ plain_words (parts_at source after)) × (at ≤ after) × (after ≤ length source)
 
--- what the words from an offset on read, by what definitions give words
+-- the reading of the words from an offset on, with these values of definitions
 abbrev pub reading_at : Values → List ℕ → ℕ → Reading WordFault
 reading_at values source at = words_reading values (plain_words (parts_at source at))
 
--- taking tokens one after the other: the items so far and what is formed later are the whole; or it is refused
+-- taking tokens in order: the items so far and those formed later are the whole, or the source is refused
 abbrev pub TakesTokens : Result (Option Open) Halt → Option Open → ℕ → List Token → List Item → List Item → Type 0
 TakesTokens (Ok next) word at tokens old new =
     (later : Reading WordFault) → with_front old (formed word (at_once at tokens later)) ≡ with_front new (formed next later)

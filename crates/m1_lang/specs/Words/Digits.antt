@@ -3,12 +3,12 @@ use Rattle.std.specs.Prelude.{ℕ, List, [], ◌∷◌, Option, Some, None}
 use Rattle.hex.specs.Hex.{hex_digit_value}
 use Rattle.hex_langs.specs.Items.Tokens.{byte_of}
 
--- in front of bytes, where both are there
+-- a byte in front of bytes, if both exist
 abbrev pub cons_byte : Option ℕ → Option (List ℕ) → Option (List ℕ)
 cons_byte (Some byte) (Some bytes) = Some (byte ∷ bytes)
 cons_byte _ _ = None
 
--- the bytes of digits, the high one first; none where a byte is no digit, or one is left over
+-- the bytes of digits, the high one first. `None` if a byte is not a digit or one digit is left over
 abbrev pub digit_bytes : List ℕ → Option (List ℕ)
 digit_bytes [] = Some []
 digit_bytes (alone ∷ []) = None

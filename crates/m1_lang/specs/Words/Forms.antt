@@ -14,11 +14,11 @@ use Rattle.m1_lang.specs.declared.words.meaning.WordFault.TheVariants.{UnknownWo
 use Rattle.m1_lang.specs.Words.Digits.{digit_bytes}
 use Rattle.m1_lang.specs.Words.Numbers.{number_in}
 
--- what a word gives: tokens of hex2, or a refusal
+-- the result of a word: tokens of hex2, or a refusal
 abbrev pub Tokens : Type 0
 Tokens = Result (List Token) WordFault
 
--- what a word of a form gives; none: the word is not of this form
+-- the result of a word in one form; `None` if it does not have this form
 abbrev pub FormTokens : Type 0
 FormTokens = Option Tokens
 
@@ -34,7 +34,7 @@ abbrev pub token_over : List ℕ → Result (Token × ℕ) TokenFault → Option
 token_over rest (Ok found) = if found.1 == length rest then Some found.0 else None
 token_over rest (Err why) = None
 
--- the one token of hex2 that a word is
+-- the one token of hex2 that takes the whole word
 unfoldable pub whole_token : List ℕ → Option Token
 whole_token [] = None
 whole_token (first ∷ rest) = token_over rest (token_at Hex2 first rest)
@@ -43,18 +43,18 @@ abbrev pub one_token : Option Token → Option (List Token)
 one_token (Some token) = Some (token ∷ [])
 one_token None = None
 
--- a text begins with a byte
+-- whether a text begins with a byte
 abbrev pub begins_with : ℕ → List ℕ → Bool
 begins_with byte [] = false
 begins_with byte (first ∷ rest) = first == byte
 
--- after `.` stands a field, as in hex2
+-- a value: after `.` a field as in hex2, otherwise digits
 unfoldable pub value_tokens : List ℕ → Option (List Token)
 value_tokens text = if begins_with 46 text then one_token (whole_token text) else byte_tokens (digit_bytes text)
 
 -- ---- quoted words
 
--- what stands between a word's quotes
+-- the text between a word's quotes
 abbrev pub between : List ℕ → List ℕ
 between rest = take (length rest - 1) rest
 
@@ -76,7 +76,7 @@ quoted_tokens (quote ∷ rest) =
 abbrev pub store_field : ℕ → ℕ
 store_field n = n / 32 % 128 * 33554432 + n % 32 * 128
 
--- bits 31..12 of a number stay, rounded, since a signed lower part is added to it
+-- bits 31..12 of a number, rounded, since a signed lower part is added to it
 abbrev pub rounded_field : ℤ → ℕ
 rounded_field n = upper_field (modulo_word (n +ℤ pos 2048))
 
@@ -117,18 +117,18 @@ numbered_tokens (sign ∷ rest) = if takes_number sign then number_after sign (n
 
 -- ---- the table
 
--- a form's tokens, or else what comes later
+-- a form's tokens, otherwise the later result
 abbrev pub form_or : Option (List Token) → Tokens → Tokens
 form_or (Some tokens) later = Ok tokens
 form_or None later = later
 
--- a numbered form's tokens or refusal, or else what comes later
+-- a numbered form's tokens or refusal, otherwise the later result
 abbrev pub numbered_or : FormTokens → Tokens → Tokens
 numbered_or (Some tokens) later = tokens
 numbered_or None later = later
 
--- the first form that fits a word which no definition names: `"text"` and `'digits'`, digits alone and `.` with 8 digits, a number after
--- `!`, `@`, `~` or `%`, or else one token of hex2: `!x` `@x` `$x` `~x` `%x` `%x>y` `&x` `:x` `<`
+-- the tokens of a word that no definition names. The first form that fits counts: quoted `"text"` or `'digits'`, digits alone, `.` with 8
+-- digits, or a number after `!`, `@`, `~` or `%`. Otherwise the word is one token of hex2: `!x` `@x` `$x` `~x` `%x` `%x>y` `&x` `:x` `<`
 unfoldable pub form_tokens : List ℕ → Tokens
 form_tokens text =
     form_or (quoted_tokens text)
@@ -141,6 +141,6 @@ abbrev pub defined_tokens : Option (List ℕ) → Option (List Token)
 defined_tokens (Some value) = value_tokens value
 defined_tokens None = None
 
--- the tokens of a word, by what definitions give words
+-- the tokens of a word, with these values of definitions
 abbrev pub tokens_of : (List ℕ → Option (List ℕ)) → List ℕ → Tokens
 tokens_of values text = form_or (defined_tokens (values text)) (form_tokens text)

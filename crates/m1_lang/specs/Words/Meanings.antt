@@ -1,4 +1,4 @@
--- The tokens that the meaning of a word stands for, which gives many bytes as a text of the source. Public source: the language M1 of
+-- The tokens that the meaning of a word stands for. A meaning gives many bytes as a text of the source. Public source: the language M1 of
 -- stage0-posix and mescc-tools, whose exact rules here are this project's profile. docs/reference/m1.md says the same for people.
 use Rattle.std.specs.Prelude.{◌≡◌, ℕ, List, [], ◌∷◌, map, Option, Some, None, Result, Ok, Err}
 use Rattle.std.specs.Int.{w32, to_le_bytes}
@@ -11,30 +11,30 @@ use Rattle.m1_lang.specs.declared.words.meaning.WordMeaning.TheVariants.{Digits,
 use Rattle.m1_lang.specs.declared.words.meaning.WordFault.{WordFault}
 use Rattle.m1_lang.specs.Words.Forms.{Tokens, padded}
 
--- in front of bytes; where it is none, nothing follows
+-- a byte in front of bytes; without a byte, nothing follows
 abbrev pub before_bytes : Option ℕ → List ℕ → List ℕ
 before_bytes (Some byte) bytes = byte ∷ bytes
 before_bytes None bytes = []
 
--- the bytes of digits two by two, up to the first two that are none
+-- the bytes of pairs of digits, up to the first pair that is not a byte
 abbrev pub front_bytes : List ℕ → List ℕ
 front_bytes [] = []
 front_bytes (alone ∷ []) = []
 front_bytes (high ∷ low ∷ rest) = before_bytes (byte_of (hex_digit_value high) (hex_digit_value low)) (front_bytes rest)
 
--- what a meaning stands for
+-- the tokens of a meaning
 abbrev pub meaning_tokens : WordMeaning → List Token
 meaning_tokens (Digits digits) = map Byte (front_bytes digits.now)
 meaning_tokens (Text text) = map Byte (padded text.now)
 meaning_tokens (Number n) = map Byte (to_le_bytes w32 n)
 meaning_tokens (One token) = token ∷ []
 
--- a meaning of these tokens, or none
+-- a meaning with these tokens, or no meaning
 abbrev pub MeansTokens : Option WordMeaning → Option (List Token) → Type 0
 MeansTokens (Some meaning) tokens = tokens ≡ Some (meaning_tokens meaning)
 MeansTokens None tokens = tokens ≡ None
 
--- a meaning of these tokens, or the same refusal
+-- a meaning with these tokens, or the same refusal
 abbrev pub MeansResult : Result WordMeaning WordFault → Tokens → Type 0
 MeansResult (Ok meaning) tokens = tokens ≡ Ok (meaning_tokens meaning)
 MeansResult (Err why) tokens = tokens ≡ Err why

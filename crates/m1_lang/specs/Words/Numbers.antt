@@ -1,9 +1,9 @@
--- Numbers of any length: an optional `-` and decimal digits, or an optional `-`, `0x` and hexadecimal digits. Public source: the language M1
--- of stage0-posix and mescc-tools, whose exact rules here are this project's profile. docs/reference/m1.md says the same for people.
+-- Numbers of any length: an optional `-` and decimal digits, or an optional `-`, `0x` and hexadecimal digits. Public source: the language
+-- M1 of stage0-posix and mescc-tools, whose exact rules here are this project's profile. docs/reference/m1.md says the same for people.
 use Rattle.std.specs.Prelude.{ℕ, ◌+◌, ◌*◌, ◌==◌, nat_lt, Bool, true, false, ◌&&◌, if◌then◌else◌, List, [], ◌∷◌, drop, slice_index, Option, Some, None, ℤ, pos, neg_ℤ}
 use Rattle.hex.specs.Hex.{hex_digit_value}
 
--- a digit of a base
+-- a digit, if it is below the base
 abbrev pub digit_below : ℕ → Option ℕ → Option ℕ
 digit_below base (Some digit) = if nat_lt digit base then Some digit else None
 digit_below base None = None
@@ -12,7 +12,7 @@ abbrev pub after_digit : Option ℕ → (ℕ → Option ℕ) → Option ℕ
 after_digit (Some digit) rest = rest digit
 after_digit None rest = None
 
--- the value of more digits after a value
+-- the value of digits that continue a value
 abbrev pub more_digits : ℕ → ℕ → List ℕ → Option ℕ
 more_digits base value [] = Some value
 more_digits base value (byte ∷ rest) =
@@ -23,7 +23,7 @@ abbrev pub digits_value : ℕ → List ℕ → Option ℕ
 digits_value base [] = None
 digits_value base (byte ∷ rest) = more_digits base 0 (byte ∷ rest)
 
--- a text begins with `0x`
+-- whether a text begins with `0x`
 abbrev pub is_hexadecimal : List ℕ → Bool
 is_hexadecimal text = slice_index text 0 == 48 && slice_index text 1 == 120
 
@@ -36,7 +36,7 @@ signed_by minus None = None
 signed_by true (Some n) = Some (neg_ℤ (pos n))
 signed_by false (Some n) = Some (pos n)
 
--- with `-` in front, or without
+-- a number with or without `-` in front
 unfoldable pub number_in : List ℕ → Option ℤ
 number_in text =
     if slice_index text 0 == 45 then signed_by true (magnitude (drop 1 text))

@@ -9,7 +9,7 @@ pub record Word : Type 0 where
   pub at : ℕ
   pub text : List ℕ
 
--- the words of a source, up to its end or to the first quote that isn't closed
+-- the words of a source, up to its end or to the first quote that is not closed
 pub data Words : Type 0 where
   NoWord : Words
   Unclosed : (at : ℕ) → Words
@@ -19,18 +19,18 @@ pub data Words : Type 0 where
 abbrev pub is_quote : ℕ → Bool
 is_quote byte = byte == 34 || byte == 39
 
--- up to the next same quote, which belongs to the word
+-- up to the next quote of the same kind, which belongs to the word
 abbrev pub until_closed : ℕ → List ℕ → Option ℕ
 until_closed size remaining = if nat_lt size (length remaining) then Some (size + 1) else None
 
--- how many bytes a word has after its first one: a quoted word runs over blanks, every other one up to a blank or the end; none: its quote
--- isn't closed
+-- the number of bytes of a word after its first. A quoted word includes blanks; every other word ends before a blank or at the end.
+-- `None`: its quote is not closed
 unfoldable pub word_more : ℕ → List ℕ → Option ℕ
 word_more byte remaining =
     if is_quote byte then until_closed (position_or_len (λ b. b == byte) remaining) remaining
     else Some (position_or_len is_blank remaining)
 
--- what stands from an offset on, of which the first bytes belong to a word, or to blanks and comments, already read
+-- the words from offset `at` on; the first `inside` bytes belong to a word, blanks or comments already read
 unfoldable pub words_from : ℕ → ℕ → List ℕ → Words
 words_from at inside [] = NoWord
 words_from at (suc inside) (byte ∷ remaining) = words_from (at + 1) inside remaining
@@ -51,7 +51,7 @@ word_list NoWord = []
 word_list (Unclosed at) = []
 word_list (Found word later) = word ∷ word_list later
 
--- where a quote is open
+-- the offset of an open quote
 abbrev pub open_quote : Words → Option ℕ
 open_quote NoWord = None
 open_quote (Unclosed at) = Some at

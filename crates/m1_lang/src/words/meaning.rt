@@ -1,4 +1,4 @@
-//! What a word gives.
+//! The meaning of a word.
 
 ghost use Rattle.std.specs.Prelude.{◌≡◌, ◌≤◌, is_some, pos, neg_ℤ, ◌≤ℤ◌};
 ghost use Rattle.m1_lang.specs.Words.Digits.{digit_bytes};
@@ -11,12 +11,12 @@ use crate::words::numbers::number_in;
 use hex_langs::items::{Dialect, Token, byte_of, token_at};
 use hex_langs::link::{i_field, modulo_word};
 
-/// What a word gives, as text of the source where it gives many bytes.
+/// The meaning of a word. Many bytes are given as text of the source.
 #[derive(Drop)]
 pub enum WordMeaning<'s> {
     /// The bytes of hexadecimal digits two by two.
     Digits(&'s [u8]),
-    /// The bytes of a text, and then one to four zero bytes, up to a multiple of 4 in all.
+    /// The bytes of a text and then one to four zero bytes, up to a multiple of 4 in all.
     Text(&'s [u8]),
     /// Four bytes, the low one first.
     Number(u32),
@@ -24,16 +24,16 @@ pub enum WordMeaning<'s> {
     One(Token<'s>),
 }
 
-/// Why a word gives nothing.
+/// Why a word has no meaning.
 #[derive(Clone, Copy)]
 pub enum WordFault {
-    /// It is of no form.
+    /// It has no known form.
     UnknownWord,
     /// Its number is out of its sign's range.
     NumberRange,
 }
 
-/// Whether a text is digits two by two.
+/// Whether a text consists of pairs of digits.
 fn are_pairs(text: &[u8]) -> bool
     ensures { result ≡ is_some (digit_bytes text.now) }
 {
@@ -50,7 +50,7 @@ fn are_pairs(text: &[u8]) -> bool
     true
 }
 
-/// A positive even number of digits.
+/// The meaning of a positive even number of digits; `None` for other texts.
 fn digits<'s>(text: &'s [u8]) -> Option<WordMeaning<'s>>
     ensures { MeansTokens result (byte_tokens (digit_bytes text.now)) }
 {
@@ -60,7 +60,7 @@ fn digits<'s>(text: &'s [u8]) -> Option<WordMeaning<'s>>
     Some(WordMeaning::Digits(text))
 }
 
-/// The one token of hex2 that a word is.
+/// The one token of hex2 that takes the whole word; `None` if it does not exist.
 #[tactic(auto, unfolding(crate::specs::Words::Forms::whole_token))]
 fn whole_token<'s>(text: &'s [u8]) -> Option<Token<'s>>
     ensures { result ≡ whole_token text.now }
@@ -78,7 +78,7 @@ fn whole_token<'s>(text: &'s [u8]) -> Option<Token<'s>>
     }
 }
 
-/// A value: digits alone, or `.` and 8 digits.
+/// The meaning of a value: digits alone, or `.` and 8 digits.
 #[tactic(auto, unfolding(crate::specs::Words::Forms::value_tokens))]
 pub(crate) fn value_meaning<'s>(text: &'s [u8]) -> Option<WordMeaning<'s>>
     ensures { MeansTokens result (value_tokens text.now) }
@@ -89,14 +89,14 @@ pub(crate) fn value_meaning<'s>(text: &'s [u8]) -> Option<WordMeaning<'s>>
     }
 }
 
-/// What stands between a word's quotes.
+/// The text between a word's quotes.
 fn between<'s>(rest: &'s [u8]) -> &'s [u8]
     ensures { result.now ≡ between rest.now }
 {
     &rest[..rest.len().saturating_sub(1)]
 }
 
-/// A text or digits in quotes.
+/// The meaning of a word in quotes: a text or digits.
 fn quoted<'s>(text: &'s [u8]) -> Option<WordMeaning<'s>>
     ensures { MeansTokens result (quoted_tokens text.now) }
 {
@@ -107,14 +107,14 @@ fn quoted<'s>(text: &'s [u8]) -> Option<WordMeaning<'s>>
     }
 }
 
-/// Bits 11..5 of a number in bits 31..25, and bits 4..0 in 11..7.
+/// The S field of a number: bits 11..5 in bits 31..25, and bits 4..0 in bits 11..7.
 fn store_field(n: u32) -> u32
     ensures { result ≡ store_field n }
 {
     n / 32 % 128 * 33_554_432 + n % 32 * 128
 }
 
-/// Bits 31..12 of a number, rounded.
+/// The upper field of a number: bits 31..12, rounded.
 fn rounded_field(n: i64) -> u32
     requires low { neg_ℤ (pos 1099511627776) ≤ℤ n }
     requires high { n ≤ℤ pos 1099511627776 }
@@ -123,7 +123,7 @@ fn rounded_field(n: i64) -> u32
     modulo_word(n + 2048) / 4096 * 4096
 }
 
-/// low <= n < high
+/// Whether low <= n < high.
 fn is_within(n: i64, low: i64, high: i64) -> bool
     ensures { result ≡ is_within n low high }
 {
@@ -141,7 +141,7 @@ fn ranged<'s>(fits: bool, meaning: WordMeaning<'s>) -> Result<WordMeaning<'s>, W
     }
 }
 
-/// A number after `!`, `@`, `~` or `%`.
+/// The meaning of a number after `!`, `@`, `~` or `%`.
 fn number_after<'s>(sign: u8, n: i64) -> Result<WordMeaning<'s>, WordFault>
     requires low { neg_ℤ (pos 1099511627776) ≤ℤ n }
     requires high { n ≤ℤ pos 1099511627776 }
@@ -166,14 +166,14 @@ fn number_after<'s>(sign: u8, n: i64) -> Result<WordMeaning<'s>, WordFault>
     }
 }
 
-/// Whether a number may stand after a sign.
+/// Whether a sign takes a number.
 fn takes_number(sign: u8) -> bool
     ensures { result ≡ takes_number sign }
 {
     matches!(sign, b'!' | b'@' | b'~' | b'%')
 }
 
-/// A sign that takes a number, and what may be one.
+/// The meaning of a sign that takes a number and of the text after it, if that is a number.
 fn signed<'s>(sign: u8, rest: &[u8]) -> Option<Result<WordMeaning<'s>, WordFault>>
     ensures { MeansForm result (number_after sign (number_in rest.now)) }
 {
@@ -183,7 +183,7 @@ fn signed<'s>(sign: u8, rest: &[u8]) -> Option<Result<WordMeaning<'s>, WordFault
     }
 }
 
-/// A sign that takes a number, and a number.
+/// The meaning of a word that is a sign and a number.
 #[tactic(auto, unfolding(crate::specs::Words::Forms::numbered_tokens))]
 fn numbered<'s>(text: &'s [u8]) -> Option<Result<WordMeaning<'s>, WordFault>>
     ensures { MeansForm result (numbered_tokens text.now) }
@@ -196,7 +196,7 @@ fn numbered<'s>(text: &'s [u8]) -> Option<Result<WordMeaning<'s>, WordFault>>
     }
 }
 
-/// What a word gives that no definition names.
+/// The meaning of a word that no definition names.
 #[tactic(auto, unfolding(crate::specs::Words::Forms::form_tokens))]
 pub fn meaning_of<'s>(text: &'s [u8]) -> Result<WordMeaning<'s>, WordFault>
     ensures { MeansResult result (form_tokens text.now) }

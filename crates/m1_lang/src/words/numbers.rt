@@ -5,10 +5,10 @@ ghost use Rattle.hex.specs.Hex.{hex_digit_value};
 ghost use Rattle.m1_lang.specs.Words.Numbers.{digit_below, digits_value, magnitude};
 ghost use Rattle.m1_lang.specs.Words.Representation.Capped.{capped_value, capped_number};
 
-/// It stands for every longer number, since it is above every range.
+/// Replaces every larger number, since it is above every range.
 const MOST: u64 = 1_099_511_627_776;
 
-/// The value of a digit of a base.
+/// The value of a digit in a base.
 fn digit_below(base: u64, byte: u8) -> Option<u64>
     ensures { result ≡ digit_below base (hex_digit_value byte) }
 {
@@ -25,7 +25,7 @@ fn digit_below(base: u64, byte: u8) -> Option<u64>
     }
 }
 
-/// The value of one or more digits, or `MOST` where it is more.
+/// The value of one or more digits; a larger value than `MOST` is replaced by it.
 fn digits_value(base: u64, text: &[u8]) -> Option<u64>
     requires low { 1 ≤ base }
     requires high { base ≤ 16 }
@@ -57,7 +57,7 @@ fn magnitude(text: &[u8]) -> Option<u64>
     }
 }
 
-/// The number that a text is, with 2^40 or -2^40 in place of one that is further from 0.
+/// The number that a text is; a number further from 0 than 2^40 is replaced by 2^40 or -2^40.
 #[tactic(auto, unfolding(crate::specs::Words::Representation::Capped::capped_number))]
 pub(crate) fn number_in(text: &[u8]) -> Option<i64>
     ensures value { result ≡ capped_number text.now }

@@ -8,7 +8,7 @@ ghost use Rattle.m1_lang.specs.Words.Ahead.{FindsAhead};
 
 use hex_langs::items::{gap_length, is_blank};
 
-/// The place of the first such quote, or the length.
+/// The index of the first such quote, or the length without one.
 fn until_quote(rest: &[u8], quote: u8) -> usize
     ensures value { result ≡ position_or_len (λ b. b == quote) rest.now }
     ensures within { result ≤ length rest.now }
@@ -21,7 +21,7 @@ fn until_quote(rest: &[u8], quote: u8) -> usize
     rest.len()
 }
 
-/// The place of the first blank, or the length.
+/// The index of the first blank, or the length without one.
 fn until_blank(rest: &[u8]) -> usize
     ensures value { result ≡ position_or_len is_blank rest.now }
     ensures within { result ≤ length rest.now }
@@ -34,7 +34,7 @@ fn until_blank(rest: &[u8]) -> usize
     rest.len()
 }
 
-/// How many bytes a word has after its first one; `None` where its quote isn't closed.
+/// The number of bytes of a word after its first; `None` if its quote is not closed.
 #[tactic(auto, unfolding(crate::specs::Words::Words::word_more))]
 fn word_more(byte: u8, rest: &[u8]) -> Option<usize>
     ensures value { result ≡ word_more byte rest.now }
@@ -52,17 +52,17 @@ fn word_more(byte: u8, rest: &[u8]) -> Option<usize>
     }
 }
 
-/// What stands from an offset on, past blanks and comments.
+/// What follows an offset, after blanks and comments.
 #[derive(Drop)]
 pub enum Ahead<'s> {
     End,
-    /// A quote that isn't closed, at its offset.
+    /// A quote that is not closed, with its offset.
     Open(usize),
     /// A word: its offset, its text, and the offset after it.
     Word(usize, &'s [u8], usize),
 }
 
-/// The next word from an offset on.
+/// Finds the next word from an offset on.
 pub fn next_word<'s>(source: &'s [u8], at: usize) -> Ahead<'s>
     requires { at ≤ length source.now }
     ensures { FindsAhead result source.now at }

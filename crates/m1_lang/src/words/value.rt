@@ -8,7 +8,7 @@ use crate::words::meaning::{WordMeaning, value_meaning};
 use hex_langs::items::Token;
 use std::marker::Model;
 
-/// The value of a definition, which lies in the source. Contracts see its text. A field's four bytes are read once.
+/// The value of a definition, borrowed from the source. Contracts see its text. A field's four bytes are read only once.
 #[derive(Drop)]
 pub struct Value<'s> {
     text: &'s [u8],
@@ -27,7 +27,7 @@ impl<'s> Model for Value<'s> {
 }
 
 impl<'s> Value<'s> {
-    /// The value that a text is, if it is digits alone, or `.` and 8 digits.
+    /// The value that a text is: digits alone, or `.` and 8 digits; `None` for other texts.
     pub fn new(text: &'s [u8]) -> Option<Value<'s>>
         ensures some { is_some result ≡ is_some (value_tokens text.now) }
         ensures text { IfSome result (λ value. value ≡ text.now) }
@@ -42,7 +42,7 @@ impl<'s> Value<'s> {
         }
     }
 
-    /// What it gives.
+    /// The value's meaning.
     pub fn meaning(&self) -> Option<WordMeaning<'s>>
         ensures { MeansTokens result (value_tokens self.now) }
     {

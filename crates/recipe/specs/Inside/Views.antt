@@ -1,4 +1,4 @@
--- The tables of the top, as the definitions see them.
+-- The tables of the top table, as the definitions see them.
 use Rattle.toml.specs.View.{table_view}
 use Rattle.recipe.specs.Text.Inside.Views.{tables_view}
 use Rattle.recipe.specs.Tables as tables

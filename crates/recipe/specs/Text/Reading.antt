@@ -1,5 +1,5 @@
--- What stands at a key of a recipe's tables: its value, or the first refusal (docs/reference/recipe.md, "What stands at a key"). The tables
--- are those of a document of TOML 1.0.0 (toml.io), whose bytes are UTF-8 (RFC 3629).
+-- The value at a key of a recipe's tables, or the first refusal (docs/reference/recipe.md, "What stands at a key"). The tables are those
+-- of a document of TOML 1.0.0 (toml.io), whose bytes are UTF-8 (RFC 3629).
 use Rattle.std.specs.Prelude.{◌≡◌, ℕ, ◌+◌, ℤ, pos, negsuc, Bool, ◌&&◌, nat_le, List, [], ◌∷◌, ◌++◌, length, Option, Some, None, option_map, Result, Ok, Err, if◌then◌else◌}
 use Rattle.std.specs.List.{list_all}
 use Rattle.std.specs.Str.{is_utf8}
@@ -29,7 +29,7 @@ each_passes test number (x ∷ xs) = do
   test number x
   each_passes test (number + 1) xs
 
--- ---- what a call answered: the reading, with what was read seen by `view`, unless memory was wanting
+-- ---- the answer of a call: the reading, seen by `view`, or out of memory
 
 abbrev pub IsRefused : {Y : Type 0} → RecipeRefusal → Result Y RecipeRefusal → Type 0
 IsRefused OutOfMemory reading = Unit {0}
@@ -62,7 +62,7 @@ is_path_byte byte = nat_le 0x20 byte && nat_le byte 0x7E
 unfoldable pub is_path : List ℕ → Bool
 is_path text = nat_le 1 (length text) && nat_le (length text) 255 && list_all is_path_byte text
 
--- the path that a text is
+-- the path of a text, if it is one
 abbrev pub path_of : List ℕ → Option (List ℕ)
 path_of text = if is_path text then Some text else None
 
@@ -85,7 +85,7 @@ a_word place key value = do
   error_unless (BadPath place key) (is_word text)
   Ok text
 
--- the number, where it is in the range
+-- the number, if it is in the range
 abbrev pub in_range : ℕ → ℕ → ℤ → Option ℕ
 in_range least most (pos number) = if nat_le least number && nat_le number most then Some number else None
 in_range least most (negsuc number) = None
@@ -118,9 +118,9 @@ a_list read least most place key value = do
   values ← an_array least most place key value
   gathered (λ _ element. read place key element) [] values
 
--- ---- what stands at a key
+-- ---- the values at keys
 
--- at a key that has to be there
+-- the value at a required key
 unfoldable pub required : {A : Type 0} → (Place → Key → Data → Result A RecipeRefusal) → Place → Key → Members → Result A RecipeRefusal
 required read place key table = do
   value ← or_error (Missing place key) (get_member (key_word key) table)
@@ -130,16 +130,16 @@ abbrev pub where_there : {A B : Type 0} → (A → Result B RecipeRefusal) → O
 where_there read None = Ok None
 where_there read (Some value) = read value >>= λ x. Ok (Some x)
 
--- at a key that may be absent
+-- the value at an optional key
 unfoldable pub optional : {A : Type 0} → (Place → Key → Data → Result A RecipeRefusal) → Place → Key → Members → Result (Option A) RecipeRefusal
 optional read place key table = where_there (read place key) (get_member (key_word key) table)
 
--- no other key is there
+-- the table has no other key
 unfoldable pub no_other_key : Place → List Key → Members → Result (Unit {0}) RecipeRefusal
 no_other_key place keys table = error_unless (Unknown place) (are_listed keys table)
 
 -- ---- the whole text
 
--- the top table that the bytes are: a document of TOML 1.0.0 in UTF-8
+-- the top table of the bytes: a document of TOML 1.0.0 in UTF-8
 unfoldable pub document_of : List ℕ → Result Members RecipeRefusal
 document_of bytes = or_error NotToml (if is_utf8 bytes then parse_document bytes else None)

@@ -1,4 +1,4 @@
--- The refusals of a recipe, numbered from 1, and where each one stands (docs/reference/recipe.md, "Refusals").
+-- The refusals of a recipe, numbered from 1, and the table and key of each (docs/reference/recipe.md, "Refusals").
 use Rattle.std.specs.Prelude.{ℕ, Option, Some, None}
 use Rattle.recipe.specs.declared.text.keys.Key.{Key}
 use Rattle.recipe.specs.declared.text.keys.Place.{Place}
@@ -17,7 +17,7 @@ recipe_refusal_number (BadNumber place key) = 8
 recipe_refusal_number (TooMany place key) = 9
 recipe_refusal_number OutOfMemory = 10
 
--- the table that is refused
+-- the refused table
 abbrev pub recipe_refusal_place : RecipeRefusal → Option Place
 recipe_refusal_place NotToml = None
 recipe_refusal_place (Missing place key) = Some place
@@ -30,7 +30,7 @@ recipe_refusal_place (BadNumber place key) = Some place
 recipe_refusal_place (TooMany place key) = Some place
 recipe_refusal_place OutOfMemory = None
 
--- the key that is refused
+-- the refused key
 abbrev pub refusal_key : RecipeRefusal → Option Key
 refusal_key NotToml = None
 refusal_key (Missing place key) = Some key

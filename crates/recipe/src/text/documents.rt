@@ -5,7 +5,7 @@ use crate::text::refusal::RecipeRefusal;
 use std::alloc::Global;
 use toml::Table;
 
-/// The top table that the bytes are.
+/// Parses the bytes as a TOML document and returns its top table.
 #[tactic(auto, unfolding(crate::specs::Text::Reading::document_of))]
 pub fn document(alloc: Global, bytes: &[u8]) -> Result<Table, RecipeRefusal>
     ensures { Gives (λ t. table_view t) result (document_of bytes.now) }

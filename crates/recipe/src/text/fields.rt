@@ -1,4 +1,4 @@
-//! What stands at a key of a table.
+//! The values at the keys of a table.
 
 ghost use Rattle.std.specs.Prelude.{◌≡◌, option_map, string_bytes};
 ghost use Rattle.std.specs.List.{list_all};
@@ -16,7 +16,7 @@ use crate::text::values::{name, number};
 use ddc_base::Name;
 use toml::{Table, Value};
 
-/// The value at a key.
+/// The value at a key; `None` if the key is absent.
 pub fn find(table: &Table, key: Key) -> Option<&Value>
     ensures { option_map (λ v. view v.now) result ≡ get_member (key_word key) (table_view table.now) }
 {
@@ -30,7 +30,7 @@ fn find_word<'a>(table: &'a Table, word: &str) -> Option<&'a Value>
     table.get(word)
 }
 
-/// The value at a key that has to be there.
+/// The value at a required key.
 pub fn required(place: Place, key: Key, table: &Table) -> Result<&Value, RecipeRefusal>
     ensures value { Gives (λ v. view v.now) result (or_error (Absent place key) (get_member (key_word key) (table_view table.now))) }
     ensures memory { NeverWants result }
@@ -41,7 +41,7 @@ pub fn required(place: Place, key: Key, table: &Table) -> Result<&Value, RecipeR
     }
 }
 
-/// The name at a key that has to be there.
+/// Reads the name at a required key.
 #[tactic(auto, unfolding(crate::specs::Text::Reading::required))]
 pub fn required_name(place: Place, key: Key, table: &Table) -> Result<Name, RecipeRefusal>
     ensures value { Gives (λ x. x) result (required a_name place key (table_view table.now)) }
@@ -50,7 +50,7 @@ pub fn required_name(place: Place, key: Key, table: &Table) -> Result<Name, Reci
     name(place, key, required(place, key, table)?)
 }
 
-/// The name at a key that may be absent.
+/// Reads the name at an optional key.
 #[tactic(auto, unfolding(crate::specs::Text::Reading::optional))]
 pub fn optional_name(place: Place, key: Key, table: &Table) -> Result<Option<Name>, RecipeRefusal>
     ensures value { Gives (λ x. x) result (optional a_name place key (table_view table.now)) }
@@ -62,7 +62,7 @@ pub fn optional_name(place: Place, key: Key, table: &Table) -> Result<Option<Nam
     }
 }
 
-/// The number at a key that has to be there.
+/// Reads the number at a required key, from `least` to `most`.
 #[tactic(auto, unfolding(crate::specs::Text::Reading::required))]
 pub fn required_number(
     least: u64,
@@ -77,7 +77,7 @@ pub fn required_number(
     number(least, most, place, key, required(place, key, table)?)
 }
 
-/// The number at a key that may be absent.
+/// Reads the number at an optional key, from `least` to `most`.
 #[tactic(auto, unfolding(crate::specs::Text::Reading::optional))]
 pub fn optional_number(
     least: u64,
@@ -95,7 +95,7 @@ pub fn optional_number(
     }
 }
 
-/// Refuses a table that has a key beside these.
+/// Refuses a table that has any other key than these.
 #[tactic(auto, unfolding(crate::specs::Text::Reading::no_other_key))]
 pub fn no_other_key(place: Place, keys: &[Key], table: &Table) -> Result<(), RecipeRefusal>
     ensures value { Gives (λ x. x) result (no_other_key place keys.now (table_view table.now)) }
@@ -115,7 +115,7 @@ fn are_listed(keys: &[Key], table: &Table) -> bool
     are_keys_listed(keys, table)
 }
 
-/// The same, over the keys of the map that a table is.
+/// Whether the map of a table has no other keys than these.
 fn are_keys_listed(keys: &[Key], table: &Table) -> bool
     ensures { result ≡ list_all (λ k. is_known_key keys.now (string_bytes k)) (map_keys table.now) }
 {

@@ -49,7 +49,7 @@ pub struct Place {
 }
 
 impl Table {
-    /// Its word in lower case, which `Display` prints.
+    /// The table's word in lower case, which `Display` prints.
     pub fn word(self) -> &'static str
         ensures { result.now ≡ table_word self }
     {

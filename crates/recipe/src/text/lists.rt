@@ -1,4 +1,4 @@
-//! Arrays, and lists of what their elements are.
+//! Reads arrays and lists of their elements.
 
 ghost use Rattle.std.specs.Prelude.{◌≤◌, IfOk, length, map, []};
 ghost use Rattle.toml.specs.View.{view};
@@ -12,7 +12,7 @@ use ddc_base::{Bytes, ListOf, Name};
 use std::alloc::Global;
 use toml::{Table, Value};
 
-/// The values of an array of `least` to `most` of them.
+/// The values of an array, which must have `least` to `most` of them.
 #[tactic(auto, using(crate::proofs::TextLemmas::Arrays::arrays), unfolding(crate::specs::Text::Reading::an_array))]
 pub fn array(
     least: usize,
@@ -39,7 +39,7 @@ pub fn array(
     }
 }
 
-/// Names, one a value.
+/// Reads one name from each value.
 pub fn names(
     alloc: Global,
     place: Place,
@@ -56,7 +56,7 @@ pub fn names(
     Ok(names)
 }
 
-/// Words for a program, one a value.
+/// Reads one word for a program from each value.
 pub fn words(
     alloc: Global,
     place: Place,
@@ -73,7 +73,7 @@ pub fn words(
     Ok(words)
 }
 
-/// Tables, one a value.
+/// Reads one table from each value.
 pub fn tables(
     alloc: Global,
     place: Place,

@@ -6,7 +6,7 @@ use ddc_base::OutOfMemory;
 use std::alloc::Global;
 use std::marker::Model;
 
-/// A path of a file outside: 1 to 255 bytes from space to `~`, which contracts see as these bytes.
+/// A path of a file outside: 1 to 255 bytes from space to `~`. Contracts see these bytes.
 #[derive(Drop)]
 pub struct Path {
     text: String,
@@ -24,7 +24,7 @@ impl Model for Path {
 }
 
 impl Path {
-    /// A path's text, kept.
+    /// A path with a copy of this text. Error: out of memory.
     pub(crate) fn keep(alloc: Global, text: &str) -> Result<Path, OutOfMemory>
         requires { IsTrue (is_path text.now) }
         ensures { IfOk result (λ path. path ≡ text.now) }
@@ -34,7 +34,7 @@ impl Path {
         })
     }
 
-    /// The path as text, by which a shelf loads.
+    /// The path as text, by which a file store (`Shelf`) loads.
     pub fn as_str(&self) -> &str
         ensures value { result.now ≡ self.now }
         ensures path { IsTrue (is_path self.now) }
@@ -51,7 +51,7 @@ pub fn is_path(text: &[u8]) -> bool
     !text.is_empty() && text.len() <= 255 && are_path_bytes(text)
 }
 
-/// Whether every byte may stand in a path.
+/// Whether every byte is allowed in a path.
 fn are_path_bytes(text: &[u8]) -> bool
     ensures { result ≡ list_all is_path_byte text.now }
 {

@@ -6,28 +6,28 @@ use crate::text::keys::{Key, Place};
 use std::alloc::{AllocError, AllocFailed};
 use thiserror::Error;
 
-/// Why a text is no recipe: the first refusal of the two walks, with the table and the key where it stands.
+/// Why a text is not a recipe: the first refusal of the two walks, with its table and key.
 #[derive(Clone, Copy, Debug, Error)]
 pub enum RecipeRefusal {
-    /// The bytes are no TOML text.
+    /// The bytes are not a TOML text.
     #[error("not TOML")]
     NotToml,
-    /// A key is absent, of the wrong type, or an array is too short; or a program of an unchecked stage has no source.
+    /// A key is absent or has the wrong type, an array is too short, or a program of an unchecked stage has no source.
     #[error("missing")]
     Missing(Place, Key),
-    /// The table has a key that such a table has not.
+    /// The table has a key that tables of its kind do not have.
     #[error("unknown key")]
     Unknown(Place),
-    /// What should be a name is none, or a language is none of the five or not one in which a stage is checked.
+    /// The name is invalid, or the language is not one of the five or not one in which a stage can be checked.
     #[error("bad name")]
     BadName(Place, Key),
-    /// The name, or the path among a stage's files, stands above already.
+    /// The name, or the path among a stage's files, is already used above.
     #[error("double name")]
     DoubleName(Place, Key),
-    /// The name stands for nothing that is there by then.
+    /// The name stands for nothing that exists by then.
     #[error("not made yet")]
     NotMadeYet(Place, Key),
-    /// What should be a path or a word for a program is none.
+    /// The path, or the word for a program, is invalid.
     #[error("bad path")]
     BadPath(Place, Key),
     /// The number is out of its range.
@@ -41,7 +41,7 @@ pub enum RecipeRefusal {
 }
 
 impl RecipeRefusal {
-    /// Its number, from 1 to 10 in the order of the variants.
+    /// The number of the refusal, 1 to 10 in the order of the variants.
     pub fn number(&self) -> u8
         ensures { result ≡ recipe_refusal_number self.now }
     {
@@ -59,7 +59,7 @@ impl RecipeRefusal {
         }
     }
 
-    /// The table that is refused, where there is one.
+    /// The refused table, if there is one.
     pub fn place(&self) -> Option<Place>
         ensures { result ≡ recipe_refusal_place self.now }
     {
@@ -76,7 +76,7 @@ impl RecipeRefusal {
         }
     }
 
-    /// The key that is refused, where there is one.
+    /// The refused key, if there is one.
     pub fn key(&self) -> Option<Key>
         ensures { result ≡ refusal_key self.now }
     {

@@ -1,4 +1,4 @@
-//! The readers of one value: each takes the place of the table and the key, which its refusals name.
+//! Readers of one value. Each takes the place of the table and the key, which its refusals name.
 
 ghost use Rattle.std.specs.Prelude.{◌≡◌};
 ghost use Rattle.std.specs.List.{list_all};
@@ -12,7 +12,7 @@ use ddc_base::{Bytes, Name};
 use std::alloc::Global;
 use toml::{Table, Value};
 
-/// A string.
+/// Reads a string.
 #[tactic(auto, unfolding(crate::specs::Text::Reading::a_text))]
 pub fn text(place: Place, key: Key, value: &Value) -> Result<&str, RecipeRefusal>
     ensures value { Gives (λ text. text.now) result (a_text place key (view value.now)) }
@@ -24,7 +24,7 @@ pub fn text(place: Place, key: Key, value: &Value) -> Result<&str, RecipeRefusal
     }
 }
 
-/// A name.
+/// Reads a name.
 #[tactic(auto, unfolding(crate::specs::Text::Reading::a_name))]
 pub fn name(place: Place, key: Key, value: &Value) -> Result<Name, RecipeRefusal>
     ensures value { Gives (λ name. name) result (a_name place key (view value.now)) }
@@ -37,7 +37,7 @@ pub fn name(place: Place, key: Key, value: &Value) -> Result<Name, RecipeRefusal
     }
 }
 
-/// A path of a file outside.
+/// Reads a path of a file outside.
 #[tactic(auto, unfolding(crate::specs::Text::Reading::a_path))]
 pub fn path(alloc: Global, place: Place, key: Key, value: &Value) -> Result<Path, RecipeRefusal>
     ensures { Gives (λ path. path) result (a_path place key (view value.now)) }
@@ -50,7 +50,7 @@ pub fn path(alloc: Global, place: Place, key: Key, value: &Value) -> Result<Path
     }
 }
 
-/// A word for a program: at most 255 bytes, none of them zero.
+/// Reads a word for a program: at most 255 bytes, none of them zero.
 #[tactic(auto, unfolding(crate::specs::Text::Reading::a_word))]
 pub fn word(alloc: Global, place: Place, key: Key, value: &Value) -> Result<Bytes, RecipeRefusal>
     ensures { Gives (λ word. word) result (a_word place key (view value.now)) }
@@ -71,14 +71,14 @@ fn is_word(text: &[u8]) -> bool
     text.len() <= 255 && are_word_bytes(text)
 }
 
-/// Whether every byte may stand in a word.
+/// Whether every byte is allowed in a word.
 fn are_word_bytes(text: &[u8]) -> bool
     ensures { result ≡ list_all is_word_byte text.now }
 {
     text.iter().all(|byte| matches!(*byte, 1..=255))
 }
 
-/// A number from `least` to `most`.
+/// Reads a number from `least` to `most`.
 #[tactic(auto, unfolding(crate::specs::Text::Reading::a_number))]
 pub fn number(
     least: u64,
@@ -99,7 +99,7 @@ pub fn number(
     }
 }
 
-/// The number, where it is in the range.
+/// The number, if it is in the range.
 fn in_range(least: u64, most: u64, number: i64) -> Option<u64>
     ensures { result ≡ in_range least most number }
 {
@@ -114,7 +114,7 @@ fn in_range(least: u64, most: u64, number: i64) -> Option<u64>
     }
 }
 
-/// A table.
+/// Reads a table.
 #[tactic(auto, unfolding(crate::specs::Text::Reading::a_table))]
 pub fn table(place: Place, key: Key, value: &Value) -> Result<&Table, RecipeRefusal>
     ensures value { Gives (λ table. table_view table.now) result (a_table place key (view value.now)) }

@@ -1,4 +1,4 @@
--- What reading a text answers.
+-- The answer of reading a text.
 use Rattle.std.specs.Prelude.{◌≡◌, ℕ, ◌<◌, ◌^◌, Result, Ok, Err, List}
 use Rattle.checkpoints.specs.Checkpoint.{MayWantMemory}
 use Rattle.guest_run.specs.State.{GuestState}
@@ -16,7 +16,7 @@ abbrev pub ReadBy : List ℕ → Result GuestState Unread → Type 0
 ReadBy text (Ok guest) = IsStateOf text guest
 ReadBy text (Err why) = NotRead text why
 
--- what is recorded of the state that the bytes say
+-- what is recorded of the state of a text
 pub record Records (text : List ℕ) (recorded : Recorded) : Type 0 where
   pub guest : GuestState
   pub is : IsStateOf text guest

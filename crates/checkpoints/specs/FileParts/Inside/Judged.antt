@@ -30,17 +30,17 @@ abbrev pub is_called : List ℕ → Option (List ℕ) → Bool
 is_called name None = false
 is_called name (Some other) = bytes_eq name other
 
--- does one of these files have this name, if it is one?
+-- whether one of these files has this name; `false` without a name
 abbrev pub is_taken : Option (List ℕ) → List ListedFile → Bool
 is_taken None files = false
 is_taken (Some name) files = list_any (λ file. is_called name file.name) files
 
--- are the names distinct?
+-- whether the names are distinct
 abbrev pub have_own_names : List ListedFile → Bool
 have_own_names [] = true
 have_own_names (file ∷ files) = not (is_taken file.name files) && have_own_names files
 
--- the bytes of a content that is borrowed
+-- the size of a borrowed content, in bytes
 abbrev pub content_size : FileView → ℕ
 content_size file = length file.content.now
 
@@ -50,12 +50,12 @@ stream_size stream = length stream.now
 abbrev pub size : FileLists → ℕ
 size lists = sum_by length lists.streams + sum_by (λ file. length file.content) lists.files
 
--- do counts and ranges allow these lists?
+-- whether counts and ranges of these lists are right
 unfoldable pub in_range : FileLists → Bool
 in_range lists =
     list_all is_good_file lists.files && list_all is_good_open_file lists.open_files && list_all (λ stream. nat_le (length stream) most_content) lists.streams
     && nat_le (length (named lists.files)) most_names && nat_le (size lists) most_total && have_own_names lists.files
 
--- do references?
+-- whether references are right
 unfoldable pub are_joined : FileLists → Bool
 are_joined lists = list_all (λ held. is_listed lists.files held.1) lists.open_files && list_all (is_used lists.open_files) lists.files

@@ -18,7 +18,7 @@ pub record HasBytes (file : ListedFile) : Type 0 where
   pub name : IfSome file.name AreBytes
   pub content : AreBytes file.content
 
--- what all parts keep: numbers and descriptors rise, there are at most two streams, and everything is bytes
+-- what all parts obey: numbers and descriptors ascend, there are at most two streams, and everything is bytes
 pub record AreParts (lists : FileLists) : Type 0 where
   pub files_rise : IsTrue (fin.is_sorted nat_cmp (numbered_contents lists.files))
   pub open_files_rise : IsTrue (fin.is_sorted nat_cmp lists.open_files)

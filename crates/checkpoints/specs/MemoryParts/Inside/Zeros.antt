@@ -1,4 +1,4 @@
--- The memory that runs and pages say, from the last run on.
+-- The memory of runs and pages, from the last run on.
 use Rattle.std.specs.Prelude.{◌*◌, List, [], ◌∷◌}
 use Rattle.std.specs.FinMap.{empty}
 use Rattle.paged_mem.specs.Memory.{Memory, with_bytes, zeros}

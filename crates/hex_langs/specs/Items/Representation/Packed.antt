@@ -1,4 +1,4 @@
--- Items as codes: a code below 256 is a byte, and a higher one the place of another item. No promise rests on its being read.
+-- Items as codes: a code below 256 is a byte; a higher code, minus 256, is the index of another item. No promise depends on this file.
 use Rattle.std.specs.Prelude.{◌≡◌, ℕ, ◌+◌, ◌-◌, ◌<◌, ◌≤◌, nat_lt, Bool, if◌then◌else◌, List, length, map, slice_index_or}
 use Rattle.std.specs.List.{AllByRecursion}
 use Rattle.hex_langs.specs.declared.items.item.Item.{Item}
