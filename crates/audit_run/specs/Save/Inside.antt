@@ -1,3 +1,3 @@
--- What serves the code's split. No promise depends on this file being read.
+-- What serves the code's split. To read the promises, this file is not needed.
 pub mod Seen
 pub mod Tests

@@ -1,4 +1,4 @@
--- A stretch of steps, the unit in which the code takes them. No promise depends on this file.
+-- A stretch of steps, the unit in which the code takes them. To read the promises, this file is not needed.
 use Rattle.std.specs.Prelude.{◌≡◌, ℕ, ◌+◌, ◌<◌, Option, Some}
 use Rattle.guest_run.specs.declared.run.RunEnd.{RunEnd}
 use Rattle.guest_run.specs.Run.{after, Steps}

@@ -1,4 +1,4 @@
--- The answers of a replay's steps. No promise depends on this file.
+-- The answers of a replay's steps. To read the promises, this file is not needed.
 use Rattle.std.specs.Prelude.{◌≡◌, Option, None, Some, Result, Ok, Err}
 use Rattle.kaem_script.specs.declared.replay.ReplayStop.{ReplayStop}
 use Rattle.kaem_script.specs.declared.replay.ReplayStop.TheVariants.{Refuted, OutOfMemory}

@@ -1,4 +1,4 @@
--- What the code's passes over a source do. No promise depends on this file.
+-- What the code's passes over a source do. To read the promises, this file is not needed.
 use Rattle.std.specs.Prelude.{◌≡◌, ℕ, ◌<◌, ◌≤◌, bytes_eq, Bool, not, if◌then◌else◌, is_some, List, [], ◌∷◌, ◌++◌, length, Option, Some, None, Result, Ok, Err}
 use Rattle.indexmap.specs.IndexMap.{IndexMap, get}
 use Rattle.ddc_base.specs.declared.name_tables.NamesKey.{NamesKey}

@@ -1,4 +1,4 @@
--- The programs about which assumptions are listed. No promise depends on this file being read.
+-- The programs about which assumptions are listed. To read the promises, this file is not needed.
 use Rattle.std.specs.Prelude.{ℕ, Bool, List}
 use Rattle.recipe.specs.declared.contents.RecipeContents.{RecipeContents}
 use Rattle.wheeler.specs.declared.trusted.Trusted.{Trusted}

@@ -1,4 +1,5 @@
--- Items as codes: a code below 256 is a byte; a higher code, minus 256, is the index of another item. No promise depends on this file.
+-- Items as codes: a code below 256 is a byte; a higher code, minus 256, is the index of another item.
+-- To read the promises, this file is not needed.
 use Rattle.std.specs.Prelude.{◌≡◌, ℕ, ◌+◌, ◌-◌, ◌<◌, ◌≤◌, nat_lt, Bool, if◌then◌else◌, List, length, map, slice_index_or}
 use Rattle.std.specs.List.{AllByRecursion}
 use Rattle.hex_langs.specs.declared.items.item.Item.{Item}

@@ -1,4 +1,5 @@
--- Numbers as the code keeps them: 2^40 replaces every larger number, since it is in no range. No promise depends on this file.
+-- Numbers as the code keeps them: 2^40 replaces every larger number, since it is in no range.
+-- To read the promises, this file is not needed.
 use Rattle.std.specs.Prelude.{ℕ, min, Option, Some, None, ℤ}
 use Rattle.m1_lang.specs.Words.Numbers.{magnitude, signed_by}
 use Rattle.std.specs.Prelude.{◌==◌, List, drop, slice_index, if◌then◌else◌, true, false}

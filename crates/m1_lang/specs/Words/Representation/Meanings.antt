@@ -1,4 +1,4 @@
--- The answers of functions that try one form of a word, and what a value keeps of its text. No promise depends on this file.
+-- The answers of functions that try one form of a word, and what a value keeps of its text. To read the promises, this file is not needed.
 use Rattle.std.specs.Prelude.{◌≡◌, ℕ, List, [], ◌∷◌, Option, Some, None, Result, Ok, Err}
 use Rattle.hex_langs.specs.declared.items.token.Token.TheVariants.{Field}
 use Rattle.m1_lang.specs.declared.words.meaning.WordMeaning.{WordMeaning}
