@@ -25,7 +25,7 @@ use std::alloc::Global;
 /// of 536,870,912 bytes, and all files that are there; what it leaves is there for the next one. The first command that does not exit with
 /// 0 stops the script. The report is that of commands that all exited with 0.
 ///
-/// Want of memory comes only at a command whose program is there and can be loaded, or for the report.
+/// Want of memory comes only at a command whose program is there and starts, or for the report.
 #[tactic(auto, unfolding(crate::specs::Reported::script_report))]
 pub fn audit(
     alloc: Global,

@@ -23,7 +23,7 @@ use std::alloc::Global;
 ///
 /// `Refuted` names the first part that is not true, judged on the bytes that the earlier commands left. Want of memory comes only at a command,
 /// where the script's digest, all `file` lines and the lines of all commands before it are right, its own recorded step is from 1 to 2^48, and its
-/// program is there and can be loaded. docs/reference/kaem.md has the rules.
+/// program is there and starts. docs/reference/kaem.md has the rules.
 #[tactic(auto, unfolding(crate::specs::Faults::first_script_fault))]
 pub fn verify(
     alloc: Global,
