@@ -69,8 +69,8 @@ pub fn segments_are_reported()
 {}
 
 /// Checked segments are the stage's run. Where `ends RECIPE STAGE PREFIX COUNT` returns 0, and so does `segment PREFIX.K PREFIX.(K + 1)`
-/// for each K + 1 below COUNT, and what these commands load is bytes, the stage's run from its start exits with 0, whoever made the files.
-/// `ends` then prints what the run did, as the report of the audit's definition (`bench`) does.
+/// for each K + 1 below COUNT, and what these commands load is bytes, the stage's run from its start exits with 0. `ends`
+/// then prints what the run did, as the report of the audit's definition (`bench`) does. Who made the files does not matter.
 pub fn checked_pieces_are_the_run()
     ensures { (recipe stage prefix : List ℕ) (count : ℕ) (files : NamedFiles)
         → LoadsBytes (ends_plan (recipe ∷ stage ∷ prefix ∷ decimal count ∷ [])) files
