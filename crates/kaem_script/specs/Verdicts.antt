@@ -25,7 +25,7 @@ abbrev pub OnVerdictWant : ScriptVerdict → (ℕ → Type 0) → Type 0
 OnVerdictWant (OutOfMemory number) fact = fact number
 OnVerdictWant answer fact = Unit {0}
 
--- what is judged of a command's line before memory is taken: its step is from 1 to 2^48, and its program is there and can be loaded
+-- what is judged of a command's line before memory is taken: its step is from 1 to 2^48, and its program is there and starts
 pub record CanReplay (world : World) (words : List (List ℕ)) (step : ℕ) : Type 0 where
   pub some : 1 ≤ step
   pub few : step ≤ 2 ^ 48

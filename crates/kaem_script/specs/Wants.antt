@@ -1,17 +1,17 @@
 -- Where the audit of a script may want memory. docs/reference/kaem.md says the same for people.
 use Rattle.std.specs.Prelude.{◌≡◌, ℕ, ◌+◌, Some, IsOk, List, [], ◌∷◌, length, take, drop}
-use Rattle.elf_load.specs.Image.{image_of}
 use Rattle.mem_files.specs.World.{World}
 use Rattle.mem_files.specs.Calls.{content_at}
+use Rattle.guest_run.specs.Start.{start_of}
 use Rattle.kaem_script.specs.declared.fold.ScriptStop.{ScriptStop}
 use Rattle.kaem_script.specs.declared.fold.ScriptStop.TheVariants.{Failed, OutOfMemory}
-use Rattle.kaem_script.specs.Fold.{RanAll, Ran, folded, program_name}
+use Rattle.kaem_script.specs.Fold.{RanAll, Ran, command_box, folded, program_name}
 
--- a command's program is there, and can be loaded: so much is judged before memory is taken
+-- a command's program is there, and starts with what it is given: so much is judged before memory is taken
 pub record HasProgram (world : World) (words : List (List ℕ)) : Type 0 where
   pub program : List ℕ
   pub there : content_at world (program_name words) ≡ Some program
-  pub loads : IsOk (image_of program)
+  pub starts : IsOk (start_of program (command_box world words))
 
 -- the first of these commands has its program
 abbrev pub FirstHasProgram : World → List (List (List ℕ)) → Type 0
