@@ -1,7 +1,15 @@
 """What every document keeps: its length, a page's question in its first line, a way to it from README.md, and no day on any page."""
 import re
 
-MOST_WORDS = {"README.md": 1200, "docs/TESTING.md": 3000, "docs/DECISIONS.md": 3500, "docs/PROVING.md": 3500}
+MOST_WORDS = {
+    "README.md": 1200,
+    "docs/ARCHITECTURE.md": 4000,
+    "docs/BENCHMARKS.md": 2000,
+    "docs/DECISIONS.md": 2800,
+    "docs/PROVING.md": 2800,
+    "docs/TESTING.md": 2200,
+    "docs/guide.md": 5400,
+}
 
 
 def words(text):

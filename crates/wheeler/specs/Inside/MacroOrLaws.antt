@@ -1,4 +1,4 @@
--- Why a semantics of other languages beside machine code and M1 is one. The kit wants the grounds for a law of an `impl` among the definitions.
+-- Why a semantics of other languages beside machine code and M1 is a semantics. A law of an `impl` needs its grounds among the definitions.
 use Rattle.std.proofs.Common.{◌≡◌, ℕ, Option, None, Some, List, sym, subst}
 use Rattle.audit_rules.specs.Contents.{SourceText}
 use Rattle.wheeler.specs.Inside.MacroLaws.{keeps-hex}
