@@ -21,3 +21,5 @@ pub mod Relative
 pub mod Differing
 pub mod Scripting
 mod Written
+mod Collecting
+mod Recollecting

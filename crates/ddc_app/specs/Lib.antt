@@ -8,6 +8,7 @@ pub mod Differences
 pub mod Verified
 pub mod Judged
 pub mod Headline
+pub mod Collected
 pub mod Accounted
 pub mod Chained
 pub mod ChainJudged

@@ -7,6 +7,7 @@ ghost use Rattle.ddc_app.specs.Accepting.{audit, is_compared, provenance, verify
 ghost use Rattle.ddc_app.specs.Accounted.{Accounted, DigestCollision};
 ghost use Rattle.ddc_app.specs.ChainJudged.{AllVerified};
 ghost use Rattle.ddc_app.specs.Chained.{Chained, chain};
+ghost use Rattle.ddc_app.specs.Collected.{Collected};
 ghost use Rattle.ddc_app.specs.Commands.{plan_of};
 ghost use Rattle.ddc_app.specs.Differences.{AreDeltaWords, DeltaPieces, Differences, IsSavedRelative, LeavesAllBut, delta_resume, delta_start, in_differences};
 ghost use Rattle.ddc_app.specs.Headline.{HoldsTrueReport, SaysHeadline};
@@ -17,6 +18,7 @@ ghost use Rattle.ddc_app.specs.Verified.{Verified};
 ghost use Rattle.command_plan.specs.Plan.{LoadsBytes, outcome};
 ghost use Rattle.recipe_plan.specs.Reports.{compared_status};
 ghost use Rattle.verify_commands.specs.Provenance.{origin_text, provenance_text};
+ghost use Rattle.verify_commands.specs.Texts.{true_text};
 ghost use Rattle.verify_commands.specs.Verify.{provenance_plan};
 ghost use Rattle.command_plan.specs.declared.status.Status.TheVariants.{Differs, Paused, Refuted, Yes};
 ghost use Rattle.ddc_base.specs.Outside.{NamedFiles};
@@ -47,7 +49,7 @@ ghost use Rattle.recipe.specs.declared.parts.Stage.{Stage};
 use audit_chain::laws::composed;
 use recipe::laws::a_recipe_that_reads_keeps_the_rules;
 use verifier::conclusion::laws::a_true_report_shows;
-use verifier::laws::{a_yes_in_its_own_words, no_fault_is_every_word_true};
+use verifier::laws::{a_yes_in_its_own_words, no_fault_is_every_word_true, one_report};
 use verify_commands::laws::{it_judges_as_verify, what_is_printed_settles_it};
 use wheeler::Meaning;
 
@@ -128,6 +130,30 @@ pub fn audits_write_true_reports()
     pauses();
     differences();
     compared_reports_are_true();
+}
+
+/// All stages in segments. If a person saw all that `Collected` names, every line of the report is true, and `verify RECIPE REPORT` returns 0 or 3.
+/// It then prints the comparisons and the assumptions. The run of each stage was replayed, or its segments were checked on any computers.
+pub fn collected_reports_are_true()
+    ensures is_true { (recipe report : List ℕ) (files : NamedFiles) → Collected recipe report files → HoldsTrueReport recipe report files }
+    ensures told { (recipe report : List ℕ) (files : NamedFiles) (collected : Collected recipe report files)
+        → verify recipe report files
+        ≡ record { status = compared_status collected.seen.lines; text = true_text collected.said collected.seen.lines; files = files } }
+{
+    a_recipe_that_reads_keeps_the_rules();
+    no_fault_is_every_word_true();
+    one_report();
+}
+
+/// The converse. If `verify RECIPE REPORT` on files of bytes returns 0 or 3, `Collected` holds: a person who replays each stage sees all that it names.
+/// So `Collected` demands nothing more than `verify` does.
+pub fn true_reports_are_collected()
+    ensures { (recipe report : List ℕ) (files : NamedFiles) → LoadsBytes (plan_of (codes "verify" ∷ recipe ∷ report ∷ [])) files
+        → IsTrue (is_compared (verify recipe report files).status) → Collected recipe report files }
+{
+    a_recipe_that_reads_keeps_the_rules();
+    no_fault_is_every_word_true();
+    one_report();
 }
 
 /// If `chain LIST` on files of bytes returns 0, each line is a true audit whose comparisons are equal, and the text has exactly the
