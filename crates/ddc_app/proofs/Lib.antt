@@ -23,3 +23,6 @@ pub mod Scripting
 mod Written
 mod Collecting
 mod Recollecting
+mod EndsAs
+mod EndsOfCommands
+mod Statuses

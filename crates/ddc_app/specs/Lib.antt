@@ -14,4 +14,5 @@ pub mod Chained
 pub mod ChainJudged
 pub mod Scripted
 pub mod Help
+pub mod Statuses
 pub mod Version

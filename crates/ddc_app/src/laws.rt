@@ -11,10 +11,13 @@ ghost use Rattle.ddc_app.specs.Collected.{Collected};
 ghost use Rattle.ddc_app.specs.Commands.{plan_of};
 ghost use Rattle.ddc_app.specs.Differences.{AreDeltaWords, DeltaPieces, Differences, IsSavedRelative, LeavesAllBut, delta_resume, delta_start, in_differences};
 ghost use Rattle.ddc_app.specs.Headline.{HoldsTrueReport, SaysHeadline};
+ghost use Rattle.ddc_app.specs.Help.{command_name};
 ghost use Rattle.ddc_app.specs.Judged.{HoldsReport};
 ghost use Rattle.ddc_app.specs.Pausing.{AreWords, IsStepCount, LeavesOthers, LeavesUnwritten, Pieces, IsSavedAt, in_pieces, part, resume};
 ghost use Rattle.ddc_app.specs.Scripted.{ChangesOutAlone, ChangesReportAlone, HoldsScript, IsScriptTrue, ScriptReported, ScriptVerified, kaem, kaem_ended, kaem_left, kaem_verify};
+ghost use Rattle.ddc_app.specs.Statuses.{HasReadRecipe, is_answer_of};
 ghost use Rattle.ddc_app.specs.Verified.{Verified};
+ghost use Rattle.ddc_app.specs.declared.command_word.CommandWord.{CommandWord};
 ghost use Rattle.command_plan.specs.Plan.{LoadsBytes, outcome};
 ghost use Rattle.recipe_plan.specs.Reports.{compared_status};
 ghost use Rattle.verify_commands.specs.Provenance.{origin_text, provenance_text};
@@ -361,4 +364,12 @@ pub fn lines_of_a_run()
     ensures first { (bytes : List ℕ) → stream_line 1 bytes ≡ line (line_words (Stream1 (mark_of bytes))) }
     ensures second { (bytes : List ℕ) → stream_line 2 bytes ≡ line (line_words (Stream2 (mark_of bytes))) }
     ensures left { (name content : List ℕ) → left_line (name, content) ≡ line (line_words (Left (record { name = name; mark = mark_of content }))) }
+{}
+
+/// Every status that a command answers is printed by `help`, whatever words follow the command's name and whatever the files hold. Two statuses are not
+/// printed, because every command has them: a usage error (2), and a file that is absent or too long (10). For `demo` the recipe that it brings with it
+/// must be a valid recipe.
+pub fn help_prints_each_status()
+    ensures { (command : CommandWord) (words : List (List ℕ)) (files : NamedFiles) → HasReadRecipe command
+        → IsTrue (is_answer_of command (outcome (plan_of (command_name command ∷ words)) files).status) }
 {}
