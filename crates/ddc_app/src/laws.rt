@@ -135,8 +135,8 @@ pub fn audits_write_true_reports()
     compared_reports_are_true();
 }
 
-/// All stages in segments. If a person saw all that `Collected` names, every line of the report is true, and `verify RECIPE REPORT` returns 0 or 3.
-/// It then prints the comparisons and the assumptions. The run of each stage was replayed, or its segments were checked on any computers.
+/// If all stages were replayed or checked in segments, as `Collected` says, every line of the report is true, and `verify` returns 0 or 3.
+/// `verify` then prints the comparisons and the assumptions. The segments may have been checked on any computers.
 pub fn collected_reports_are_true()
     ensures is_true { (recipe report : List ℕ) (files : NamedFiles) → Collected recipe report files → HoldsTrueReport recipe report files }
     ensures told { (recipe report : List ℕ) (files : NamedFiles) (collected : Collected recipe report files)
@@ -148,8 +148,8 @@ pub fn collected_reports_are_true()
     one_report();
 }
 
-/// The converse. If `verify RECIPE REPORT` on files of bytes returns 0 or 3, `Collected` holds: a person who replays each stage sees all that it names.
-/// So `Collected` demands nothing more than `verify` does.
+/// If `verify RECIPE REPORT` on files of bytes returns 0 or 3, `Collected` holds: a person who replays each stage sees all that it names. So
+/// `Collected` demands nothing more than `verify` does.
 pub fn true_reports_are_collected()
     ensures { (recipe report : List ℕ) (files : NamedFiles) → LoadsBytes (plan_of (codes "verify" ∷ recipe ∷ report ∷ [])) files
         → IsTrue (is_compared (verify recipe report files).status) → Collected recipe report files }
