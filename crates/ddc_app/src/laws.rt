@@ -23,7 +23,7 @@ ghost use Rattle.recipe_plan.specs.Reports.{compared_status};
 ghost use Rattle.verify_commands.specs.Provenance.{origin_text, provenance_text};
 ghost use Rattle.verify_commands.specs.Texts.{true_text};
 ghost use Rattle.verify_commands.specs.Verify.{provenance_plan};
-ghost use Rattle.command_plan.specs.declared.status.Status.TheVariants.{Differs, Paused, Refuted, Yes};
+ghost use Rattle.command_plan.specs.declared.status.Status.TheVariants.{Differs, FileRefused, Paused, Refuted, Yes};
 ghost use Rattle.ddc_base.specs.Outside.{NamedFiles};
 ghost use Rattle.ddc_base.specs.Lines.{line};
 ghost use Rattle.kaem_script.specs.FilesListed.{FilesListed};
@@ -34,7 +34,7 @@ ghost use Rattle.report.specs.Lines.{line_words};
 ghost use Rattle.report.specs.declared.line.ReportLine.TheVariants.{Left, Stream1, Stream2};
 ghost use Rattle.report.specs.declared.types.Report.{Report};
 ghost use Rattle.std.specs.FinMap as map;
-ghost use Rattle.std.specs.Prelude.{◌≡◌, ◌+◌, ◌↔◌, [], ◌∷◌, ◌⊎◌, All, IsTrue, List, None, Ok, Some, codes, decimal, false, length, sum, true, ℕ};
+ghost use Rattle.std.specs.Prelude.{◌≡◌, ◌≢◌, ◌+◌, ◌↔◌, [], ◌∷◌, ◌⊎◌, All, IsTrue, List, None, Ok, Some, codes, decimal, false, length, sum, true, ℕ};
 ghost use Rattle.tool_commands.specs.RunProgram.{left_line, stream_line};
 ghost use Rattle.tool_commands.specs.ScriptTexts.{commands_true_line};
 ghost use Rattle.report.specs.Marks.{mark_of};
@@ -218,12 +218,16 @@ pub fn parts()
         → Pieces recipe save report files steps (part recipe save report steps files) }
 {}
 
-/// On files of bytes that hold the save after `count` steps, `resume` pauses after exactly STEPS more and leaves the save of that position,
-/// or its status, text and REPORT are those of `audit`.
+/// On files that hold the save after `count` steps, `resume` pauses after exactly STEPS more and leaves the save of that position, or its
+/// status, text and REPORT are those of `audit`. `answered` says so of a call of `resume` whose status is not 10. `bytes` says so of
+/// files whose inputs are bytes, where the save always fits its limit.
 pub fn resumes()
-    ensures { (recipe save report : List ℕ) (count steps : ℕ) (files : NamedFiles) → AreWords recipe save report files → IsStepCount steps
-        → LoadsBytes (plan_of (codes "audit" ∷ recipe ∷ report ∷ [])) files
-        → IsSavedAt recipe save files count
+    ensures bytes { (recipe save report : List ℕ) (count steps : ℕ) (files : NamedFiles) → AreWords recipe save report files
+        → IsStepCount steps → LoadsBytes (plan_of (codes "audit" ∷ recipe ∷ report ∷ [])) files → IsSavedAt recipe save files count
+        → Pieces recipe save report files (count + steps) (resume recipe save report steps files) }
+    ensures answered { (recipe save report : List ℕ) (count steps : ℕ) (files : NamedFiles) → AreWords recipe save report files
+        → IsStepCount steps → LoadsBytes (plan_of (codes "resume" ∷ recipe ∷ save ∷ report ∷ decimal steps ∷ [])) files
+        → (resume recipe save report steps files).status ≢ FileRefused → IsSavedAt recipe save files count
         → Pieces recipe save report files (count + steps) (resume recipe save report steps files) }
 {}
 
@@ -259,19 +263,33 @@ pub fn pauses()
         ≡ (in_pieces recipe save report steps counts files).status }
 {}
 
-/// On files of bytes whose BASE is a save, `delta-start` pauses after exactly STEPS more steps and leaves the delta against BASE, or its
-/// status, text and REPORT are those of `audit`. The save is that of the position after `first` steps.
+/// On files whose BASE is the save after `first` steps, `delta-start` pauses after exactly STEPS more and leaves the delta against BASE, or
+/// its status, text and REPORT are those of `audit`. `answered` says so of a call of `delta-start` whose status is not 10. `bytes` says
+/// so of files whose inputs are bytes, where the save always fits its limit.
 pub fn delta_starts()
-    ensures { (recipe base patch report : List ℕ) (first steps : ℕ) (files : NamedFiles) → AreDeltaWords recipe base patch report files
-        → IsStepCount steps → LoadsBytes (plan_of (codes "audit" ∷ recipe ∷ report ∷ [])) files → IsSavedAt recipe base files first
+    ensures bytes { (recipe base patch report : List ℕ) (first steps : ℕ) (files : NamedFiles)
+        → AreDeltaWords recipe base patch report files → IsStepCount steps
+        → LoadsBytes (plan_of (codes "audit" ∷ recipe ∷ report ∷ [])) files → IsSavedAt recipe base files first
+        → DeltaPieces recipe base patch report files first (first + steps) (delta_start recipe base patch report steps files) }
+    ensures answered { (recipe base patch report : List ℕ) (first steps : ℕ) (files : NamedFiles)
+        → AreDeltaWords recipe base patch report files → IsStepCount steps
+        → LoadsBytes (plan_of (codes "delta-start" ∷ recipe ∷ base ∷ patch ∷ report ∷ decimal steps ∷ [])) files
+        → (delta_start recipe base patch report steps files).status ≢ FileRefused → IsSavedAt recipe base files first
         → DeltaPieces recipe base patch report files first (first + steps) (delta_start recipe base patch report steps files) }
 {}
 
-/// On files of bytes with a save BASE and its delta PATCH, `delta-resume` pauses after exactly STEPS more steps and leaves the delta
-/// against BASE, or its status, text and REPORT are those of `audit`. The delta is that of the position after `count` steps.
+/// On files with a save BASE and as PATCH the delta of the position after `count` steps, `delta-resume` pauses after exactly STEPS more and
+/// leaves the delta against BASE, or its status, text and REPORT are those of `audit`. `answered` says so of a call of `delta-resume` whose
+/// status is not 10. `bytes` says so of files whose inputs are bytes, where the save and the delta always fit their limits.
 pub fn delta_resumes()
-    ensures { (recipe base patch report : List ℕ) (first count steps : ℕ) (files : NamedFiles) → AreDeltaWords recipe base patch report files
-        → IsStepCount steps → LoadsBytes (plan_of (codes "audit" ∷ recipe ∷ report ∷ [])) files → IsSavedRelative recipe base patch files first count
+    ensures bytes { (recipe base patch report : List ℕ) (first count steps : ℕ) (files : NamedFiles)
+        → AreDeltaWords recipe base patch report files → IsStepCount steps
+        → LoadsBytes (plan_of (codes "audit" ∷ recipe ∷ report ∷ [])) files → IsSavedRelative recipe base patch files first count
+        → DeltaPieces recipe base patch report files first (count + steps) (delta_resume recipe base patch report steps files) }
+    ensures answered { (recipe base patch report : List ℕ) (first count steps : ℕ) (files : NamedFiles)
+        → AreDeltaWords recipe base patch report files → IsStepCount steps
+        → LoadsBytes (plan_of (codes "delta-resume" ∷ recipe ∷ base ∷ patch ∷ report ∷ decimal steps ∷ [])) files
+        → (delta_resume recipe base patch report steps files).status ≢ FileRefused → IsSavedRelative recipe base patch files first count
         → DeltaPieces recipe base patch report files first (count + steps) (delta_resume recipe base patch report steps files) }
 {}
 
