@@ -75,7 +75,7 @@ pub fn checked_pieces_are_the_run()
     ensures { (recipe stage prefix : List ℕ) (count : ℕ) (files : NamedFiles)
         → LoadsBytes (ends_plan (recipe ∷ stage ∷ prefix ∷ decimal count ∷ [])) files
         → ((number : ℕ) → number + 1 < count
-            → LoadsBytes (segment_plan (piece_name prefix number ∷ piece_name prefix (number + 1) ∷ [])) files)
+        → LoadsBytes (segment_plan (piece_name prefix number ∷ piece_name prefix (number + 1) ∷ [])) files)
         → AreChecked recipe stage prefix count files → IsRunReported recipe stage prefix files (ends_over recipe stage prefix count files) }
 {}
 
