@@ -46,9 +46,10 @@ def axioms(root):
 
 
 def without_page(root):
-    """A fault for each folder of tests/ and bench/ that has no README.md."""
+    """A fault for each folder of tests/ and bench/ that has no README.md, but for packages."""
     for folder in sorted(root.glob("tests/*/")) + sorted(root.glob("bench/*/")):
-        if folder.name not in ("__pycache__", "work") and not (folder / "README.md").is_file():
+        is_package = folder.name in ("__pycache__", "work") or (folder / "__init__.py").is_file()
+        if not is_package and not (folder / "README.md").is_file():
             yield f"{folder.relative_to(root)}/README.md: no such page"
 
 
