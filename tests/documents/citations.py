@@ -24,7 +24,8 @@ DEFINED = [
 
 def documents(root):
     found = [*sorted(root.glob("*.md")), *sorted((root / "docs").rglob("*.md"))]
-    return found + sorted((root / "examples").glob("*/README.md")) + sorted((root / "tests").glob("*/README*"))
+    found += sorted((root / "examples").glob("*/README.md"))
+    return found + [it for top in ("tests", "bench") for it in sorted((root / top).rglob("README.md"))]
 
 
 def sources(root, crate):
@@ -187,7 +188,7 @@ def faults(root):
         found = [*check_links(root, document, text)]
         is_proving = document.name == "PROVING.md"
         # A folder of tests names its own files and edits beside the crates that they are of.
-        is_of_tests = document.parent.parent == root / "tests"
+        is_of_tests = document.relative_to(root).parts[0] in ("tests", "bench")
         for piece in paragraphs(text):
             found += [*check_paths(root, piece), *check_files(root, piece, crates)]
             found += [*check_qualified(root, piece, crates)]

@@ -1,4 +1,4 @@
-//! Prompts in memory and over a reader: each line at its limits, and faults.
+//! Tests of input lines (`Prompt`), in memory and over a reader: each line at its limits, and faults.
 
 use ddc_base::{Bytes, OutOfMemory};
 use prompt::{Asked, Failed, MemPrompt, Prompt, ReaderPrompt};
@@ -47,7 +47,7 @@ fn bytes_of(alloc: Global, row: &Row) -> Result<Bytes, OutOfMemory> {
     Ok(bytes)
 }
 
-/// Whether a prompt gives a line of this size next.
+/// Whether the next line of an input has this size.
 fn gives_line<P: Prompt>(prompt: &mut P, size: usize) -> bool {
     match prompt.line() {
         Ok(Asked::Line(line)) => line.as_slice().len() == size,
@@ -60,7 +60,7 @@ fn gives_end<P: Prompt>(prompt: &mut P) -> bool {
     matches!(prompt.line(), Ok(Asked::End))
 }
 
-/// Whether a prompt gives exactly these lines, and then twice that nothing is left.
+/// Whether an input gives exactly these lines, and then twice that nothing is left.
 fn gives<P: Prompt>(prompt: &mut P, lines: &[usize]) -> bool {
     for size in lines {
         if !gives_line(prompt, *size) {
@@ -126,7 +126,7 @@ fn lines_are_given(rt: HostRuntime) -> Result<(), Fail> {
     Ok(check(&rt, rt.alloc(), &ROWS)?)
 }
 
-/// Whether a prompt gives a line, and then fails.
+/// Whether an input gives a line, and then fails.
 fn fails_second<P: Prompt>(prompt: &mut P) -> bool {
     matches!(prompt.line(), Ok(Asked::Line(_))) && matches!(prompt.line(), Err(Failed))
 }
@@ -142,7 +142,7 @@ fn held_fails(alloc: Global) -> Result<bool, OutOfMemory> {
     fails_held(&mut held)
 }
 
-/// What a failed call has read is gone, and the next call goes on after it.
+/// What a failed call has read is lost, and the next call continues after it.
 fn read_fails() -> bool {
     let mut read = ReaderPrompt::new(Source {
         bytes: b"ab\ncd\n",

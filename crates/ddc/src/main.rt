@@ -1,5 +1,5 @@
 //! The program `ddc`: passes its arguments, the host's files, output and input to the top call, and ends with its status. The meaning of
-//! sources that it names needs no assumption; the program does the same under every other.
+//! sources that it names is that of hex0, hex1, hex2 and M1; the program does the same under every other.
 #![tactic(auto)]
 
 ghost use Rattle.std.specs.Prelude.{◌≡◌, IfOk, drop, map, string_bytes};
@@ -14,7 +14,7 @@ use std::alloc::Global;
 use std::env;
 use std::io::{self, ErrorKind, Input};
 use std::process::ExitCode;
-use wheeler::Assembly;
+use wheeler::{Deterministic, MacroAssembly};
 
 /// The process's arguments, the program's own name first; no arguments at all where one is not UTF-8. Error: out of memory.
 fn command_line(rt: &HostRuntime) -> Result<Vec<String>, OutOfMemory> {
@@ -60,7 +60,13 @@ fn run_on_host(rt: &HostRuntime) -> Result<Status, OutOfMemory> {
     let mut shelf = DirShelf::new(rt);
     let mut out = WriterSink::new(io::writer(rt));
     let mut prompt = ReaderPrompt::new(rt.reader());
-    Ok(run::<Assembly, _, _, _>(alloc, words.as_slice(), &mut shelf, &mut out, &mut prompt))
+    Ok(run::<Deterministic<MacroAssembly>, _, _, _>(
+        alloc,
+        words.as_slice(),
+        &mut shelf,
+        &mut out,
+        &mut prompt,
+    ))
 }
 
 /// The process's exit code for a status.

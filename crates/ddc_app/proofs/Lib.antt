@@ -21,3 +21,8 @@ pub mod Relative
 pub mod Differing
 pub mod Scripting
 mod Written
+mod Collecting
+mod Recollecting
+mod EndsAs
+mod EndsOfCommands
+mod Statuses

@@ -16,7 +16,8 @@ use Rattle.ddc_base.specs.Outside.{NamedFiles, loaded, loaded_of}
 use Rattle.ddc_base.proofs.StoredFiles.{others-insert}
 use Rattle.mem_files.specs.Outputs.{IsContent}
 use Rattle.command_plan.specs.declared.status.Status.TheVariants.{FileRefused}
-use Rattle.command_plan.specs.Plan.{LoadsBytes, Plan, bytes_then, needs, needs_all, follow, outcome}
+use Rattle.command_plan.specs.Texts.{too_long_line}
+use Rattle.command_plan.specs.Plan.{LoadsBytes, Outcome, Plan, bytes_then, needs, needs_all, follow, outcome}
 use Rattle.mem_files.specs.Names.{stripped}
 use Rattle.command_plan.specs.Words.{are_two_files, is_file_word, is_one_file}
 use Rattle.ddc_app.specs.Holding.{AreHeld}
@@ -42,6 +43,20 @@ pub is_loaded : (files : NamedFiles) (name content : List ℕ) (limit : ℕ) →
     → loaded files name limit ≡ Bytes content
 is_loaded files name content limit held below =
     ap (loaded_of limit) held ∙ ap (λ b. cond b (Bytes content) TooLong) (fits (length content) limit below)
+
+-- what is held is loaded, unless a plan that needs it is refused for a file
+pub loaded_unless_refused : (name : List ℕ) (limit : ℕ) (next : List ℕ → Plan) (files : NamedFiles) (content : List ℕ) → finite.get files name ≡ Some content
+    → (outcome (needs name limit next) files).status ≢ FileRefused → loaded files name limit ≡ Bytes content
+loaded_unless_refused name limit next files content held answered = by (nat_le (length content) limit) refl where
+  is : (b : Bool) → nat_le (length content) limit ≡ b → loaded files name limit ≡ cond b (Bytes content) TooLong
+  is b fits = ap (loaded_of limit) held ∙ ap (λ b. cond b (Bytes content) TooLong) fits
+
+  by : (b : Bool) → nat_le (length content) limit ≡ b → loaded files name limit ≡ Bytes content
+  by true fits = is true fits
+  by false fits =
+      let refused : outcome (needs name limit next) files ≡ record { status = FileRefused; text = too_long_line name; files = files } =
+      ap (λ l. follow l (λ c. outcome (next c) files) (λ text. record { status = FileRefused; text = text; files = files }) name) (is false fits) in
+      absurd (answered (ap (λ (o : Outcome). o.status) refused))
 
 -- what was loaded is held, within the limit
 pub within : (limit : ℕ) (held : Option (List ℕ)) (content : List ℕ) → loaded_of limit held ≡ Bytes content → (held ≡ Some content) × (length content ≤ limit)

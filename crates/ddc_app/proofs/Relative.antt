@@ -1,5 +1,5 @@
 -- From a whole save, and from a delta against it, an audit goes on as it would have without a pause.
-use Rattle.std.proofs.Common.{◌≡◌, ◌≢◌, ℕ, ◌+◌, Bool, true, false, cond, IsTrue, inl, inr, Some, Result, Ok, Err, List, [], ◌∷◌, codes, refl, sym, ap, ◌∙◌, subst}
+use Rattle.std.proofs.Common.{◌≡◌, ◌≢◌, ℕ, ◌+◌, Bool, true, false, cond, IsTrue, inl, inr, Some, Result, Ok, Err, List, [], ◌∷◌, codes, decimal, refl, sym, ap, ◌∙◌, subst}
 use Rattle.std.specs.FinMap as finite
 use Rattle.ddc_base.specs.Outside.{NamedFiles}
 use Rattle.recipe.specs.Kept.{IsRecipe}
@@ -18,9 +18,9 @@ use Rattle.audit_run.proofs.SaveLemmas.SaveLengths.{short}
 use Rattle.audit_rules.specs.Bench.{bench}
 use Rattle.audit_rules.specs.Positions.{Position, On, forward, position}
 use Rattle.audit_rules.specs.Valid.{IsInputs, IsPosition}
-use Rattle.command_plan.specs.declared.status.Status.TheVariants.{SaveRefused}
+use Rattle.command_plan.specs.declared.status.Status.TheVariants.{FileRefused, SaveRefused}
 use Rattle.command_plan.specs.Plan.{LoadsBytes, Plan, Outcome, answers, needs, outcome, unless_refused}
-use Rattle.command_plan.specs.Words.{are_four_files, usage}
+use Rattle.command_plan.specs.Words.{are_four_files, or_usage, usage}
 use Rattle.recipe_plan.specs.Recipes.{is_input, needs_apart, needs_inputs}
 use Rattle.audit_commands.specs.Audit.{audited}
 use Rattle.audit_commands.specs.Delta.{delta_resume_files, delta_start_files, needs_position_relative, read_relative, resumes_relative, starts_relative}
@@ -31,9 +31,10 @@ use Rattle.ddc_app.specs.Commands.{plan_of}
 use Rattle.ddc_app.specs.Differences.{AreDeltaWords, DeltaPieces, IsSavedRelative, delta_resume, delta_start}
 use Rattle.ddc_app.specs.Pausing.{AreSame, IsStepCount, IsSavedAt}
 use Rattle.ddc_app.proofs.Beginnings.{Case, audit_loaded, four_apart, four_of, three_apart, with_words}
+use Rattle.ddc_app.proofs.CountWords.{count-again}
 use Rattle.ddc_app.proofs.Leaving.{delta_resume_stays, delta_start_stays}
-use Rattle.ddc_app.proofs.Loads.{follows, is_loaded, not_equal, two_apart}
-use Rattle.ddc_app.proofs.Openings.{Holds, apart_opens, inputs_open, is_recipe, recipe_opens}
+use Rattle.ddc_app.proofs.Loads.{follows, is_loaded, loaded_unless_refused, loads_bytes, not_equal, two_apart}
+use Rattle.ddc_app.proofs.Openings.{Holds, apart_loads, apart_opens, are_loaded, inputs_open, is_recipe, recipe_loads, recipe_opens}
 use Rattle.ddc_app.proofs.Pieces.{Pauses, Settles, alike, settles}
 use Rattle.ddc_app.proofs.Resuming.{audit_opens, goes_on, is_place, reads_again}
 
@@ -207,13 +208,82 @@ module _ (recipe base patch report : List ℕ) (b : After recipe base patch repo
   delta_piece_of first total piece held benched (inl p) = inl (p.status, kept_of first total piece held p)
   delta_piece_of first total piece held benched (inr e) = inr (subst (AreSame report piece) (sym benched) e.same)
 
+-- ---- what is loaded
+
+-- the recipe and the inputs of a save's audit
+abbrev holds : (recipe base : List ℕ) (first : ℕ) (files : NamedFiles) (at : IsSavedAt recipe base files first) → Holds recipe at.said at.inputs files
+holds recipe base first files at = record { bytes = at.bytes; recipe_held = at.recipe_held; reads = at.recipe_reads; inputs_held = at.inputs_held }
+
+abbrev limit : ℕ
+limit = 4_294_967_296
+
+-- the inputs are bytes where the loads of the command find bytes, unless it is refused for a file
+module _ (recipe base patch report : List ℕ) (first : ℕ) (files : NamedFiles) (words : AreDeltaWords recipe base patch report files) (steps : ℕ) (counted : IsStepCount steps) where
+  four : IsTrue (are_four_files recipe base patch report)
+  four = four_of recipe base patch report words.with_base.three words.with_patch.three words.apart
+
+  start_loaded : (at : IsSavedAt recipe base files first) → is_input at.said report ≡ false
+      → LoadsBytes (plan_of (codes "delta-start" ∷ recipe ∷ base ∷ patch ∷ report ∷ decimal steps ∷ [])) files
+      → (delta_start recipe base patch report steps files).status ≢ FileRefused → IsInputs at.said at.inputs
+  unfolding delta_start_files
+  start_loaded at no_report bytes answered =
+      let said : RecipeContents = at.said in
+      let h : Holds recipe said at.inputs files = holds recipe base first files at in
+      let text : List ℕ = text_of_save (save_of said at.inputs at.position) in
+      let no_base = words.with_base.apart at.bytes said at.recipe_held at.recipe_reads in
+      let no_patch = words.with_patch.apart at.bytes said at.recipe_held at.recipe_reads in
+      let loads : RecipeContents → List ℕ → Plan = λ s text. needs_inputs s (λ inputs. starts_relative s inputs text patch report steps) in
+      let opens =
+      start_opens recipe base patch report files four said at.inputs h false no_report steps counted
+      ∙ apart_opens said base (λ _. needs_apart said patch (λ _. needs base limit (loads said))) files false no_base
+      ∙ apart_opens said patch (λ _. needs base limit (loads said)) files false no_patch in
+      let is = loaded_unless_refused base limit (loads said) files text at.save_held (subst (λ (o : Outcome). o.status ≢ FileRefused) opens answered) in
+      are_loaded recipe said at.inputs files h (λ inputs. starts_relative said inputs text patch report steps)
+      (loads_bytes base limit (loads said) files text is
+      (apart_loads said patch (λ _. needs base limit (loads said)) files no_patch
+      (apart_loads said base (λ _. needs_apart said patch (λ _. needs base limit (loads said))) files no_base
+      (apart_loads said report (λ _. needs_apart said base (λ _. needs_apart said patch (λ _. needs base limit (loads said)))) files no_report
+      (recipe_loads recipe said at.inputs files h (λ s. needs_apart s report (λ _. needs_apart s base (λ _. needs_apart s patch (λ _. needs base limit (loads s)))))
+      (subst (λ good. LoadsBytes (cond good (delta_start_files recipe base patch report steps) usage) files) four
+      (subst (λ n. LoadsBytes (or_usage n (λ count. cond (are_four_files recipe base patch report) (delta_start_files recipe base patch report count) usage)) files)
+      (count-again steps counted) bytes))))))).1
+
+  resume_loaded : (count : ℕ) (at : IsSavedRelative recipe base patch files first count) → is_input at.whole.said report ≡ false
+      → LoadsBytes (plan_of (codes "delta-resume" ∷ recipe ∷ base ∷ patch ∷ report ∷ decimal steps ∷ [])) files
+      → (delta_resume recipe base patch report steps files).status ≢ FileRefused → IsInputs at.whole.said at.whole.inputs
+  unfolding delta_resume_files
+  resume_loaded count at no_report bytes answered =
+      let said : RecipeContents = at.whole.said in
+      let inputs : List (List ℕ) = at.whole.inputs in
+      let h : Holds recipe said inputs files = holds recipe base first files at.whole in
+      let text : List ℕ = text_of_save (save_of said inputs at.whole.position) in
+      let further : List ℕ = delta_text_of said inputs at.whole.position at.position in
+      let no_base = words.with_base.apart at.whole.bytes said at.whole.recipe_held at.whole.recipe_reads in
+      let no_patch = words.with_patch.apart at.whole.bytes said at.whole.recipe_held at.whole.recipe_reads in
+      let found : RecipeContents → List ℕ → List ℕ → Plan = λ s text delta. needs_inputs s (λ contents. resumes_relative s contents text delta patch report steps) in
+      let loads : RecipeContents → List ℕ → Plan = λ s text. needs patch limit (found s text) in
+      let opens =
+      resume_opens recipe base patch report files four said inputs h false no_report steps counted
+      ∙ apart_opens said base (λ _. needs_apart said patch (λ _. needs base limit (loads said))) files false no_base
+      ∙ apart_opens said patch (λ _. needs base limit (loads said)) files false no_patch in
+      let is = loaded_unless_refused base limit (loads said) files text at.whole.save_held (subst (λ (o : Outcome). o.status ≢ FileRefused) opens answered) in
+      let goes = opens ∙ follows base limit (loads said) files text is in
+      let delta_is = loaded_unless_refused patch limit (found said text) files further at.delta_held (subst (λ (o : Outcome). o.status ≢ FileRefused) goes answered) in
+      let based = loads_bytes base limit (loads said) files text is
+      (apart_loads said patch (λ _. needs base limit (loads said)) files no_patch
+      (apart_loads said base (λ _. needs_apart said patch (λ _. needs base limit (loads said))) files no_base
+      (apart_loads said report (λ _. needs_apart said base (λ _. needs_apart said patch (λ _. needs base limit (loads said)))) files no_report
+      (recipe_loads recipe said inputs files h (λ s. needs_apart s report (λ _. needs_apart s base (λ _. needs_apart s patch (λ _. needs base limit (loads s)))))
+      (subst (λ good. LoadsBytes (cond good (delta_resume_files recipe base patch report steps) usage) files) four
+      (subst (λ n. LoadsBytes (or_usage n (λ count. cond (are_four_files recipe base patch report) (delta_resume_files recipe base patch report count) usage)) files)
+      (count-again steps counted) bytes)))))) in
+      are_loaded recipe said inputs files h (λ contents. resumes_relative said contents text further patch report steps)
+      (loads_bytes patch limit (found said text) files further delta_is based.1).1
+
 -- ---- each piece
 
 module _ (recipe base patch report : List ℕ) (first : ℕ) (files : NamedFiles) (words : AreDeltaWords recipe base patch report files)
-    (bytes : LoadsBytes (plan_of (codes "audit" ∷ recipe ∷ report ∷ [])) files) (at : IsSavedAt recipe base files first) where
-  abbrev holds : Holds recipe at.said at.inputs files
-  holds = record { bytes = at.bytes; recipe_held = at.recipe_held; reads = at.recipe_reads; inputs_held = at.inputs_held }
-
+    (at : IsSavedAt recipe base files first) (given : is_input at.said report ≡ false → IsInputs at.said at.inputs) where
   abbrev following : is_input at.said report ≡ false → After recipe base patch report
   following no_report = record {
     four = four_of recipe base patch report words.with_base.three words.with_patch.three words.apart;
@@ -221,12 +291,12 @@ module _ (recipe base patch report : List ℕ) (first : ℕ) (files : NamedFiles
       words = three_apart recipe patch report words.with_patch.three;
       said = at.said;
       inputs = at.inputs;
-      is = is_recipe recipe at.said at.inputs files holds;
+      is = is_recipe recipe at.said at.inputs files (holds recipe base first files at);
       no_report = no_report;
       no_save = words.with_patch.apart at.bytes at.said at.recipe_held at.recipe_reads;
     };
     no_base = words.with_base.apart at.bytes at.said at.recipe_held at.recipe_reads;
-    given = audit_loaded recipe report at.said at.inputs files (three_apart recipe patch report words.with_patch.three).two holds no_report bytes;
+    given = given no_report;
     first = first;
     place = at.position;
     stands = at.stands;
@@ -239,34 +309,66 @@ module _ (recipe base patch report : List ℕ) (first : ℕ) (files : NamedFiles
   each total piece refused comes stays = by (is_input at.said report) refl where
     by : (clash : Bool) → is_input at.said report ≡ clash → DeltaPieces recipe base patch report files first total piece
     by true clash = inr (alike report piece (audit recipe report files)
-        (refused clash ∙ sym (audit_opens recipe patch report files words.with_patch.three at.said at.inputs holds true clash)))
+        (refused clash ∙ sym (audit_opens recipe patch report files words.with_patch.three at.said at.inputs (holds recipe base first files at) true clash)))
     by false clash =
         let b : After recipe base patch report = following clash in
         delta_piece_of recipe base patch report b files total piece (stays ∙ at.save_held)
-        (audit_opens recipe patch report files words.with_patch.three at.said at.inputs holds false clash
-        ∙ inputs_open recipe at.said at.inputs files holds (λ inputs. audited at.said report (bench at.said inputs)))
+        (audit_opens recipe patch report files words.with_patch.three at.said at.inputs (holds recipe base first files at) false clash
+        ∙ inputs_open recipe at.said at.inputs files (holds recipe base first files at) (λ inputs. audited at.said report (bench at.said inputs)))
         (subst (Settles recipe patch report b.c (kept_relative recipe base patch report b) files total) (sym (comes clash))
-        (settles recipe patch report b.c files files holds refl (kept_relative recipe base patch report b) total (position at.said at.inputs total) refl))
+        (settles recipe patch report b.c files files (holds recipe base first files at) refl (kept_relative recipe base patch report b) total (position at.said at.inputs total) refl))
+
+module _ (recipe base patch report : List ℕ) (first : ℕ) (steps : ℕ) (files : NamedFiles) (words : AreDeltaWords recipe base patch report files) (counted : IsStepCount steps) where
+  starts : (at : IsSavedAt recipe base files first) → (is_input at.said report ≡ false → IsInputs at.said at.inputs)
+      → DeltaPieces recipe base patch report files first (first + steps) (delta_start recipe base patch report steps files)
+  starts at given =
+      let four = four_of recipe base patch report words.with_base.three words.with_patch.three words.apart in
+      let h = holds recipe base first files at in
+      each recipe base patch report first files words at given (first + steps) (delta_start recipe base patch report steps files)
+      (λ clash. start_opens recipe base patch report files four at.said at.inputs h true clash steps counted)
+      (λ no_report. starts_at recipe base patch report (following recipe base patch report first files words at given no_report) files h at.save_held steps counted)
+      (delta_start_stays recipe base patch report steps files base (apart_of recipe base patch report four).0 (apart_of recipe base patch report four).1)
+
+  resumes : (count : ℕ) (at : IsSavedRelative recipe base patch files first count) → (is_input at.whole.said report ≡ false → IsInputs at.whole.said at.whole.inputs)
+      → DeltaPieces recipe base patch report files first (count + steps) (delta_resume recipe base patch report steps files)
+  resumes count at given =
+      let four = four_of recipe base patch report words.with_base.three words.with_patch.three words.apart in
+      let h = holds recipe base first files at.whole in
+      each recipe base patch report first files words at.whole given (count + steps) (delta_resume recipe base patch report steps files)
+      (λ clash. resume_opens recipe base patch report files four at.whole.said at.whole.inputs h true clash steps counted)
+      (λ no_report. resumes_at recipe base patch report (following recipe base patch report first files words at.whole given no_report) files h at.whole.save_held steps counted
+      count at.position at.stands at.delta_held)
+      (delta_resume_stays recipe base patch report steps files base (apart_of recipe base patch report four).0 (apart_of recipe base patch report four).1)
+
+  -- the inputs are bytes where the loads of `audit` find bytes
+  by_audit : LoadsBytes (plan_of (codes "audit" ∷ recipe ∷ report ∷ [])) files → (at : IsSavedAt recipe base files first) → is_input at.said report ≡ false → IsInputs at.said at.inputs
+  by_audit bytes at no_report =
+      audit_loaded recipe report at.said at.inputs files (three_apart recipe patch report words.with_patch.three).two (holds recipe base first files at) no_report bytes
 
 pub delta_starts : (recipe base patch report : List ℕ) (first steps : ℕ) (files : NamedFiles) → AreDeltaWords recipe base patch report files → IsStepCount steps
     → LoadsBytes (plan_of (codes "audit" ∷ recipe ∷ report ∷ [])) files
     → IsSavedAt recipe base files first → DeltaPieces recipe base patch report files first (first + steps) (delta_start recipe base patch report steps files)
 delta_starts recipe base patch report first steps files words counted bytes at =
-    let four = four_of recipe base patch report words.with_base.three words.with_patch.three words.apart in
-    let h = holds recipe base patch report first files words bytes at in
-    each recipe base patch report first files words bytes at (first + steps) (delta_start recipe base patch report steps files)
-    (λ clash. start_opens recipe base patch report files four at.said at.inputs h true clash steps counted)
-    (λ no_report. starts_at recipe base patch report (following recipe base patch report first files words bytes at no_report) files h at.save_held steps counted)
-    (delta_start_stays recipe base patch report steps files base (apart_of recipe base patch report four).0 (apart_of recipe base patch report four).1)
+    starts recipe base patch report first steps files words counted at (by_audit recipe base patch report first steps files words counted bytes at)
+
+pub delta_starts_answered : (recipe base patch report : List ℕ) (first steps : ℕ) (files : NamedFiles) → AreDeltaWords recipe base patch report files → IsStepCount steps
+    → LoadsBytes (plan_of (codes "delta-start" ∷ recipe ∷ base ∷ patch ∷ report ∷ decimal steps ∷ [])) files
+    → (delta_start recipe base patch report steps files).status ≢ FileRefused
+    → IsSavedAt recipe base files first → DeltaPieces recipe base patch report files first (first + steps) (delta_start recipe base patch report steps files)
+delta_starts_answered recipe base patch report first steps files words counted bytes answered at =
+    starts recipe base patch report first steps files words counted at
+    (λ no_report. start_loaded recipe base patch report first files words steps counted at no_report bytes answered)
 
 pub delta_resumes : (recipe base patch report : List ℕ) (first count steps : ℕ) (files : NamedFiles) → AreDeltaWords recipe base patch report files → IsStepCount steps
     → LoadsBytes (plan_of (codes "audit" ∷ recipe ∷ report ∷ [])) files
     → IsSavedRelative recipe base patch files first count → DeltaPieces recipe base patch report files first (count + steps) (delta_resume recipe base patch report steps files)
 delta_resumes recipe base patch report first count steps files words counted bytes at =
-    let four = four_of recipe base patch report words.with_base.three words.with_patch.three words.apart in
-    let h = holds recipe base patch report first files words bytes at.whole in
-    each recipe base patch report first files words bytes at.whole (count + steps) (delta_resume recipe base patch report steps files)
-    (λ clash. resume_opens recipe base patch report files four at.whole.said at.whole.inputs h true clash steps counted)
-    (λ no_report. resumes_at recipe base patch report (following recipe base patch report first files words bytes at.whole no_report) files h at.whole.save_held steps counted
-    count at.position at.stands at.delta_held)
-    (delta_resume_stays recipe base patch report steps files base (apart_of recipe base patch report four).0 (apart_of recipe base patch report four).1)
+    resumes recipe base patch report first steps files words counted count at (by_audit recipe base patch report first steps files words counted bytes at.whole)
+
+pub delta_resumes_answered : (recipe base patch report : List ℕ) (first count steps : ℕ) (files : NamedFiles) → AreDeltaWords recipe base patch report files → IsStepCount steps
+    → LoadsBytes (plan_of (codes "delta-resume" ∷ recipe ∷ base ∷ patch ∷ report ∷ decimal steps ∷ [])) files
+    → (delta_resume recipe base patch report steps files).status ≢ FileRefused
+    → IsSavedRelative recipe base patch files first count → DeltaPieces recipe base patch report files first (count + steps) (delta_resume recipe base patch report steps files)
+delta_resumes_answered recipe base patch report first count steps files words counted bytes answered at =
+    resumes recipe base patch report first steps files words counted count at
+    (λ no_report. resume_loaded recipe base patch report first files words steps counted count at no_report bytes answered)

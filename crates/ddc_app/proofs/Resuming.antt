@@ -1,5 +1,5 @@
 -- From the save of a position an audit goes on as it would have without a pause.
-use Rattle.std.proofs.Common.{◌≡◌, ◌≢◌, ℕ, ◌+◌, Bool, true, false, cond, IsTrue, inl, inr, Some, Result, Ok, Err, List, [], ◌∷◌, codes, refl, sym, ap, ◌∙◌, subst}
+use Rattle.std.proofs.Common.{◌≡◌, ◌≢◌, ℕ, ◌+◌, Bool, true, false, cond, IsTrue, inl, inr, Some, Result, Ok, Err, List, [], ◌∷◌, codes, decimal, refl, sym, ap, ◌∙◌, subst}
 use Rattle.std.specs.FinMap as finite
 use Rattle.ddc_base.specs.Outside.{NamedFiles}
 use Rattle.recipe.specs.Kept.{IsRecipe}
@@ -17,9 +17,9 @@ use Rattle.audit_rules.specs.Valid.{IsInputs, IsPosition, IsStanding}
 use Rattle.audit_rules.proofs.Forwards.{forward_from-sum}
 use Rattle.audit_rules.proofs.Places.{beginning-standing, from-standing}
 use Rattle.audit_rules.proofs.Rules.{rules}
-use Rattle.command_plan.specs.declared.status.Status.TheVariants.{SaveRefused}
-use Rattle.command_plan.specs.Plan.{LoadsBytes, Plan, answers, needs, outcome, unless_refused}
-use Rattle.command_plan.specs.Words.{are_three_files, usage}
+use Rattle.command_plan.specs.declared.status.Status.TheVariants.{FileRefused, SaveRefused}
+use Rattle.command_plan.specs.Plan.{LoadsBytes, Outcome, Plan, answers, needs, outcome, unless_refused}
+use Rattle.command_plan.specs.Words.{are_three_files, or_usage, usage}
 use Rattle.recipe_plan.specs.Recipes.{is_input, needs_apart, needs_inputs}
 use Rattle.audit_commands.specs.Audit.{audit_files, audited}
 use Rattle.audit_commands.specs.Pause.{came_to, needs_position, read_as, resume_files, whole_save}
@@ -28,8 +28,9 @@ use Rattle.ddc_app.specs.Accepting.{audit}
 use Rattle.ddc_app.specs.Commands.{plan_of}
 use Rattle.ddc_app.specs.Pausing.{AreWords, IsStepCount, Pieces, IsSavedAt, resume}
 use Rattle.ddc_app.proofs.Beginnings.{Case, audit_loaded, three_apart, with_words}
-use Rattle.ddc_app.proofs.Loads.{follows, is_loaded}
-use Rattle.ddc_app.proofs.Openings.{Holds, apart_opens, inputs_open, is_recipe, recipe_opens}
+use Rattle.ddc_app.proofs.CountWords.{count-again}
+use Rattle.ddc_app.proofs.Loads.{follows, is_loaded, loaded_unless_refused, loads_bytes}
+use Rattle.ddc_app.proofs.Openings.{Holds, apart_loads, apart_opens, are_loaded, inputs_open, is_recipe, recipe_loads, recipe_opens}
 use Rattle.ddc_app.proofs.Pieces.{Settles, alike, piece_of, settles}
 
 -- ---- the save
@@ -101,29 +102,69 @@ resumes_at recipe save report c files given h count p stands held steps counted 
     ∙ ap (λ reading. outcome (unless_refused reading refuse (last c.inputs)) files) (reads_again c.said c.inputs p c.is given place)
     ∙ ap (λ o. outcome (came_to c.said (whole_save c.said c.inputs) save report o) files) (goes_on c.said c.inputs count steps p stands)
 
+-- the inputs are bytes where the loads of `resume` find bytes, unless it is refused for a file
+resume_loaded : (recipe save report : List ℕ) (c : Case recipe save report) (files : NamedFiles) → Holds recipe c.said c.inputs files
+    → (text : List ℕ) → finite.get files save ≡ Some text → (steps : ℕ) → IsStepCount steps
+    → LoadsBytes (plan_of (codes "resume" ∷ recipe ∷ save ∷ report ∷ decimal steps ∷ [])) files
+    → (resume recipe save report steps files).status ≢ FileRefused → IsInputs c.said c.inputs
+unfolding resume_files
+resume_loaded recipe save report c files h text held steps counted bytes answered =
+    let at : RecipeContents → List ℕ → List (List ℕ) → Plan = λ s text contents.
+    needs_position s contents text (λ p. came_to s (whole_save s contents) save report (forward s contents p steps)) in
+    let loads : RecipeContents → List ℕ → Plan = λ s text. needs_inputs s (at s text) in
+    let opens =
+    resume_opens recipe save report files c.words.three c.said c.inputs h false c.no_report steps counted
+    ∙ apart_opens c.said save (λ _. needs save 4_294_967_296 (loads c.said)) files false c.no_save in
+    let is = loaded_unless_refused save 4_294_967_296 (loads c.said) files text held (subst (λ (o : Outcome). o.status ≢ FileRefused) opens answered) in
+    are_loaded recipe c.said c.inputs files h (at c.said text)
+    (loads_bytes save 4_294_967_296 (loads c.said) files text is
+    (apart_loads c.said save (λ _. needs save 4_294_967_296 (loads c.said)) files c.no_save
+    (apart_loads c.said report (λ _. needs_apart c.said save (λ _. needs save 4_294_967_296 (loads c.said))) files c.no_report
+    (recipe_loads recipe c.said c.inputs files h (λ s. needs_apart s report (λ _. needs_apart s save (λ _. needs save 4_294_967_296 (loads s))))
+    (subst (λ good. LoadsBytes (cond good (resume_files recipe save report steps) usage) files) c.words.three
+    (subst (λ n. LoadsBytes (or_usage n (λ count. cond (are_three_files recipe save report) (resume_files recipe save report count) usage)) files) (count-again steps counted) bytes)))))).1
+
+module _ (recipe save report : List ℕ) (count steps : ℕ) (files : NamedFiles) (words : AreWords recipe save report files) (counted : IsStepCount steps) (at : IsSavedAt recipe save files count) where
+  abbrev holds : Holds recipe at.said at.inputs files
+  holds = record { bytes = at.bytes; recipe_held = at.recipe_held; reads = at.recipe_reads; inputs_held = at.inputs_held }
+
+  abbrev case_of : is_input at.said report ≡ false → Case recipe save report
+  case_of clash = record {
+    words = three_apart recipe save report words.three;
+    said = at.said;
+    inputs = at.inputs;
+    is = is_recipe recipe at.said at.inputs files holds;
+    no_report = clash;
+    no_save = words.apart at.bytes at.said at.recipe_held at.recipe_reads;
+  }
+
+  -- the piece, if the inputs are bytes wherever the report is none of them
+  piece_after : (is_input at.said report ≡ false → IsInputs at.said at.inputs) → Pieces recipe save report files (count + steps) (resume recipe save report steps files)
+  piece_after given = by (is_input at.said report) refl where
+    by : (clash : Bool) → is_input at.said report ≡ clash → Pieces recipe save report files (count + steps) (resume recipe save report steps files)
+    by true clash =
+        inr (alike report (resume recipe save report steps files) (audit recipe report files)
+        (resume_opens recipe save report files words.three at.said at.inputs holds true clash steps counted
+        ∙ sym (audit_opens recipe save report files words.three at.said at.inputs holds true clash)))
+    by false clash =
+        let c : Case recipe save report = case_of clash in
+        let comes = resumes_at recipe save report c files (given clash) holds count at.position at.stands at.save_held steps counted in
+        piece_of recipe save report c files (count + steps) (resume recipe save report steps files)
+        (audit_opens recipe save report files words.three at.said at.inputs holds false clash
+        ∙ inputs_open recipe at.said at.inputs files holds (λ inputs. audited at.said report (bench at.said inputs)))
+        (subst (Settles recipe save report c (whole_save at.said at.inputs) files (count + steps)) (sym comes)
+        (settles recipe save report c files files holds refl (whole_save at.said at.inputs) (count + steps) (position at.said at.inputs (count + steps)) refl))
+
 pub resumes : (recipe save report : List ℕ) (count steps : ℕ) (files : NamedFiles) → AreWords recipe save report files → IsStepCount steps
     → LoadsBytes (plan_of (codes "audit" ∷ recipe ∷ report ∷ [])) files → IsSavedAt recipe save files count → Pieces recipe save report files (count + steps) (resume recipe save report steps files)
-resumes recipe save report count steps files words counted bytes at = by (is_input at.said report) refl where
-  h : Holds recipe at.said at.inputs files
-  h = record { bytes = at.bytes; recipe_held = at.recipe_held; reads = at.recipe_reads; inputs_held = at.inputs_held }
+resumes recipe save report count steps files words counted bytes at =
+    piece_after recipe save report count steps files words counted at
+    (λ clash. audit_loaded recipe report at.said at.inputs files (three_apart recipe save report words.three).two (holds recipe save report count steps files words counted at) clash bytes)
 
-  by : (clash : Bool) → is_input at.said report ≡ clash → Pieces recipe save report files (count + steps) (resume recipe save report steps files)
-  by true clash =
-      inr (alike report (resume recipe save report steps files) (audit recipe report files)
-      (resume_opens recipe save report files words.three at.said at.inputs h true clash steps counted
-      ∙ sym (audit_opens recipe save report files words.three at.said at.inputs h true clash)))
-  by false clash =
-      let c : Case recipe save report = record {
-        words = three_apart recipe save report words.three;
-        said = at.said;
-        inputs = at.inputs;
-        is = is_recipe recipe at.said at.inputs files h;
-        no_report = clash;
-        no_save = words.apart at.bytes at.said at.recipe_held at.recipe_reads;
-      } in
-      let comes = resumes_at recipe save report c files (audit_loaded recipe report at.said at.inputs files c.words.two h clash bytes) h count at.position at.stands at.save_held steps counted in
-      piece_of recipe save report c files (count + steps) (resume recipe save report steps files)
-      (audit_opens recipe save report files words.three at.said at.inputs h false clash
-      ∙ inputs_open recipe at.said at.inputs files h (λ inputs. audited at.said report (bench at.said inputs)))
-      (subst (Settles recipe save report c (whole_save at.said at.inputs) files (count + steps)) (sym comes)
-      (settles recipe save report c files files h refl (whole_save at.said at.inputs) (count + steps) (position at.said at.inputs (count + steps)) refl))
+pub resumes_answered : (recipe save report : List ℕ) (count steps : ℕ) (files : NamedFiles) → AreWords recipe save report files → IsStepCount steps
+    → LoadsBytes (plan_of (codes "resume" ∷ recipe ∷ save ∷ report ∷ decimal steps ∷ [])) files → (resume recipe save report steps files).status ≢ FileRefused
+    → IsSavedAt recipe save files count → Pieces recipe save report files (count + steps) (resume recipe save report steps files)
+resumes_answered recipe save report count steps files words counted bytes answered at =
+    piece_after recipe save report count steps files words counted at
+    (λ clash. resume_loaded recipe save report (case_of recipe save report count steps files words counted at clash) files (holds recipe save report count steps files words counted at)
+    (text_of_save (save_of at.said at.inputs at.position)) at.save_held steps counted bytes answered)

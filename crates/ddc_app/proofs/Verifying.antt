@@ -99,7 +99,7 @@ module _ (recipe report : List ℕ) (files : NamedFiles) where
       both_need_recipe Goes files refused recipe next next by_recipe compared
 
   -- the inputs are bytes where the plan's loads found bytes
-  typed : (two : Bool) (answer : Outcome) → IsTrue (is_compared (outcome (cond two (verify_files recipe report) usage) files).status)
+  pub typed : (two : Bool) (answer : Outcome) → IsTrue (is_compared (outcome (cond two (verify_files recipe report) usage) files).status)
       → LoadsBytes (cond two (verify_files recipe report) usage) files → (r : Replayed recipe report files answer) → IsInputs r.said r.inputs
   unfolding judge_files
   typed false answer compared bytes r = absurd cc

@@ -8,9 +8,11 @@ pub mod Differences
 pub mod Verified
 pub mod Judged
 pub mod Headline
+pub mod Collected
 pub mod Accounted
 pub mod Chained
 pub mod ChainJudged
 pub mod Scripted
 pub mod Help
+pub mod Statuses
 pub mod Version

@@ -7,18 +7,23 @@ ghost use Rattle.ddc_app.specs.Accepting.{audit, is_compared, provenance, verify
 ghost use Rattle.ddc_app.specs.Accounted.{Accounted, DigestCollision};
 ghost use Rattle.ddc_app.specs.ChainJudged.{AllVerified};
 ghost use Rattle.ddc_app.specs.Chained.{Chained, chain};
+ghost use Rattle.ddc_app.specs.Collected.{Collected};
 ghost use Rattle.ddc_app.specs.Commands.{plan_of};
 ghost use Rattle.ddc_app.specs.Differences.{AreDeltaWords, DeltaPieces, Differences, IsSavedRelative, LeavesAllBut, delta_resume, delta_start, in_differences};
 ghost use Rattle.ddc_app.specs.Headline.{HoldsTrueReport, SaysHeadline};
+ghost use Rattle.ddc_app.specs.Help.{command_name};
 ghost use Rattle.ddc_app.specs.Judged.{HoldsReport};
 ghost use Rattle.ddc_app.specs.Pausing.{AreWords, IsStepCount, LeavesOthers, LeavesUnwritten, Pieces, IsSavedAt, in_pieces, part, resume};
 ghost use Rattle.ddc_app.specs.Scripted.{ChangesOutAlone, ChangesReportAlone, HoldsScript, IsScriptTrue, ScriptReported, ScriptVerified, kaem, kaem_ended, kaem_left, kaem_verify};
+ghost use Rattle.ddc_app.specs.Statuses.{HasReadRecipe, is_answer_of};
 ghost use Rattle.ddc_app.specs.Verified.{Verified};
+ghost use Rattle.ddc_app.specs.declared.command_word.CommandWord.{CommandWord};
 ghost use Rattle.command_plan.specs.Plan.{LoadsBytes, outcome};
 ghost use Rattle.recipe_plan.specs.Reports.{compared_status};
 ghost use Rattle.verify_commands.specs.Provenance.{origin_text, provenance_text};
+ghost use Rattle.verify_commands.specs.Texts.{true_text};
 ghost use Rattle.verify_commands.specs.Verify.{provenance_plan};
-ghost use Rattle.command_plan.specs.declared.status.Status.TheVariants.{Differs, Paused, Refuted, Yes};
+ghost use Rattle.command_plan.specs.declared.status.Status.TheVariants.{Differs, FileRefused, Paused, Refuted, Yes};
 ghost use Rattle.ddc_base.specs.Outside.{NamedFiles};
 ghost use Rattle.ddc_base.specs.Lines.{line};
 ghost use Rattle.kaem_script.specs.FilesListed.{FilesListed};
@@ -29,7 +34,7 @@ ghost use Rattle.report.specs.Lines.{line_words};
 ghost use Rattle.report.specs.declared.line.ReportLine.TheVariants.{Left, Stream1, Stream2};
 ghost use Rattle.report.specs.declared.types.Report.{Report};
 ghost use Rattle.std.specs.FinMap as map;
-ghost use Rattle.std.specs.Prelude.{◌≡◌, ◌+◌, ◌↔◌, [], ◌∷◌, ◌⊎◌, All, IsTrue, List, None, Ok, Some, codes, decimal, false, length, sum, true, ℕ};
+ghost use Rattle.std.specs.Prelude.{◌≡◌, ◌≢◌, ◌+◌, ◌↔◌, [], ◌∷◌, ◌⊎◌, All, IsTrue, List, None, Ok, Some, codes, decimal, false, length, sum, true, ℕ};
 ghost use Rattle.tool_commands.specs.RunProgram.{left_line, stream_line};
 ghost use Rattle.tool_commands.specs.ScriptTexts.{commands_true_line};
 ghost use Rattle.report.specs.Marks.{mark_of};
@@ -47,7 +52,7 @@ ghost use Rattle.recipe.specs.declared.parts.Stage.{Stage};
 use audit_chain::laws::composed;
 use recipe::laws::a_recipe_that_reads_keeps_the_rules;
 use verifier::conclusion::laws::a_true_report_shows;
-use verifier::laws::{a_yes_in_its_own_words, no_fault_is_every_word_true};
+use verifier::laws::{a_yes_in_its_own_words, no_fault_is_every_word_true, one_report};
 use verify_commands::laws::{it_judges_as_verify, what_is_printed_settles_it};
 use wheeler::Meaning;
 
@@ -130,6 +135,30 @@ pub fn audits_write_true_reports()
     compared_reports_are_true();
 }
 
+/// If all stages were replayed or checked in segments, as `Collected` says, every line of the report is true, and `verify` returns 0 or 3.
+/// `verify` then prints the comparisons and the assumptions. The segments may have been checked on any computers.
+pub fn collected_reports_are_true()
+    ensures is_true { (recipe report : List ℕ) (files : NamedFiles) → Collected recipe report files → HoldsTrueReport recipe report files }
+    ensures told { (recipe report : List ℕ) (files : NamedFiles) (collected : Collected recipe report files)
+        → verify recipe report files
+        ≡ record { status = compared_status collected.seen.lines; text = true_text collected.said collected.seen.lines; files = files } }
+{
+    a_recipe_that_reads_keeps_the_rules();
+    no_fault_is_every_word_true();
+    one_report();
+}
+
+/// If `verify RECIPE REPORT` on files of bytes returns 0 or 3, `Collected` holds: a person who replays each stage sees all that it names. So
+/// `Collected` demands nothing more than `verify` does.
+pub fn true_reports_are_collected()
+    ensures { (recipe report : List ℕ) (files : NamedFiles) → LoadsBytes (plan_of (codes "verify" ∷ recipe ∷ report ∷ [])) files
+        → IsTrue (is_compared (verify recipe report files).status) → Collected recipe report files }
+{
+    a_recipe_that_reads_keeps_the_rules();
+    no_fault_is_every_word_true();
+    one_report();
+}
+
 /// If `chain LIST` on files of bytes returns 0, each line is a true audit whose comparisons are equal, and the text has exactly the
 /// assumptions that are left of all audits. Under every meaning of sources, if these assumptions hold, every assumption of every audit
 /// holds, and so does the conclusion of every stage. Each audited binary then implements the source of each compared stage that has one.
@@ -189,12 +218,16 @@ pub fn parts()
         → Pieces recipe save report files steps (part recipe save report steps files) }
 {}
 
-/// On files of bytes that hold the save after `count` steps, `resume` pauses after exactly STEPS more and leaves the save of that position,
-/// or its status, text and REPORT are those of `audit`.
+/// On files that hold the save after `count` steps, `resume` pauses after exactly STEPS more and leaves the save of that position, or its
+/// status, text and REPORT are those of `audit`. `answered` says so of a call of `resume` whose status is not 10. `bytes` says so of
+/// files whose inputs are bytes, where the save always fits its limit.
 pub fn resumes()
-    ensures { (recipe save report : List ℕ) (count steps : ℕ) (files : NamedFiles) → AreWords recipe save report files → IsStepCount steps
-        → LoadsBytes (plan_of (codes "audit" ∷ recipe ∷ report ∷ [])) files
-        → IsSavedAt recipe save files count
+    ensures bytes { (recipe save report : List ℕ) (count steps : ℕ) (files : NamedFiles) → AreWords recipe save report files
+        → IsStepCount steps → LoadsBytes (plan_of (codes "audit" ∷ recipe ∷ report ∷ [])) files → IsSavedAt recipe save files count
+        → Pieces recipe save report files (count + steps) (resume recipe save report steps files) }
+    ensures answered { (recipe save report : List ℕ) (count steps : ℕ) (files : NamedFiles) → AreWords recipe save report files
+        → IsStepCount steps → LoadsBytes (plan_of (codes "resume" ∷ recipe ∷ save ∷ report ∷ decimal steps ∷ [])) files
+        → (resume recipe save report steps files).status ≢ FileRefused → IsSavedAt recipe save files count
         → Pieces recipe save report files (count + steps) (resume recipe save report steps files) }
 {}
 
@@ -230,19 +263,33 @@ pub fn pauses()
         ≡ (in_pieces recipe save report steps counts files).status }
 {}
 
-/// On files of bytes whose BASE is a save, `delta-start` pauses after exactly STEPS more steps and leaves the delta against BASE, or its
-/// status, text and REPORT are those of `audit`. The save is that of the position after `first` steps.
+/// On files whose BASE is the save after `first` steps, `delta-start` pauses after exactly STEPS more and leaves the delta against BASE, or
+/// its status, text and REPORT are those of `audit`. `answered` says so of a call of `delta-start` whose status is not 10. `bytes` says
+/// so of files whose inputs are bytes, where the save always fits its limit.
 pub fn delta_starts()
-    ensures { (recipe base patch report : List ℕ) (first steps : ℕ) (files : NamedFiles) → AreDeltaWords recipe base patch report files
-        → IsStepCount steps → LoadsBytes (plan_of (codes "audit" ∷ recipe ∷ report ∷ [])) files → IsSavedAt recipe base files first
+    ensures bytes { (recipe base patch report : List ℕ) (first steps : ℕ) (files : NamedFiles)
+        → AreDeltaWords recipe base patch report files → IsStepCount steps
+        → LoadsBytes (plan_of (codes "audit" ∷ recipe ∷ report ∷ [])) files → IsSavedAt recipe base files first
+        → DeltaPieces recipe base patch report files first (first + steps) (delta_start recipe base patch report steps files) }
+    ensures answered { (recipe base patch report : List ℕ) (first steps : ℕ) (files : NamedFiles)
+        → AreDeltaWords recipe base patch report files → IsStepCount steps
+        → LoadsBytes (plan_of (codes "delta-start" ∷ recipe ∷ base ∷ patch ∷ report ∷ decimal steps ∷ [])) files
+        → (delta_start recipe base patch report steps files).status ≢ FileRefused → IsSavedAt recipe base files first
         → DeltaPieces recipe base patch report files first (first + steps) (delta_start recipe base patch report steps files) }
 {}
 
-/// On files of bytes with a save BASE and its delta PATCH, `delta-resume` pauses after exactly STEPS more steps and leaves the delta
-/// against BASE, or its status, text and REPORT are those of `audit`. The delta is that of the position after `count` steps.
+/// On files with a save BASE and as PATCH the delta of the position after `count` steps, `delta-resume` pauses after exactly STEPS more and
+/// leaves the delta against BASE, or its status, text and REPORT are those of `audit`. `answered` says so of a call of `delta-resume` whose
+/// status is not 10. `bytes` says so of files whose inputs are bytes, where the save and the delta always fit their limits.
 pub fn delta_resumes()
-    ensures { (recipe base patch report : List ℕ) (first count steps : ℕ) (files : NamedFiles) → AreDeltaWords recipe base patch report files
-        → IsStepCount steps → LoadsBytes (plan_of (codes "audit" ∷ recipe ∷ report ∷ [])) files → IsSavedRelative recipe base patch files first count
+    ensures bytes { (recipe base patch report : List ℕ) (first count steps : ℕ) (files : NamedFiles)
+        → AreDeltaWords recipe base patch report files → IsStepCount steps
+        → LoadsBytes (plan_of (codes "audit" ∷ recipe ∷ report ∷ [])) files → IsSavedRelative recipe base patch files first count
+        → DeltaPieces recipe base patch report files first (count + steps) (delta_resume recipe base patch report steps files) }
+    ensures answered { (recipe base patch report : List ℕ) (first count steps : ℕ) (files : NamedFiles)
+        → AreDeltaWords recipe base patch report files → IsStepCount steps
+        → LoadsBytes (plan_of (codes "delta-resume" ∷ recipe ∷ base ∷ patch ∷ report ∷ decimal steps ∷ [])) files
+        → (delta_resume recipe base patch report steps files).status ≢ FileRefused → IsSavedRelative recipe base patch files first count
         → DeltaPieces recipe base patch report files first (count + steps) (delta_resume recipe base patch report steps files) }
 {}
 
@@ -335,4 +382,12 @@ pub fn lines_of_a_run()
     ensures first { (bytes : List ℕ) → stream_line 1 bytes ≡ line (line_words (Stream1 (mark_of bytes))) }
     ensures second { (bytes : List ℕ) → stream_line 2 bytes ≡ line (line_words (Stream2 (mark_of bytes))) }
     ensures left { (name content : List ℕ) → left_line (name, content) ≡ line (line_words (Left (record { name = name; mark = mark_of content }))) }
+{}
+
+/// Every status that a command answers is printed by `help`, whatever words follow the command's name and whatever the files hold. Two statuses are not
+/// printed, because every command has them: a usage error (2), and a file that is absent or too long (10). For `demo` the recipe that it brings with it
+/// must be a valid recipe.
+pub fn help_prints_each_status()
+    ensures { (command : CommandWord) (words : List (List ℕ)) (files : NamedFiles) → HasReadRecipe command
+        → IsTrue (is_answer_of command (outcome (plan_of (command_name command ∷ words)) files).status) }
 {}

@@ -164,9 +164,12 @@ command-refused most w words program fault sound is there refused =
     ap (by_program most w words) there
     ∙ ap (by_started most) (starts-by-image program (command_box w words) (box-fits w words sound is) ∙ ap (by_image program (command_box w words)) refused)
 
-pub has-program : (w : World) (words : List (List ℕ)) (program : List ℕ) (image : Image) → content_at w (program_name words) ≡ Some program
-    → ◌≡◌ {A = Result Image ElfRefusal} (Ok image) (image_of program) → HasProgram w words
-has-program w words program image there is = record { program = program; there = there; loads = subst IsOk is refl }
+pub has-program : (w : World) (words : List (List ℕ)) (program : List ℕ) (image : Image) → IsSound w → IsCommand words
+    → content_at w (program_name words) ≡ Some program → ◌≡◌ {A = Result Image ElfRefusal} (Ok image) (image_of program) → HasProgram w words
+has-program w words program image sound is there loads =
+    let begun : start_of program (command_box w words) ≡ Ok (start_state program (command_box w words) image) =
+    starts-by-image program (command_box w words) (box-fits w words sound is) ∙ ap (by_image program (command_box w words)) (sym loads) in
+    record { program = program; there = there; starts = subst IsOk (sym begun) refl }
 
 pub command-without : (most : ℕ) (w : World) (words : List (List ℕ)) → content_at w (program_name words) ≡ None → command most w words ≡ Err (cause.NoProgram, 0)
 unfolding command

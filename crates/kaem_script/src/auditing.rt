@@ -26,7 +26,7 @@ use std::alloc::Global;
 /// of 536,870,912 bytes, and all files that exist. The next command gets the files that it leaves. The first command that does not exit
 /// with 0 stops the script; a report means that all commands exited with 0.
 ///
-/// `OutOfMemory` occurs only at a command whose program exists and can be loaded, or for the report.
+/// `OutOfMemory` occurs only at a command whose program exists and starts, or for the report.
 #[tactic(auto, unfolding(crate::specs::Reported::script_report))]
 pub fn audit(
     alloc: Global,

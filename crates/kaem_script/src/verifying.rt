@@ -22,7 +22,7 @@ use std::alloc::Global;
 /// Replays a script's report, without trusting it.
 ///
 /// `Refuted` names the first part that is not true, checked on the bytes that the earlier commands left. `OutOfMemory` occurs only at a
-/// command whose recorded step is from 1 to 2^48 and whose program exists and can be loaded. The script's digest, all `file` lines and
+/// command whose recorded step is from 1 to 2^48 and whose program exists and starts. The script's digest, all `file` lines and
 /// the lines of all earlier commands are right then. docs/reference/kaem.md has the rules.
 #[tactic(auto, unfolding(crate::specs::Faults::first_script_fault))]
 pub fn verify(

@@ -179,8 +179,8 @@ static UNMAPPED_AND_MAPPED: [Call; 18] = [
     Call::RunFrom(0, Some((0x1000, 1))),
 ];
 
-/// Two pages at 4,096, and the last page below 2^38: loads that the order of bytes in RISC-V and the map's edges decide, a store whose
-/// last byte alone is unmapped, and the low bytes of a number alone.
+/// Two pages at 4,096, and the last page below 2^38. The loads depend on the order of bytes in RISC-V and on the map's edges. Of one store
+/// only the last byte is unmapped, and other stores take only the low bytes of a number.
 static NUMBERS: [Call; 18] = [
     Call::Map(4096, 2),
     Call::Map(LAST_PAGE, 1),

@@ -1,8 +1,8 @@
 //! One part of ddc alone, to be timed by the scripts in bench/.
 //!
-//! `step TURNS PAGES` runs a loop so many turns, over so many data pages, a power of two, of which each turn touches the next; it prints how
-//! many steps were done, and the sum that the loop left in x10. `recipe FILE` reads the recipe in a file, and prints how many tables it has, or
-//! the number of its refusal.
+//! `step TURNS PAGES` runs a loop TURNS times over PAGES data pages, a power of two; each turn touches the next page. It prints how many
+//! steps were executed, and the sum that the loop left in x10. `recipe FILE` reads the recipe in a file, and prints how many tables it has,
+//! or the number of its refusal.
 #![tactic(auto)]
 
 mod stepping;

@@ -15,7 +15,7 @@ const CODE_AT: u64 = 0x1_0000;
 
 const DATA_AT: u64 = 0x1_1000;
 
-/// A hart at the loop's start, with its registers set; `None` for want of memory or too many pages.
+/// A hart at the loop's start, with its registers set; `None` if memory runs out or there are too many pages.
 pub(crate) fn hart_at_loop(rt: &impl AllocGlobal, turns: u64, pages: u64) -> Option<Hart<FlatRam>> {
     if pages > 65_536 {
         return None;

@@ -23,7 +23,7 @@ static FORMATS: [Row; 6] = [
     ("format = 2", "format = 1", "2 compare 0 stage"),
 ];
 
-/// What stands in place of the compared stages, and the answer.
+/// What replaces the compared stages in the recipe, and the answer.
 static COMPARED: [(&str, &str); 30] = [
     ("", "2 compare 0 stages"),
     ("stage = \"two\"", "2 compare 0 stages"),
@@ -61,7 +61,7 @@ static COMPARED: [(&str, &str); 30] = [
     ("stages = [\"gone\"]\nmore = 1", "3 compare 0"),
 ];
 
-/// What stands in place of the compared stages and of the binary, and the answer.
+/// What replaces the compared stages and the binary in the recipe, and the answer.
 static ORDERS: [Row; 5] = [
     (STAGES, "binary = 1", "2 compare 0 binary"),
     ("stages = [1]", "binary = 1", "2 compare 0 stages"),

@@ -90,7 +90,7 @@ stage = "two"
 binary = "bin"
 "#;
 
-/// A text with another in place of the first piece that is `old`. Where there is none it is no recipe.
+/// A text with its first occurrence of `old` replaced. Without an occurrence the result is not a recipe.
 pub(crate) fn with(alloc: Global, text: &str, old: &str, new: &str) -> Result<String, OutOfMemory> {
     match text.split_once(old) {
         Some((before, after)) => Ok(format!(in alloc; "{before}{new}{after}")?),

@@ -1,14 +1,12 @@
 -- What `segment` with 0 says, and what `ends` and every `segment` with 0 say together.
 use Rattle.std.proofs.Common.{◌≡◌, ℕ, zero, suc, ◌+◌, ◌-◌, ◌<◌, ◌≤◌, ◌==◌, Bool, true, false, cond, IsTrue, Option, None, Some, Result, Ok, Err, List, [], ◌∷◌, decimal, length, refl, sym, ap, ◌∙◌, subst, arith}
-use Rattle.std.specs.Prelude.{All, slice_get}
-use Rattle.std.specs.FinMap as finite
+use Rattle.std.specs.Prelude.{slice_get}
 use Rattle.std.proofs.Math.Decide.{dec_lt}
 use Rattle.std.proofs.lemmas.Bool.Decides.{Decides-eqb}
 use Rattle.ddc_base.specs.ByteLists.{AreBytes}
 use Rattle.ddc_base.specs.Difference.{first_difference}
 use Rattle.ddc_base.proofs.Decimals.{as_decimal-is}
-use Rattle.ddc_base.specs.declared.outside.Loaded.{Loaded}
-use Rattle.ddc_base.specs.declared.outside.Loaded.TheVariants.{Absent, Bytes, TooLong}
+use Rattle.ddc_base.specs.declared.outside.Loaded.TheVariants.{Bytes}
 use Rattle.ddc_base.specs.Outside.{NamedFiles, loaded}
 use Rattle.mem_files.specs.Outputs.{out}
 use Rattle.guest_run.specs.declared.run.RunEnd.TheVariants as ending
@@ -25,11 +23,11 @@ use Rattle.segments.specs.Segments.{ChecksPiece, EndsWith, IsStateOf, second_tex
 use Rattle.segments.specs.declared.answers.SegmentFault.{SegmentFault}
 use Rattle.segments.specs.declared.answers.StateFault.{StateFault}
 use Rattle.command_plan.specs.declared.status.Status.TheVariants.{Yes}
-use Rattle.command_plan.specs.Plan.{LoadsBytes, Outcome, Plan, answers, bytes_then, needs, outcome, unless_refused}
+use Rattle.command_plan.specs.Plan.{LoadsBytes, Outcome, Plan, answers, needs, outcome, unless_refused}
 use Rattle.command_plan.specs.Words.{are_two_files, or_usage, usage}
 use Rattle.stage_commands.specs.Checked.{AreChecked, EndShows, HoldPiece, IsRunReported, piece_reported_yes}
 use Rattle.stage_commands.specs.Cutting.{ends_over, segment_over}
-use Rattle.stage_commands.specs.Ends.{ends_files, ends_judged, needs_first, needs_last, unless_other_start}
+use Rattle.stage_commands.specs.Ends.{ends_files, ends_judged, ends_plan, needs_first, needs_last, unless_other_start}
 use Rattle.stage_commands.specs.Exits.{run_failed, unless_absent}
 use Rattle.stage_commands.specs.Names.{are_stage_words, as_states, piece_name, within_states}
 use Rattle.stage_commands.specs.Ready.{needs_ready}
@@ -40,7 +38,7 @@ use Rattle.stage_commands.specs.declared.ready.Ready.{Ready}
 use Rattle.stage_commands.proofs.Cutting.{count_again, is_benched, segment_reported}
 use Rattle.stage_commands.proofs.EarlierStages.{StartsValid, starts_valid}
 use Rattle.stage_commands.proofs.PiecesShown.{end_shown, piece_shown}
-use Rattle.stage_commands.proofs.ReadyAgain.{Finds, IsYes, follows_load, found_again, load_found, within_limit, yes_as}
+use Rattle.stage_commands.proofs.ReadyAgain.{Finds, IsYes, follows_load, found_again, load_bytes, load_found, yes_as}
 use Rattle.stage_commands.proofs.Reading.{is_read, is_reported, reads}
 use Rattle.stage_commands.proofs.StatesRead.{is_read_valid, no_difference, one_text}
 
@@ -89,8 +87,8 @@ module _ (files : NamedFiles) where
         let with_latter : List ℕ → Plan = λ latter. piece_reported (piece_of a.0 latter) in
         let b = load_found to 4_294_967_296 with_latter files (yes_as (segment_files from to) (with_former a.0) files one zeroed) in
         let comes = one ∙ follows_load to 4_294_967_296 with_latter files b.0 b.1 in
-        let formers = subst (λ (l : Loaded). bytes_then l (λ c. LoadsBytes (with_former c) files)) a.1 bytes in
-        let latters = subst (λ (l : Loaded). bytes_then l (λ c. LoadsBytes (with_latter c) files)) b.1 formers.1 in
+        let formers = load_bytes from 4_294_967_296 with_former files a.0 a.1 bytes in
+        let latters = load_bytes to 4_294_967_296 with_latter files b.0 b.1 formers.1 in
         subst Shown (sym comes) (by_piece a.0 b.0 a.1 b.1 formers.0 latters.0 (piece_of a.0 b.0) refl (yes_as (segment_files from to) (with_latter b.0) files comes zeroed))
 
     pub segment_shown : LoadsBytes (segment_plan (from ∷ to ∷ [])) files → (segment_over from to files).status ≡ Yes → Shown (segment_over from to files)
@@ -102,36 +100,15 @@ module _ (files : NamedFiles) where
 
 -- ---- all together
 
-module _ (files : NamedFiles) (bytes : (name content : List ℕ) → finite.get files name ≡ Some content → All (λ byte. byte < 256) content) where
-  held_bytes : (name : List ℕ) (limit : ℕ) (content : List ℕ) → loaded files name limit ≡ Bytes content → AreBytes content
-  held_bytes name limit content is = bytes name content (within_limit limit (finite.get files name) content is).0
-
-  load_bytes : (name : List ℕ) (limit : ℕ) (Rest : List ℕ → Type 0) → ((content : List ℕ) → Rest content) → bytes_then (loaded files name limit) Rest
-  load_bytes name limit Rest rest = by (loaded files name limit) refl where
-    by : (l : Loaded) → loaded files name limit ≡ l → bytes_then l Rest
-    by (Bytes content) is = (held_bytes name limit content is, rest content)
-    by Absent is = tt
-    by TooLong is = tt
-
-  reported_bytes : (r : Result ℕ SegmentFault) → LoadsBytes (piece_reported r) files
-  reported_bytes (Ok steps) = tt
-  reported_bytes (Err why) = tt
-
-  segment_bytes : (from to : List ℕ) → LoadsBytes (segment_plan (from ∷ to ∷ [])) files
-  unfolding segment_files
-  segment_bytes from to = by (are_two_files from to) where
-    by : (two : Bool) → LoadsBytes (cond two (segment_files from to) usage) files
-    by true =
-        load_bytes from 4_294_967_296 (λ former. LoadsBytes (needs to 4_294_967_296 (λ latter. piece_reported (piece_of former latter))) files)
-        (λ former. load_bytes to 4_294_967_296 (λ latter. LoadsBytes (piece_reported (piece_of former latter)) files) (λ latter. reported_bytes (piece_of former latter)))
-    by false = tt
-
+module _ (files : NamedFiles) where
   module _ (recipe stage prefix : List ℕ) (count : ℕ) (some : 1 ≤ count)
-      (pieces : (number : ℕ) → number + 1 < count → (segment_over (piece_name prefix number) (piece_name prefix (number + 1)) files).status ≡ Yes) where
+      (pieces : (number : ℕ) → number + 1 < count → (segment_over (piece_name prefix number) (piece_name prefix (number + 1)) files).status ≡ Yes)
+      (pieces_bytes : (number : ℕ) → number + 1 < count → LoadsBytes (segment_plan (piece_name prefix number ∷ piece_name prefix (number + 1) ∷ [])) files) where
     abbrev Reported : Outcome → Type 0
     Reported o = IsRunReported recipe stage prefix files o
 
-    module _ (fa : Finds prefix files bytes recipe stage (needs_ready recipe stage prefix)) (first last : List ℕ) (first_is : loaded files (piece_name prefix 0) 4_294_967_296 ≡ Bytes first)
+    module _ (fa : Finds prefix files recipe stage (needs_ready recipe stage prefix)) (first last : List ℕ) (first_bytes : AreBytes first)
+        (first_is : loaded files (piece_name prefix 0) 4_294_967_296 ≡ Bytes first)
         (last_is : loaded files (piece_name prefix (count - 1)) 4_294_967_296 ≡ Bytes last) (of : Stage) (there : slice_get fa.ready.recipe.stages (length fa.ready.done) ≡ Some of) where
       module _ (begun : GuestState) (starts : start_stage fa.ready.recipe (contents fa.ready.inputs fa.ready.done) of ≡ Ok begun) where
         v : StartsValid fa.ready.recipe fa.ready.inputs fa.is fa.given of begun
@@ -145,9 +122,10 @@ module _ (files : NamedFiles) (bytes : (name content : List ℕ) → finite.get 
           is : IsStateOf text state
           reached : after begun state.steps ≡ Some state
 
-        one_on : (from to : List ℕ) → IsReached from → (segment_over from to files).status ≡ Yes → IsReached to
-        one_on from to at zeroed =
-            let s = segment_shown files from to (segment_bytes from to) zeroed in
+        one_on : (from to : List ℕ) → IsReached from → LoadsBytes (segment_plan (from ∷ to ∷ [])) files → (segment_over from to files).status ≡ Yes
+            → IsReached to
+        one_on from to at bytes zeroed =
+            let s = segment_shown files from to bytes zeroed in
             let piece = s.1.piece in
             let text : at.text ≡ s.1.former = one_held files from 4_294_967_296 at.text s.1.former at.held s.1.former_is in
             let same : piece.states.first ≡ at.state = one_said s.1.former piece.states.first at.state piece.states.from_is (subst (λ t. IsStateOf t at.state) text at.is) in
@@ -166,12 +144,14 @@ module _ (files : NamedFiles) (bytes : (name content : List ℕ) → finite.get 
         all_on at (suc number) less =
             let next : number + 1 ≡ suc number = omega arith in
             let before = all_on at number (omega (arith, less)) in
-            subst (λ n. IsReached (piece_name prefix n)) next (one_on (piece_name prefix number) (piece_name prefix (number + 1)) before (pieces number (omega (arith, less))))
+            let below : number + 1 < count = omega (arith, less) in
+            subst (λ n. IsReached (piece_name prefix n)) next
+            (one_on (piece_name prefix number) (piece_name prefix (number + 1)) before (pieces_bytes number below) (pieces number below))
 
         module _ (said : GuestState) (said_is : IsStateOf first said) (none : first_difference (second_text begun) (second_text said) ≡ None) where
           is_start : begun ≡ said
           is_start =
-              one_text begun said (record { valid = v.valid; small = omega (arith, v.fresh) }) (is_read_valid first said (held_bytes (piece_name prefix 0) 4_294_967_296 first first_is) said_is)
+              one_text begun said (record { valid = v.valid; small = omega (arith, v.fresh) }) (is_read_valid first said first_bytes said_is)
               (no_difference (second_text begun) (second_text said) none)
 
           from_start : IsReached (piece_name prefix 0)
@@ -270,35 +250,39 @@ module _ (files : NamedFiles) (bytes : (name content : List ℕ) → finite.get 
       by_start_of (Err why) starts zeroed = absurd cc
       by_start_of (Ok begun) starts zeroed = by_first begun starts (state_said first) (reads first) zeroed
 
-    module _ (fa : Finds prefix files bytes recipe stage (needs_ready recipe stage prefix)) where
+    module _ (fa : Finds prefix files recipe stage (needs_ready recipe stage prefix)) where
       abbrev judge : List ℕ → List ℕ → Stage → Plan
       judge first last of = needs_first of (start_stage fa.ready.recipe (contents fa.ready.inputs fa.ready.done) of) (state_said first) (needs_last of (end_after last of.steps))
 
-      by_texts : (first last : List ℕ) → loaded files (piece_name prefix 0) 4_294_967_296 ≡ Bytes first → loaded files (piece_name prefix (count - 1)) 4_294_967_296 ≡ Bytes last
+      by_texts : (first last : List ℕ) → AreBytes first → loaded files (piece_name prefix 0) 4_294_967_296 ≡ Bytes first → loaded files (piece_name prefix (count - 1)) 4_294_967_296 ≡ Bytes last
           → IsYes (ends_judged fa.ready first last) files → Reported (outcome (ends_judged fa.ready first last) files)
       unfolding ends_judged
-      by_texts first last first_is last_is zeroed = by (slice_get fa.ready.recipe.stages (length fa.ready.done)) refl zeroed where
+      by_texts first last first_bytes first_is last_is zeroed = by (slice_get fa.ready.recipe.stages (length fa.ready.done)) refl zeroed where
         by : (place : Option Stage) → slice_get fa.ready.recipe.stages (length fa.ready.done) ≡ place → IsYes (or_usage place (judge first last)) files → Reported (outcome (or_usage place (judge first last)) files)
-        by (Some of) there zeroed = by_start_of fa first last first_is last_is of there (start_stage fa.ready.recipe (contents fa.ready.inputs fa.ready.done) of) refl zeroed
+        by (Some of) there zeroed = by_start_of fa first last first_bytes first_is last_is of there (start_stage fa.ready.recipe (contents fa.ready.inputs fa.ready.done) of) refl zeroed
         by None there zeroed = absurd cc
 
-    by_ends : IsYes (ends_files recipe stage prefix count) files → Reported (outcome (ends_files recipe stage prefix count) files)
+    by_ends : LoadsBytes (ends_files recipe stage prefix count) files → IsYes (ends_files recipe stage prefix count) files
+        → Reported (outcome (ends_files recipe stage prefix count) files)
     unfolding ends_files
-    by_ends zeroed =
+    by_ends bytes zeroed =
         let with_last : Ready → List ℕ → Plan = λ ready first. needs (piece_name prefix (count - 1)) 4_294_967_296 (λ last. ends_judged ready first last) in
         let with_first : Ready → Plan = λ ready. needs (piece_name prefix 0) 4_294_967_296 (with_last ready) in
-        let fa = found_again prefix files bytes recipe stage with_first zeroed in
+        let fa = found_again prefix files recipe stage with_first zeroed bytes in
         let one = fa.found files (λ name apart. refl) with_first in
         let a = load_found (piece_name prefix 0) 4_294_967_296 (with_last fa.ready) files (yes_as (ends_files recipe stage prefix count) (with_first fa.ready) files one zeroed) in
+        let first = load_bytes (piece_name prefix 0) 4_294_967_296 (with_last fa.ready) files a.0 a.1 (fa.loads with_first bytes) in
         let two = one ∙ follows_load (piece_name prefix 0) 4_294_967_296 (with_last fa.ready) files a.0 a.1 in
         let b = load_found (piece_name prefix (count - 1)) 4_294_967_296 (λ last. ends_judged fa.ready a.0 last) files
         (yes_as (ends_files recipe stage prefix count) (with_last fa.ready a.0) files two zeroed) in
         let comes = two ∙ follows_load (piece_name prefix (count - 1)) 4_294_967_296 (λ last. ends_judged fa.ready a.0 last) files b.0 b.1 in
-        subst Reported (sym comes) (by_texts fa a.0 b.0 a.1 b.1 (yes_as (ends_files recipe stage prefix count) (ends_judged fa.ready a.0 b.0) files comes zeroed))
+        subst Reported (sym comes) (by_texts fa a.0 b.0 first.0 a.1 b.1 (yes_as (ends_files recipe stage prefix count) (ends_judged fa.ready a.0 b.0) files comes zeroed))
 
-    by_words : (are : Bool) → IsYes (cond are (ends_files recipe stage prefix count) usage) files → Reported (outcome (cond are (ends_files recipe stage prefix count) usage) files)
-    by_words true zeroed = by_ends zeroed
-    by_words false zeroed = absurd cc
+    by_words : (are : Bool) → LoadsBytes (cond are (ends_files recipe stage prefix count) usage) files
+        → IsYes (cond are (ends_files recipe stage prefix count) usage) files
+        → Reported (outcome (cond are (ends_files recipe stage prefix count) usage) files)
+    by_words true bytes zeroed = by_ends bytes zeroed
+    by_words false bytes zeroed = absurd cc
 
   -- COUNT is spelled as its decimal
   abbrev with_states : List ℕ → List ℕ → List ℕ → Option ℕ → Plan
@@ -308,16 +292,21 @@ module _ (files : NamedFiles) (bytes : (name content : List ℕ) → finite.get 
   unfolding as_states
   no_states = ap within_states (as_decimal-is (decimal 0) 0 (record { small = omega arith; spelled = refl }))
 
-  pub run_is_reported : (recipe stage prefix : List ℕ) (count : ℕ) → AreChecked recipe stage prefix count files → IsRunReported recipe stage prefix files (ends_over recipe stage prefix count files)
-  run_is_reported recipe stage prefix count checked = elim (dec_lt 0 count) [
+  pub run_is_reported : (recipe stage prefix : List ℕ) (count : ℕ) → LoadsBytes (ends_plan (recipe ∷ stage ∷ prefix ∷ decimal count ∷ [])) files
+      → ((number : ℕ) → number + 1 < count
+      → LoadsBytes (segment_plan (piece_name prefix number ∷ piece_name prefix (number + 1) ∷ [])) files)
+      → AreChecked recipe stage prefix count files → IsRunReported recipe stage prefix files (ends_over recipe stage prefix count files)
+  run_is_reported recipe stage prefix count bytes pieces_bytes checked = elim (dec_lt 0 count) [
     | yes some ↦ by_count some
     | no not ↦ absurd (none_given (omega (arith, not)))
   ] where
     by_count : 0 < count → IsRunReported recipe stage prefix files (ends_over recipe stage prefix count files)
     by_count some =
-        let comes : ends_over recipe stage prefix count files ≡ outcome (with_states recipe stage prefix (Some count)) files = ap (λ n. outcome (with_states recipe stage prefix n) files) (count_again count (omega (arith, some)) checked.few) in
+        let again = count_again count (omega (arith, some)) checked.few in
+        let comes : ends_over recipe stage prefix count files ≡ outcome (with_states recipe stage prefix (Some count)) files = ap (λ n. outcome (with_states recipe stage prefix n) files) again in
         subst (IsRunReported recipe stage prefix files) (sym comes)
-        (by_words recipe stage prefix count (omega (arith, some)) checked.pieces (are_stage_words recipe stage prefix) (ap (λ (o : Outcome). o.status) (sym comes) ∙ checked.both_ends))
+        (by_words recipe stage prefix count (omega (arith, some)) checked.pieces pieces_bytes (are_stage_words recipe stage prefix)
+        (subst (λ n. LoadsBytes (with_states recipe stage prefix n) files) again bytes) (ap (λ (o : Outcome). o.status) (sym comes) ∙ checked.both_ends))
 
     none_given : count ≡ 0 → ⊥
     none_given none =

@@ -1,6 +1,6 @@
 -- A cut that came to 0 is right by the commands on pieces.
-use Rattle.std.proofs.Common.{◌≡◌, ℕ, ◌+◌, ◌-◌, ◌*◌, ◌<◌, ◌≤◌, ◌^◌, ◌&&◌, Bool, true, false, cond, IsTrue, inl, Option, Some, None, Result, Ok, Err, List, decimal, length, nat_le, refl, sym, ap, ◌∙◌, subst, arith}
-use Rattle.std.specs.Prelude.{All, slice_get}
+use Rattle.std.proofs.Common.{◌≡◌, ℕ, ◌+◌, ◌-◌, ◌*◌, ◌<◌, ◌≤◌, ◌^◌, ◌&&◌, Bool, true, false, cond, IsTrue, inl, Option, Some, None, Result, Ok, Err, List, [], ◌∷◌, decimal, length, nat_le, refl, sym, ap, ◌∙◌, subst, arith}
+use Rattle.std.specs.Prelude.{slice_get}
 use Rattle.std.specs.FinMap as finite
 use Rattle.std.proofs.Math.Nat.{zero-mul}
 use Rattle.std.proofs.lemmas.Bool.{and_parts, leb-true}
@@ -26,9 +26,9 @@ use Rattle.audit_rules.specs.declared.answer.Finished.{Finished}
 use Rattle.audit_rules.proofs.Endings.{ended}
 use Rattle.segments.specs.Segments.{second_text}
 use Rattle.command_plan.specs.declared.status.Status.TheVariants.{Yes}
-use Rattle.command_plan.specs.Plan.{Outcome, Plan, answers, needs, outcome, unless_refused}
+use Rattle.command_plan.specs.Plan.{LoadsBytes, Outcome, Plan, answers, needs, outcome, unless_refused}
 use Rattle.command_plan.specs.Words.{are_two_files, as_steps, has_no_zero_byte, is_file_word, or_usage, usage, within_steps}
-use Rattle.stage_commands.specs.Cut.{cut_files, cut_from, cut_ready, next_steps, saved_from}
+use Rattle.stage_commands.specs.Cut.{cut_files, cut_from, cut_plan, cut_ready, next_steps, saved_from}
 use Rattle.stage_commands.specs.Cutting.{CutRun, IsRightCut, cut_over, ends_over, segment_over}
 use Rattle.stage_commands.specs.Ends.{ends_files, ends_judged, needs_first, needs_last, unless_other_start}
 use Rattle.stage_commands.specs.Exits.{run_failed, unless_absent}
@@ -123,9 +123,8 @@ module _ (ready : Ready) (of : Stage) (there : slice_get ready.recipe.stages (le
       ∙ ap (λ difference. unless_other_start difference next) (first_difference-same (second_text begun))
       ∙ following
 
-module _ (recipe stage every prefix : List ℕ) (files : NamedFiles) (bytes : (name content : List ℕ) → finite.get files name ≡ Some content → All (λ byte. byte < 256) content)
-    (steps : ℕ) (steps_are : as_steps every ≡ Some steps) (words : are_stage_words recipe stage prefix ≡ true) where
-  module _ (fa : Finds prefix files bytes recipe stage (needs_ready recipe stage prefix)) (of : Stage) (there : slice_get fa.ready.recipe.stages (length fa.ready.done) ≡ Some of) (begun : GuestState)
+module _ (recipe stage every prefix : List ℕ) (files : NamedFiles) (steps : ℕ) (steps_are : as_steps every ≡ Some steps) (words : are_stage_words recipe stage prefix ≡ true) where
+  module _ (fa : Finds prefix files recipe stage (needs_ready recipe stage prefix)) (of : Stage) (there : slice_get fa.ready.recipe.stages (length fa.ready.done) ≡ Some of) (begun : GuestState)
       (starts : start_stage fa.ready.recipe (contents fa.ready.inputs fa.ready.done) of ≡ Ok begun) (zeroed : IsYes (saved_from of steps prefix 1_000 0 begun) files) where
     abbrev came : Outcome
     came = outcome (saved_from of steps prefix 1_000 0 begun) files
@@ -208,7 +207,7 @@ module _ (recipe stage every prefix : List ℕ) (files : NamedFiles) (bytes : (n
         (state_loaded came.files (piece_name prefix (number + 1)) second.state (state_valid (number + 1) high) second.held)
         (neighbours first.state second.state steps (state_valid number low) (state_valid (number + 1) high) (small (number + 1) high) bounds.0 bounds.1 on)
 
-    alike : AreAlike prefix files bytes came.files
+    alike : AreAlike prefix files came.files
     alike name apart = w.others name (λ k low high. apart k (omega (arith, high, w.few)))
 
     first_state : IsSaved of steps prefix begun came.files 0
@@ -275,7 +274,7 @@ module _ (recipe stage every prefix : List ℕ) (files : NamedFiles) (bytes : (n
   abbrev Cut : Plan → Type 0
   Cut plan = IsRightCut recipe stage every prefix files (outcome plan files)
 
-  module _ (fa : Finds prefix files bytes recipe stage (needs_ready recipe stage prefix)) where
+  module _ (fa : Finds prefix files recipe stage (needs_ready recipe stage prefix)) where
     by_start_of : (of : Stage) → slice_get fa.ready.recipe.stages (length fa.ready.done) ≡ Some of → (s : Result GuestState Refusal)
         → start_stage fa.ready.recipe (contents fa.ready.inputs fa.ready.done) of ≡ s → IsYes (cut_from of steps prefix s) files → Cut (cut_from of steps prefix s)
     by_start_of of there (Ok begun) starts zeroed = is_cut fa of there begun starts zeroed
@@ -291,23 +290,30 @@ module _ (recipe stage every prefix : List ℕ) (files : NamedFiles) (bytes : (n
     unfolding cut_ready
     from_ready zeroed = by_place (slice_get fa.ready.recipe.stages (length fa.ready.done)) refl zeroed
 
-  from_files : IsYes (cut_files recipe stage steps prefix) files → Cut (cut_files recipe stage steps prefix)
+  from_files : LoadsBytes (cut_files recipe stage steps prefix) files → IsYes (cut_files recipe stage steps prefix) files → Cut (cut_files recipe stage steps prefix)
   unfolding cut_files
-  from_files zeroed =
-      let fa = found_again prefix files bytes recipe stage (cut_ready steps prefix) zeroed in
+  from_files bytes zeroed =
+      let fa = found_again prefix files recipe stage (cut_ready steps prefix) zeroed bytes in
       let comes : outcome (cut_files recipe stage steps prefix) files ≡ outcome (cut_ready steps prefix fa.ready) files = fa.found files (λ name apart. refl) (cut_ready steps prefix) in
       subst (λ (o : Outcome). IsRightCut recipe stage every prefix files o) (sym comes) (from_ready fa (yes_as (cut_files recipe stage steps prefix) (cut_ready steps prefix fa.ready) files comes zeroed))
 
-pub cut_is_right : (recipe stage every prefix : List ℕ) (files : NamedFiles) → ((name content : List ℕ) → finite.get files name ≡ Some content → All (λ byte. byte < 256) content)
-    → (cut_over recipe stage every prefix files).status ≡ Yes → IsRightCut recipe stage every prefix files (cut_over recipe stage every prefix files)
-cut_is_right recipe stage every prefix files bytes zeroed = by_steps (as_steps every) refl zeroed where
-  by_words : (steps : ℕ) → as_steps every ≡ Some steps → (b : Bool) → are_stage_words recipe stage prefix ≡ b
-      → IsYes (cond b (cut_files recipe stage steps prefix) usage) files → IsRightCut recipe stage every prefix files (outcome (cond b (cut_files recipe stage steps prefix) usage) files)
-  by_words steps are true words zeroed = from_files recipe stage every prefix files bytes steps are words zeroed
-  by_words steps are false words zeroed = absurd cc
+-- what `cut` comes to is judged by its words, and those by EVERY
+abbrev by_stage_words : List ℕ → List ℕ → List ℕ → ℕ → Bool → Plan
+by_stage_words recipe stage prefix steps are = cond are (cut_files recipe stage steps prefix) usage
 
-  by_steps : (word : Option ℕ) → as_steps every ≡ word
-      → IsYes (or_usage word (λ steps. cond (are_stage_words recipe stage prefix) (cut_files recipe stage steps prefix) usage)) files
-      → IsRightCut recipe stage every prefix files (outcome (or_usage word (λ steps. cond (are_stage_words recipe stage prefix) (cut_files recipe stage steps prefix) usage)) files)
-  by_steps (Some steps) are zeroed = by_words steps are (are_stage_words recipe stage prefix) refl zeroed
-  by_steps None none zeroed = absurd cc
+abbrev by_every : List ℕ → List ℕ → List ℕ → Option ℕ → Plan
+by_every recipe stage prefix word = or_usage word (λ steps. by_stage_words recipe stage prefix steps (are_stage_words recipe stage prefix))
+
+pub cut_is_right : (recipe stage every prefix : List ℕ) (files : NamedFiles) → LoadsBytes (cut_plan (recipe ∷ stage ∷ every ∷ prefix ∷ [])) files
+    → (cut_over recipe stage every prefix files).status ≡ Yes → IsRightCut recipe stage every prefix files (cut_over recipe stage every prefix files)
+cut_is_right recipe stage every prefix files bytes zeroed = by_steps (as_steps every) refl bytes zeroed where
+  by_words : (steps : ℕ) → as_steps every ≡ Some steps → (b : Bool) → are_stage_words recipe stage prefix ≡ b
+      → LoadsBytes (by_stage_words recipe stage prefix steps b) files → IsYes (by_stage_words recipe stage prefix steps b) files
+      → IsRightCut recipe stage every prefix files (outcome (by_stage_words recipe stage prefix steps b) files)
+  by_words steps are true words bytes zeroed = from_files recipe stage every prefix files steps are words bytes zeroed
+  by_words steps are false words bytes zeroed = absurd cc
+
+  by_steps : (word : Option ℕ) → as_steps every ≡ word → LoadsBytes (by_every recipe stage prefix word) files → IsYes (by_every recipe stage prefix word) files
+      → IsRightCut recipe stage every prefix files (outcome (by_every recipe stage prefix word) files)
+  by_steps (Some steps) are bytes zeroed = by_words steps are (are_stage_words recipe stage prefix) refl bytes zeroed
+  by_steps None none bytes zeroed = absurd cc

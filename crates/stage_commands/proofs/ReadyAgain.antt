@@ -30,7 +30,7 @@ use Rattle.recipe_plan.specs.NotDone.{unfinished}
 use Rattle.stage_commands.specs.Begun.{IsBegun}
 use Rattle.stage_commands.specs.Earlier.{needs_earlier, needs_stage}
 use Rattle.command_plan.specs.declared.status.Status.TheVariants.{FileRefused, RecipeRefused, Yes}
-use Rattle.command_plan.specs.Plan.{Outcome, Plan, answers, follow, needs, needs_all, outcome, unless_refused}
+use Rattle.command_plan.specs.Plan.{LoadsBytes, Outcome, Plan, answers, bytes_then, follow, needs, needs_all, outcome, unless_refused}
 use Rattle.mem_files.specs.Names.{stripped}
 use Rattle.command_plan.specs.Words.{is_one_file, or_usage, usage}
 use Rattle.recipe_plan.specs.Recipes.{is_input, needs_apart, needs_inputs, needs_recipe, paths, reads_recipe}
@@ -69,6 +69,10 @@ load_found name limit next files zeroed = by (loaded files name limit) refl zero
   by Absent is zeroed = absurd cc
   by TooLong is zeroed = absurd cc
 
+pub load_bytes : (name : List ℕ) (limit : ℕ) (next : List ℕ → Plan) (files : NamedFiles) (content : List ℕ) → loaded files name limit ≡ Bytes content
+    → LoadsBytes (needs name limit next) files → All (λ byte. byte < 256) content × LoadsBytes (next content) files
+load_bytes name limit next files content held bytes = subst (λ (l : Loaded). bytes_then l (λ c. LoadsBytes (next c) files)) held bytes
+
 pub within_limit : (limit : ℕ) (held : Option (List ℕ)) (content : List ℕ) → loaded_of limit held ≡ Bytes content → (held ≡ Some content) × (length content ≤ limit)
 within_limit limit None content is = absurd cc
 within_limit limit (Some c) content is = by (nat_le (length c) limit) refl is where
@@ -83,6 +87,7 @@ module _ (test : List ℕ → Bool) (judge : List ℕ → (Unit {0} → Plan) �
   pub record Passed (count : ℕ) : Type 0 where
     pub apart : (k : ℕ) → k < count → test (piece_name prefix k) ≡ false
     pub found : (later : NamedFiles) (next : Unit {0} → Plan) → outcome (each_name judge prefix count next) later ≡ outcome (next tt) later
+    pub loads : (files : NamedFiles) (next : Unit {0} → Plan) → LoadsBytes (each_name judge prefix count next) files → LoadsBytes (next tt) files
 
   clear : (name : List ℕ) (next : Unit {0} → Plan) (files : NamedFiles) → IsYes (judge name next) files → test name ≡ false
   clear name next files zeroed = by (test name) refl (yes_as (judge name next) (cond (test name) usage (next tt)) files (ap (λ p. outcome p files) (is name next)) zeroed) where
@@ -92,7 +97,7 @@ module _ (test : List ℕ → Bool) (judge : List ℕ → (Unit {0} → Plan) �
 
   pub all_pass : (count : ℕ) (next : Unit {0} → Plan) (files : NamedFiles) → IsYes (each_name judge prefix count next) files → Passed count
   unfolding each_name
-  all_pass zero next files zeroed = record { apart = λ k less. absurd (omega (arith, less)); found = λ later n. refl }
+  all_pass zero next files zeroed = record { apart = λ k less. absurd (omega (arith, less)); found = λ later n. refl; loads = λ held n b. b }
   all_pass (suc count) next files zeroed =
       let name : List ℕ = piece_name prefix count in
       let before = all_pass count (λ _. judge name next) files zeroed in
@@ -103,6 +108,7 @@ module _ (test : List ℕ → Bool) (judge : List ℕ → (Unit {0} → Plan) �
           | no not ↦ let same : count ≡ k = omega (arith, less, not) in subst (λ n. test (piece_name prefix n) ≡ false) same here
         ];
         found = λ later n. before.found later (λ _. judge name n) ∙ ap (λ p. outcome p later) (is name n ∙ ap (λ b. cond b usage (n tt)) here);
+        loads = λ held n b. subst (λ p. LoadsBytes p held) (is name n ∙ ap (λ b. cond b usage (n tt)) here) (before.loads held (λ _. judge name n) b);
       }
 
 other_is : (recipe name : List ℕ) (next : Unit {0} → Plan) → needs_other recipe name next ≡ cond (is_one_file recipe name) usage (next tt)
@@ -115,7 +121,7 @@ apart_is said name next = refl
 
 -- ---- over files in which names of states alone may be changed
 
-module _ (prefix : List ℕ) (files : NamedFiles) (bytes : (name content : List ℕ) → finite.get files name ≡ Some content → All (λ byte. byte < 256) content) where
+module _ (prefix : List ℕ) (files : NamedFiles) where
   abbrev pub AreAlike : NamedFiles → Type 0
   AreAlike later = (name : List ℕ) → ((k : ℕ) → k < 1_000 → name ≢ piece_name prefix k) → finite.get later name ≡ finite.get files name
 
@@ -127,6 +133,7 @@ module _ (prefix : List ℕ) (files : NamedFiles) (bytes : (name content : List 
     contents : List (List ℕ)
     held : map (λ path. finite.get files path) names ≡ map Some contents
     found : (later : NamedFiles) → AreAlike later → (next : List (List ℕ) → Plan) → outcome (needs_all 268_435_456 room names next) later ≡ outcome (next contents) later
+    loads : (next : List (List ℕ) → Plan) → LoadsBytes (needs_all 268_435_456 room names next) files → LoadsBytes (next contents) files
     many : length contents ≡ length names
     each : All IsContent contents
 
@@ -136,15 +143,20 @@ module _ (prefix : List ℕ) (files : NamedFiles) (bytes : (name content : List 
 
   all_given : {A : Type 0} (path : A → List ℕ) (values : List A) (room : ℕ) (next : List (List ℕ) → Plan)
       → ((k : ℕ) → k < 1_000 → list_any (λ value. is_one_file (path value) (piece_name prefix k)) values ≡ false)
-      → IsYes (needs_all 268_435_456 room (map path values) next) files → Given room (map path values)
-  all_given path [] room next apart zeroed = record { contents = []; held = refl; found = λ later alike n. refl; many = refl; each = All-nil IsContent }
-  all_given path (value ∷ values) room next apart zeroed =
+      → IsYes (needs_all 268_435_456 room (map path values) next) files → LoadsBytes (needs_all 268_435_456 room (map path values) next) files
+      → Given room (map path values)
+  all_given path [] room next apart zeroed bytes =
+      record { contents = []; held = refl; found = λ later alike n. refl; loads = λ n b. b; many = refl; each = All-nil IsContent }
+  all_given path (value ∷ values) room next apart zeroed bytes =
       let limit : ℕ = min 268_435_456 room in
       let following : List ℕ → (List (List ℕ) → Plan) → Plan = λ c n. needs_all 268_435_456 (room - length c) (map path values) (λ contents. n (c ∷ contents)) in
       let l = load_found (path value) limit (λ c. following c next) files zeroed in
       let parts = λ (k : ℕ) (few : k < 1_000). first_apart (is_one_file (path value) (piece_name prefix k)) (list_any (λ v. is_one_file (path v) (piece_name prefix k)) values) (apart k few) in
+      let content_loads = λ (n : List (List ℕ) → Plan) (b : LoadsBytes (needs (path value) limit (λ c. following c n)) files).
+      load_bytes (path value) limit (λ c. following c n) files l.0 l.1 b in
+      let first = content_loads next bytes in
       let rest = all_given path values (room - length l.0) (λ contents. next (l.0 ∷ contents)) (λ k few. (parts k few).1)
-      (yes_as (needs (path value) limit (λ c. following c next)) (following l.0 next) files (follows_load (path value) limit (λ c. following c next) files l.0 l.1) zeroed) in
+      (yes_as (needs (path value) limit (λ c. following c next)) (following l.0 next) files (follows_load (path value) limit (λ c. following c next) files l.0 l.1) zeroed) first.1 in
       let held = within_limit limit (finite.get files (path value)) l.0 l.1 in
       record {
         contents = l.0 ∷ rest.contents;
@@ -152,11 +164,12 @@ module _ (prefix : List ℕ) (files : NamedFiles) (bytes : (name content : List 
         found = λ later alike n.
             follows_load (path value) limit (λ c. following c n) later l.0 (loaded_again later alike (path value) limit (λ k few. (parts k few).0) ∙ l.1)
             ∙ rest.found later alike (λ contents. n (l.0 ∷ contents));
+        loads = λ n b. rest.loads (λ contents. n (l.0 ∷ contents)) (content_loads n b).1;
         many = omega (arith, rest.many);
-        each = All-cons IsContent l.0 rest.contents (record { bytes = bytes (path value) l.0 held.0; small = le_trans held.1 (min-le_left 268_435_456 room) }) rest.each;
+        each = All-cons IsContent l.0 rest.contents (record { bytes = first.0; small = le_trans held.1 (min-le_left 268_435_456 room) }) rest.each;
       }
 
-  -- a front of a plan finds what a command begins with, here and over every such files
+  -- a front of a plan finds what a command begins with, here and over every such files; where the whole loads bytes, so does its rest
   pub record Finds (recipe stage : List ℕ) (front : (Ready → Plan) → Plan) : Type 0 where
     pub ready : Ready
     pub begins : IsBegun recipe stage files ready
@@ -164,14 +177,25 @@ module _ (prefix : List ℕ) (files : NamedFiles) (bytes : (name content : List 
     pub given : IsInputs ready.recipe ready.inputs
     pub done : AreDone ready.recipe ready.done
     pub found : (later : NamedFiles) → AreAlike later → (next : Ready → Plan) → outcome (front next) later ≡ outcome (next ready) later
+    pub loads : (next : Ready → Plan) → LoadsBytes (front next) files → LoadsBytes (next ready) files
 
   module _ (recipe stage : List ℕ) (next : Ready → Plan) where
     -- a part more before it
     with_part : (front rest : (Ready → Plan) → Plan) → ((later : NamedFiles) → AreAlike later → (n : Ready → Plan) → outcome (front n) later ≡ outcome (rest n) later)
-        → (IsYes (rest next) files → Finds recipe stage rest) → IsYes (front next) files → Finds recipe stage front
-    with_part front rest same finds zeroed =
-        let r = finds (yes_as (front next) (rest next) files (same files (λ name apart. refl) next) zeroed) in
-        record { ready = r.ready; begins = r.begins; is = r.is; given = r.given; done = r.done; found = λ later alike n. same later alike n ∙ r.found later alike n }
+        → ((n : Ready → Plan) → LoadsBytes (front n) files → LoadsBytes (rest n) files)
+        → (IsYes (rest next) files → LoadsBytes (rest next) files → Finds recipe stage rest)
+        → IsYes (front next) files → LoadsBytes (front next) files → Finds recipe stage front
+    with_part front rest same loads finds zeroed bytes =
+        let r = finds (yes_as (front next) (rest next) files (same files (λ name apart. refl) next) zeroed) (loads next bytes) in
+        record {
+          ready = r.ready;
+          begins = r.begins;
+          is = r.is;
+          given = r.given;
+          done = r.done;
+          found = λ later alike n. same later alike n ∙ r.found later alike n;
+          loads = λ n b. r.loads n (loads n b);
+        }
 
     -- what follows each part
     abbrev with_done : RecipeContents → List (List ℕ) → (Ready → Plan) → List Finished → Plan
@@ -222,46 +246,54 @@ module _ (prefix : List ℕ) (files : NamedFiles) (bytes : (name content : List 
               given = given;
               done = earlier_done said inputs is given count done ran;
               found = λ later alike n. refl;
+              loads = λ n b. b;
             }
             by (Err not_done) ran zeroed = absurd (never_unfinished said not_done.stage not_done.fault zeroed)
 
           from_names : ((k : ℕ) → k < 1_000 → is_input said (piece_name prefix k) ≡ false) → IsYes (with_names said count next) files
-              → Finds recipe stage (with_names said count)
-          from_names apart zeroed =
-              let inputs = all_given (λ (input : Input). input.path) said.inputs 1_073_741_824 (λ inputs. with_inputs said count inputs next) apart zeroed in
+              → LoadsBytes (with_names said count next) files → Finds recipe stage (with_names said count)
+          from_names apart zeroed bytes =
+              let inputs = all_given (λ (input : Input). input.path) said.inputs 1_073_741_824 (λ inputs. with_inputs said count inputs next) apart zeroed bytes in
               let given : IsInputs said inputs.contents = record { count = inputs.many ∙ length-map said.inputs (λ (input : Input). input.path); each = inputs.each } in
               with_part (with_names said count) (with_inputs said count inputs.contents) (λ later alike n. inputs.found later alike (λ inputs. with_inputs said count inputs n))
-              (from_inputs inputs.contents inputs.held given) zeroed
+              (λ n b. inputs.loads (λ inputs. with_inputs said count inputs n) b) (λ yes b. from_inputs inputs.contents inputs.held given yes) zeroed bytes
 
-          from_count : IsYes (with_count said count next) files → Finds recipe stage (with_count said count)
-          from_count zeroed =
+          from_count : IsYes (with_count said count next) files → LoadsBytes (with_count said count next) files
+              → Finds recipe stage (with_count said count)
+          from_count zeroed bytes =
               let apart = all_pass (is_input said) (needs_apart said) (apart_is said) prefix 1_000 (λ _. with_names said count next) files zeroed in
-              with_part (with_count said count) (with_names said count) (λ later alike n. apart.found later (λ _. with_names said count n)) (from_names apart.apart) zeroed
+              with_part (with_count said count) (with_names said count) (λ later alike n. apart.found later (λ _. with_names said count n))
+              (λ n b. apart.loads files (λ _. with_names said count n) b) (from_names apart.apart) zeroed bytes
 
-        from_said : IsYes (with_said said next) files → Finds recipe stage (with_said said)
-        from_said zeroed = by (stage_at said.stages stage) refl zeroed where
+        from_said : IsYes (with_said said next) files → LoadsBytes (with_said said next) files → Finds recipe stage (with_said said)
+        from_said zeroed bytes = by (stage_at said.stages stage) refl zeroed bytes where
           by : (place : Option ℕ) → stage_at said.stages stage ≡ place → IsYes (or_usage place (λ count. with_count said count next)) files
+              → LoadsBytes (or_usage place (λ count. with_count said count next)) files
               → Finds recipe stage (λ n. or_usage place (λ count. with_count said count n))
-          by (Some count) place zeroed = from_count count place zeroed
-          by None place zeroed = absurd cc
+          by (Some count) place zeroed bytes = from_count count place zeroed bytes
+          by None place zeroed bytes = absurd cc
 
-      from_text : IsYes (with_text text next) files → Finds recipe stage (with_text text)
-      from_text zeroed = by (recipe_of text) refl zeroed where
+      from_text : IsYes (with_text text next) files → LoadsBytes (with_text text next) files → Finds recipe stage (with_text text)
+      from_text zeroed bytes = by (recipe_of text) refl zeroed bytes where
         by : (reading : Result RecipeContents RecipeRefusal) → recipe_of text ≡ reading
             → IsYes (unless_refused reading (λ refusal. answers RecipeRefused (recipe_line refusal)) (λ said. with_said said next)) files
+            → LoadsBytes (unless_refused reading (λ refusal. answers RecipeRefused (recipe_line refusal)) (λ said. with_said said next)) files
             → Finds recipe stage (λ n. unless_refused reading (λ refusal. answers RecipeRefused (recipe_line refusal)) (λ said. with_said said n))
-        by (Ok said) reads zeroed = from_said said reads zeroed
-        by (Err refusal) reads zeroed = absurd cc
+        by (Ok said) reads zeroed bytes = from_said said reads zeroed bytes
+        by (Err refusal) reads zeroed bytes = absurd cc
 
-    from_recipe : ((k : ℕ) → k < 1_000 → is_one_file recipe (piece_name prefix k) ≡ false) → IsYes (with_recipe next) files → Finds recipe stage with_recipe
-    from_recipe apart zeroed =
+    from_recipe : ((k : ℕ) → k < 1_000 → is_one_file recipe (piece_name prefix k) ≡ false) → IsYes (with_recipe next) files → LoadsBytes (with_recipe next) files
+        → Finds recipe stage with_recipe
+    from_recipe apart zeroed bytes =
         let text = load_found recipe 1_048_576 (λ t. with_text t next) files zeroed in
         with_part with_recipe (with_text text.0)
         (λ later alike n. follows_load recipe 1_048_576 (λ t. with_text t n) later text.0 (loaded_again later alike recipe 1_048_576 apart ∙ text.1))
-        (from_text text.0 text.1) zeroed
+        (λ n b. (load_bytes recipe 1_048_576 (λ t. with_text t n) files text.0 text.1 b).1) (from_text text.0 text.1) zeroed bytes
 
-    pub found_again : IsYes (needs_ready recipe stage prefix next) files → Finds recipe stage (needs_ready recipe stage prefix)
+    pub found_again : IsYes (needs_ready recipe stage prefix next) files → LoadsBytes (needs_ready recipe stage prefix next) files
+        → Finds recipe stage (needs_ready recipe stage prefix)
     unfolding needs_ready
-    found_again zeroed =
+    found_again zeroed bytes =
         let names = all_pass (is_one_file recipe) (needs_other recipe) (other_is recipe) prefix 1_000 (λ _. with_recipe next) files zeroed in
-        with_part (needs_ready recipe stage prefix) with_recipe (λ later alike n. names.found later (λ _. with_recipe n)) (from_recipe names.apart) zeroed
+        with_part (needs_ready recipe stage prefix) with_recipe (λ later alike n. names.found later (λ _. with_recipe n))
+        (λ n b. names.loads files (λ _. with_recipe n) b) (from_recipe names.apart) zeroed bytes

@@ -1,19 +1,19 @@
 //! Laws about the definitions. Each is the contract of a function that does nothing.
 
-ghost use Rattle.std.specs.FinMap as map;
-ghost use Rattle.std.specs.Prelude.{◌≡◌, ◌*◌, ◌<◌, ◌≤◌, ◌^◌, ◌↔◌, ℕ, All, IsTrue, List, [], ◌∷◌, None, Ok, Option, Result, Some};
+ghost use Rattle.std.specs.Prelude.{◌≡◌, ◌*◌, ◌<◌, ◌≤◌, ◌^◌, ◌↔◌, ℕ, ◌+◌, IsTrue, List, [], ◌∷◌, None, Ok, Option, Result, Some, decimal};
 ghost use Rattle.ddc_base.specs.ByteLists.{AreBytes};
 ghost use Rattle.ddc_base.specs.Outside.{NamedFiles};
 ghost use Rattle.command_plan.specs.Words.{are_two_files, as_steps};
 ghost use Rattle.command_plan.specs.declared.status.Status.TheVariants.{TooManySegments, Yes};
 ghost use Rattle.command_plan.specs.Plan.{LoadsBytes, Plan, outcome};
 ghost use Rattle.stage_commands.specs.Checked.{AreChecked, EndShows, HoldPiece, IsRunReported, piece_reported_yes};
+ghost use Rattle.stage_commands.specs.Cut.{cut_plan};
 ghost use Rattle.stage_commands.specs.CutEnds.{SaysSame, cut_end_from};
 ghost use Rattle.stage_commands.specs.Cutting.{CutStart, IsRightCut, cut_over, ends_over, segment_over};
-ghost use Rattle.stage_commands.specs.Ends.{needs_first};
+ghost use Rattle.stage_commands.specs.Ends.{ends_plan, needs_first};
 ghost use Rattle.stage_commands.specs.Left.{are_left_words};
 ghost use Rattle.stage_commands.specs.LeftMade.{LeftRun, artefact_saved, left_over, output_word};
-ghost use Rattle.stage_commands.specs.Names.{are_stage_words};
+ghost use Rattle.stage_commands.specs.Names.{are_stage_words, piece_name};
 ghost use Rattle.stage_commands.specs.Segment.{segment_plan};
 ghost use Rattle.guest_run.specs.Run.{End, after, first_end};
 ghost use Rattle.guest_run.specs.Setting.{Setting};
@@ -68,12 +68,14 @@ pub fn segments_are_reported()
         → segment_over from to files ≡ piece_reported_yes steps files }
 {}
 
-/// Pieces that are checked are the stage's run: where, over files of bytes, `ends RECIPE STAGE PREFIX COUNT` comes to 0, and `segment PREFIX.K
-/// PREFIX.(K + 1)` for each K + 1 below COUNT, whoever made these files, the run of the stage from its start exits with 0, and `ends` prints what
-/// it did, as the bench's report does.
+/// Checked segments are the stage's run. Where `ends RECIPE STAGE PREFIX COUNT` returns 0, and so does `segment PREFIX.K PREFIX.(K + 1)`
+/// for each K + 1 below COUNT, and what these commands load is bytes, the stage's run from its start exits with 0. `ends`
+/// then prints what the run did, as the report of the audit's definition (`bench`) does. Who made the files does not matter.
 pub fn checked_pieces_are_the_run()
     ensures { (recipe stage prefix : List ℕ) (count : ℕ) (files : NamedFiles)
-        → ((name content : List ℕ) → map.get files name ≡ Some content → All (λ byte. byte < 256) content)
+        → LoadsBytes (ends_plan (recipe ∷ stage ∷ prefix ∷ decimal count ∷ [])) files
+        → ((number : ℕ) → number + 1 < count
+        → LoadsBytes (segment_plan (piece_name prefix number ∷ piece_name prefix (number + 1) ∷ [])) files)
         → AreChecked recipe stage prefix count files → IsRunReported recipe stage prefix files (ends_over recipe stage prefix count files) }
 {}
 
@@ -84,12 +86,12 @@ pub fn neighbours_are_pieces()
         → after first steps ≡ Some last → piece_of (second_text first) (second_text last) ≡ Ok steps }
 {}
 
-/// A cut is right by its own commands: where `cut RECIPE STAGE EVERY PREFIX` over files of bytes comes to 0, it leaves the states of the stage's
-/// run after 0, EVERY, 2 * EVERY and so on steps, and changes no other name; over the files afterwards `segment` comes to 0 of every two
-/// neighbours, and `ends` with the number of states that was printed comes to 0 and says what the run did, as the bench's report does.
+/// A cut is right by its own commands. Where what `cut RECIPE STAGE EVERY PREFIX` loads is bytes, and it returns 0, it leaves the states of
+/// the stage's run after 0, EVERY, 2 * EVERY and so on steps, and changes no other name. Over the files afterwards `segment` returns 0 for
+/// every two neighbours. `ends` with the printed number of states returns 0 and prints what the run did, as the report of the audit's
+/// definition (`bench`) does.
 pub fn cuts()
-    ensures { (recipe stage every prefix : List ℕ) (files : NamedFiles)
-        → ((name content : List ℕ) → map.get files name ≡ Some content → All (λ byte. byte < 256) content)
+    ensures { (recipe stage every prefix : List ℕ) (files : NamedFiles) → LoadsBytes (cut_plan (recipe ∷ stage ∷ every ∷ prefix ∷ [])) files
         → (cut_over recipe stage every prefix files).status ≡ Yes → IsRightCut recipe stage every prefix files (cut_over recipe stage every prefix files) }
 {}
 

@@ -10,5 +10,6 @@ mod ScriptEnds
 mod ScriptPlaces
 mod PlaceSteps
 mod TokenPlacing
+mod Spots
 mod Worded
 pub mod Written

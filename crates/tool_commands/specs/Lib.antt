@@ -12,4 +12,5 @@ pub mod KaemLeft
 pub mod Places
 pub mod ShownWords
 pub mod TokenPlaces
+pub mod Spots
 pub mod Where

@@ -61,7 +61,7 @@ fn number_of(word: &str) -> Option<u64>
     }
 }
 
-/// Performs the command on the words after its name.
+/// `where LANG SOURCE NUMBER PLACE`: prints the line, column and word at which a refusal of `asm` stands. Statuses 0, 1, 2, 10, 11, 13.
 pub fn perform<S: Shelf>(alloc: Global, shelf: &mut S, words: &[&str]) -> Result<Answer, Stop>
     ensures { Performs (where_plan (map (λ w. w.now) words.now)) (S.state shelf.old) (S.state shelf.new) result }
 {
@@ -79,7 +79,7 @@ fn locate<S: Shelf>(alloc: Global, shelf: &mut S, words: &WhereWords<'_>) -> Res
     say(alloc, words, text.as_slice())
 }
 
-/// Says where the refusal stands in a text.
+/// The line, the column and the word of a refusal in a text.
 fn say(alloc: Global, words: &WhereWords<'_>, text: &[u8]) -> Result<Answer, Stop>
     requires { length text.now ≤ 2 ^ 32 }
     ensures { Says (located text.now (refusal_place words.now.language text.now words.now.number words.now.place)) result }
@@ -180,7 +180,7 @@ fn line_of(alloc: Global, text: &[u8], at: usize) -> Result<Bytes, OutOfMemory>
     Ok(made)
 }
 
-/// The answer where there is none.
+/// The answer where a refusal has no place in the text.
 #[tactic(auto, unfolding(crate::specs::Where::no_place_line))]
 fn no_place(alloc: Global) -> Result<Answer, Stop>
     ensures { Says (answers Refuted no_place_line) result }

@@ -15,4 +15,5 @@ pub mod RouteBack
 pub mod ListedLines
 pub mod Largest
 pub mod LinesOfPrograms
+pub mod SettledLines
 pub mod Programs

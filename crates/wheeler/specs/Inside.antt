@@ -4,4 +4,5 @@ pub mod AssemblyLaws
 pub mod Trusting
 pub mod LargestLaws
 pub mod MacroLaws
+pub mod MacroOrLaws
 pub mod OtherLaws

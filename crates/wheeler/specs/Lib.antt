@@ -14,3 +14,5 @@ pub mod Largest
 pub mod ProgramsImplement
 pub mod MacroAssembly
 pub mod WithMachineCode
+pub mod WithMacroCode
+pub mod Settled

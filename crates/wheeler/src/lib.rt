@@ -25,5 +25,5 @@ pub use listing::{assumptions, assumptions_for, assumptions_with_compared};
 pub use macro_assembly::MacroAssembly;
 pub use meaning::Meaning;
 pub use of_meaning::OfMeaning;
-pub use other_languages::{OtherLanguages, WithMachineCode};
+pub use other_languages::{OtherLanguages, WithMachineCode, WithMacroCode};
 pub use semantics::Semantics;

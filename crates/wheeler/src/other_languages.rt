@@ -3,6 +3,8 @@ ghost use Rattle.mem_files.specs.Outputs.{OutputPlace};
 ghost use Rattle.guest_run.specs.Setting.{Setting};
 ghost use Rattle.audit_rules.specs.Contents.{SourceText};
 ghost use Rattle.wheeler.specs.WithMachineCode.{MachineCodeOr};
+ghost use Rattle.wheeler.specs.WithMacroCode.{MacroCodeOr};
+ghost use Rattle.wheeler.specs.Inside.MacroOrLaws.{fixed-macro-or, literal-macro-or};
 ghost use Rattle.wheeler.specs.Inside.OtherLaws.{fixed-or, literal-or};
 ghost use Rattle.guest_run.proofs.Programs.{one-run};
 
@@ -32,4 +34,18 @@ impl<L: OtherLanguages> Semantics for WithMachineCode<L> {
     ghost fixed = { fixed-or L.prescribes L.fixed one-run };
 
     ghost literal = { literal-or L.prescribes };
+}
+
+/// A semantics of other languages beside machine code and M1. A source with a program in hex0, hex1, hex2 or M1 prescribes what runs of that
+/// program leave; any other source prescribes what `L` says.
+pub struct WithMacroCode<L> {
+    others: PhantomData<L>,
+}
+
+impl<L: OtherLanguages> Semantics for WithMacroCode<L> {
+    ghost prescribes = { MacroCodeOr L.prescribes };
+
+    ghost fixed = { fixed-macro-or L.prescribes L.fixed one-run };
+
+    ghost literal = { literal-macro-or L.prescribes };
 }

@@ -16,7 +16,8 @@ ghost use Rattle.audit_rules.specs.Contents.{SourceText};
 ghost use Rattle.audit_rules.specs.Valid.{IsInputs};
 ghost use Rattle.audit_rules.specs.declared.answer.AuditAnswer.TheVariants.{Completes};
 ghost use Rattle.wheeler.specs.Assembly.{ValueLeaves};
-ghost use Rattle.wheeler.specs.Assumptions.{LinesHold, is_trusted};
+ghost use Rattle.wheeler.specs.AllContents.{all_contents};
+ghost use Rattle.wheeler.specs.Assumptions.{Holds, LinesHold, is_trusted};
 ghost use Rattle.wheeler.specs.Checked.{HasItemsOf};
 ghost use Rattle.wheeler.specs.Concludes.{Concludes};
 ghost use Rattle.wheeler.specs.Largest.{AllImplement, CompilesNoMore, PrescribesSame};
@@ -25,14 +26,17 @@ ghost use Rattle.wheeler.specs.MacroAssembly.{AreOwnPrograms, MacroLeaves, as_he
 ghost use Rattle.wheeler.specs.Meaning.{Implements};
 ghost use Rattle.wheeler.specs.ProgramsImplement.{ProgramsImplement, RouteImplements};
 ghost use Rattle.wheeler.specs.Routes.{RouteHolds, is_on, route_named};
+ghost use Rattle.wheeler.specs.Settled.{IsSettledLine, KnowsMacroCode};
 ghost use Rattle.wheeler.specs.Values.{binary_of};
 ghost use Rattle.wheeler.specs.WithMachineCode.{MachineCodeOr};
+ghost use Rattle.wheeler.specs.WithMacroCode.{MacroCodeOr};
+ghost use Rattle.wheeler.specs.declared.assumption.Assumption.{Assumption};
 
 use crate::deterministic::Deterministic;
 use crate::macro_assembly::MacroAssembly;
 use crate::meaning::Meaning;
 use crate::of_meaning::OfMeaning;
-use crate::other_languages::{OtherLanguages, WithMachineCode};
+use crate::other_languages::{OtherLanguages, WithMachineCode, WithMacroCode};
 use crate::semantics::Semantics;
 
 /// Every meaning compiles at most as much as the largest relation that the law `carry` allows for what it prescribes.
@@ -76,6 +80,14 @@ pub fn the_bench_concludes_in_any_language<L: OtherLanguages>()
         → bench recipe inputs ≡ Completes report → Concludes (MachineCodeOr L.prescribes) (AllImplement (MachineCodeOr L.prescribes)) recipe inputs report.compare }
 {
     the_bench_concludes::<WithMachineCode<L>>();
+}
+
+/// Wheeler's argument for any deterministic semantics of other languages beside machine code and M1.
+pub fn the_bench_concludes_in_m1_and_any_language<L: OtherLanguages>()
+    ensures { (recipe : RecipeContents) (inputs : List (List ℕ)) (report : Report) → IsRecipe recipe → IsInputs recipe inputs
+        → bench recipe inputs ≡ Completes report → Concludes (MacroCodeOr L.prescribes) (AllImplement (MacroCodeOr L.prescribes)) recipe inputs report.compare }
+{
+    the_bench_concludes::<WithMacroCode<L>>();
 }
 
 /// Wheeler's argument with M1: the meaning of a source in M1 is the program that it links to.
@@ -154,4 +166,29 @@ pub fn macro_assembly_keeps_assembly()
 pub fn items_link_to_the_program()
     ensures { (source : SourceText) (text : List ℕ) → source.lang ≡ Defined M1 → HasItemsOf source text
         → binary_of (as_hex2 source.base text) ≡ program_of_text source }
+{}
+
+/// A semantics of other languages beside machine code and M1 prescribes what `MacroAssembly` prescribes for every source with a program in hex0,
+/// hex1, hex2 or M1, and what was given for every other source.
+pub fn macro_code_and_others_as_given<L: OtherLanguages>()
+    ensures macro_code { (source : SourceText) (program : List ℕ) → program_of_text source ≡ Some program
+        → (box : Setting) (output : OutputPlace) (content : List ℕ)
+        → (MacroCodeOr L.prescribes source box output content → MacroLeaves source box output content)
+        × (MacroLeaves source box output content → MacroCodeOr L.prescribes source box output content) }
+    ensures others { (source : SourceText) → program_of_text source ≡ None → (box : Setting) (output : OutputPlace) (content : List ℕ)
+        → (MacroCodeOr L.prescribes source box output content → L.prescribes source box output content)
+        × (L.prescribes source box output content → MacroCodeOr L.prescribes source box output content) }
+{}
+
+/// An assumption that a comparison of bytes settles holds under each semantics in which the programs of sources in M1 implement them.
+pub fn settled_lines_hold<S: Semantics>()
+    ensures { KnowsMacroCode S.prescribes → (recipe : RecipeContents) (inputs : List (List ℕ)) (report : Report) → IsRecipe recipe → IsInputs recipe inputs
+        → bench recipe inputs ≡ Completes report → (line : Assumption) → IsSettledLine recipe (all_contents recipe inputs) line
+        → Holds S.prescribes (AllImplement S.prescribes) recipe (all_contents recipe inputs) line }
+{}
+
+/// The programs of sources in M1 implement them under `MacroAssembly`, and under `WithMacroCode` of any semantics of other languages.
+pub fn programs_of_m1_implement<L: OtherLanguages>()
+    ensures alone { KnowsMacroCode MacroLeaves }
+    ensures others { KnowsMacroCode (MacroCodeOr L.prescribes) }
 {}

@@ -6,7 +6,7 @@ use hex_langs::link::{HexLanguage, laws, link, value};
 use std::alloc::Global;
 use std::process::Abort;
 
-/// What a row's source comes to: its bytes at base 0, or its refusal.
+/// What a row's source has to result in: its bytes at base 0, or its refusal.
 type Answer = Result<&'static [u8], HexRefusal>;
 
 static HEX2: [(&str, Answer); 32] = [
@@ -80,7 +80,7 @@ static HEX1: [(&str, Answer); 11] = [
     ("$a 6f000000 :a", Ok(b"\x6f\x00\x40\x00")),
 ];
 
-/// Whether a source comes to this.
+/// Whether a source results in this value or this refusal.
 fn has_answer(
     alloc: Global,
     language: HexLanguage,

@@ -425,8 +425,11 @@ pub static AMOS: [(u32, u64, u64, u64, u64); 414] = cases! {
     0xe005b52f 0x8899aabbccddeeff 0x1122334455667788 0x8899aabbccddeeff 0x8899aabbccddeeff;
 };
 
-/// A load-reserved and a store-conditional; how far after the first's address the second's is, the 8 bytes there (the 8 after them are
-/// their complement), the value of x12; what the first puts into x13, the second into x10 and, once more, into x14; the 16 bytes.
+/// A load-reserved and a store-conditional, with these fields in order:
+///
+/// - the two words; how many bytes the second address lies after the first;
+/// - the 8 bytes at the first address, after which their complement lies; the value of x12;
+/// - what the load puts into x13, and the store into x10 and, executed once more, into x14; the 16 bytes that are left.
 pub static PAIRS: [(u32, u32, u64, u64, u64, u64, u64, u64, u64, u64); 48] = cases! {
     0x1005a6af 0x18c5a52f 0 0x80000000 0xffffffffffffffff 0xffffffff80000000 0 1 0xffffffff 0xffffffff7fffffff;
     0x1005a6af 0x18c5a52f 0 0x8000000000000000 0x123456789abcdef0 0x0 0 1 0x800000009abcdef0 0x7fffffffffffffff;

@@ -138,7 +138,7 @@ static BYTES: &[(usize, u8, (u8, u64))] = &[
     (24, 1, (1, 24)),
     // The file of the descriptor 3 is not there; with the pc the range is said first.
     (129, 7, (3, 0)),
-    // The last stream is told to stand there, and does not.
+    // The last stream's field says that a content follows, and none does.
     (143, 1, (1, 144)),
     (143, 2, (1, 143)),
 ];

@@ -18,8 +18,8 @@ pub enum Piece {
     Digest(u8),
 }
 
-/// A field by its place among the pieces, what is put there, and which field is then the first wrong one: none where the text is right, and
-/// the count of the pieces where a field after the last one is.
+/// A field's number, what replaces the field, and the number of the field that is then the first wrong one. It is `None` if the text is
+/// right, and the count of the fields if the text has bytes after its last field.
 pub type Change = (usize, Piece, Option<usize>);
 
 fn put(out: &mut Vec<u8>, piece: Piece) -> Result<(), AllocError> {
@@ -133,7 +133,7 @@ pub fn cut(pieces: &[Piece], byte: usize) -> u64 {
 
 /// A kind of texts.
 pub trait Form {
-    /// Where the first wrong field begins; none where the text is right. Want of memory has a place that no field has.
+    /// The offset at which the first wrong field begins; `None` if the text is right. Out of memory has an offset that no field has.
     fn wrong(alloc: Global, text: &[u8]) -> Option<u64>;
 }
 

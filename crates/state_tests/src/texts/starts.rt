@@ -66,7 +66,7 @@ pub(crate) static STEPPED: &[Piece] = &[
     N4(0),
 ];
 
-/// exit.elf, as it stands in its page.
+/// The bytes of exit.elf in its page.
 pub(crate) fn program() -> &'static [u8] {
     match STEPPED.get(17) {
         Some(Text(bytes)) => bytes,
@@ -123,7 +123,7 @@ fn ends_at_the_third(guest: &mut Guest<RunRam>) -> bool {
     guest.steps() == 1 && guest.run(2) == RunEnd::Exited(0) && guest.steps() == 2
 }
 
-/// Whether a text says a guest that has the other text, and goes on.
+/// Whether a text says a guest that has the other text, and this guest continues.
 fn goes_on(alloc: Global, text: &[u8], wanted: &[u8]) -> bool {
     match guest_of(alloc, text) {
         Some(mut guest) => has_text(alloc, &guest, wanted) && ends_at_the_third(&mut guest),

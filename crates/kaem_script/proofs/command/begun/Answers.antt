@@ -16,12 +16,12 @@ returns-in_ok-guest-in-Ok-clause-begins c most =
 pub returns-in_ok-guest-in-Ok-clause-program : goal.returns-in_ok-guest-in-Ok-clause-program
 returns-in_ok-guest-in-Ok-clause-program c =
     let there : content_at c.args.files.now (program_name c.args.words.now) ≡ Some c.in-Some.program.now = rw c.program_name.ensures at (sym c.in-Some.ensures) in
-    has-program c.args.files.now c.args.words.now c.in-Some.program.now _ there c.in-Ok.ensures.value
+    has-program c.args.files.now c.args.words.now c.in-Some.program.now _ c.show_sound.ensures c.requires there c.in-Ok.ensures.value
 
 pub returns-in_err-guest-in-Ok-clause-program : goal.returns-in_err-guest-in-Ok-clause-program
 returns-in_err-guest-in-Ok-clause-program c =
     let there : content_at c.args.files.now (program_name c.args.words.now) ≡ Some c.in-Some.program.now = rw c.program_name.ensures at (sym c.in-Some.ensures) in
-    unless-stopped c.from_residual.result (has-program c.args.files.now c.args.words.now c.in-Some.program.now _ there c.in-Ok.ensures.value)
+    unless-stopped c.from_residual.result (has-program c.args.files.now c.args.words.now c.in-Some.program.now _ c.show_sound.ensures c.requires there c.in-Ok.ensures.value)
 
 pub returns-in-Err-clause-begins : goal.returns-in-Err-clause-begins
 returns-in-Err-clause-begins c most =
