@@ -8,6 +8,8 @@ import sys
 import time
 from collections.abc import Callable
 from pathlib import Path
+from types import FrameType
+from typing import Self
 
 from ddc_tools.program import Answer, program
 from ddc_tools.progress import Pace, Progress, of_stage
@@ -16,6 +18,7 @@ from ddc_tools.recipes import Recipe
 PAUSED = 8
 LINE = re.compile(r"paused (\w+) (\d+)\n")
 Paused = Callable[[str, int], None]
+Handler = Callable[[int, FrameType | None], object]
 
 
 class Audit:
@@ -34,9 +37,11 @@ class Audit:
         """One call. An interrupt ends it, and the save from before it stays."""
         command = "resume" if self.save.exists() else "part"
         words = [program(), command, self.recipe, self.save, self.report, str(steps)]
-        with subprocess.Popen(words, stdin=subprocess.DEVNULL, stdout=subprocess.PIPE,
-                              stderr=subprocess.PIPE, start_new_session=True) as running:
+        with Held() as interrupts, \
+                subprocess.Popen(words, stdin=subprocess.DEVNULL, stdout=subprocess.PIPE,
+                                 stderr=subprocess.PIPE, start_new_session=True) as running:
             try:
+                interrupts.release()
                 output, errors = running.communicate()
             except BaseException:
                 # A program that has ended by itself, and was waited for, has no group any more.
@@ -66,6 +71,37 @@ class Audit:
             stage, taken = found.group(1), int(found.group(2))
             self.progress.tell(of_stage(stage, taken, self.limit(stage), told.rate))
             paused(stage, taken)
+
+
+class Held:
+    """Holds interrupts back while a program begins, so that none is left running unseen."""
+
+    def __init__(self) -> None:
+        self.handlers: dict[int, Handler] = {}
+        self.has_come = False
+
+    def __enter__(self) -> Self:
+        for number in (signal.SIGINT, signal.SIGTERM, signal.SIGHUP):
+            handler = signal.getsignal(number)
+            if callable(handler):
+                self.handlers[number] = handler
+                signal.signal(number, self.note)
+        return self
+
+    def __exit__(self, *_: object) -> None:
+        self.release()
+
+    def note(self, number: int, frame: object) -> None:
+        """Keeps in mind that an interrupt has come."""
+        self.has_come = True
+
+    def release(self) -> None:
+        """Lets interrupts through again, and the one that has come first of all."""
+        while self.handlers:
+            signal.signal(*self.handlers.popitem())
+        if self.has_come:
+            self.has_come = False
+            raise KeyboardInterrupt
 
 
 def stop_at_signals() -> None:

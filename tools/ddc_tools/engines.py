@@ -3,10 +3,12 @@
 import os
 import shlex
 import shutil
+import signal
 import subprocess
 import time
 from pathlib import Path
 
+from ddc_tools.audits import Held
 from ddc_tools.program import Refusal, program
 from ddc_tools.progress import Progress
 
@@ -19,6 +21,7 @@ export DDC
 set -- $(sed -n "${{1:-$((SLURM_ARRAY_TASK_ID + 1))}}p" asked)
 echo "it was begun, and did not end" >"failures/$1.$2"
 new=answers/$1.$2.new.$$
+trap 'rm -f "$new"; exit 143' HUP INT TERM
 status=0
 from=states/$1.$2 to=states/$1.$(($2 + 1))
 ./check-piece "$2" "$from" "$to" >"$new" 2>"failures/$1.$2.said" || status=$?
@@ -98,26 +101,27 @@ def check(engine: Engine, folder: Path, asked: list[tuple[str, int]], progress: 
     for name in ("job", "check-piece"):
         os.chmod(folder / name, 0o755)
     (folder / "asked").write_text("".join(f"{stage} {number}\n" for stage, number in asked))
-    numbers = "".join(f"{at}\n" for at in range(1, len(asked) + 1))
+    # An engine that ends early leaves the rest of them unread: so it reads a file.
+    (folder / "numbers").write_text("".join(f"{at}\n" for at in range(1, len(asked) + 1)))
     for words in engine.words(folder, len(asked)):
-        run(words, numbers, folder, asked, progress)
+        run(words, folder, asked, progress)
 
 
-def run(words: list[str], numbers: str, folder: Path, asked: list[tuple[str, int]],
-        progress: Progress) -> None:
+def run(words: list[str], folder: Path, asked: list[tuple[str, int]], progress: Progress) -> None:
     """Runs a call of an engine, and shows how many pieces are answered."""
-    with subprocess.Popen(words, stdin=subprocess.PIPE, stdout=subprocess.DEVNULL,
-                          stderr=subprocess.DEVNULL, text=True) as running:
-        assert running.stdin is not None
+    with (folder / "numbers").open() as numbers, Held() as interrupts, \
+            subprocess.Popen(words, stdin=numbers, stdout=subprocess.DEVNULL,
+                             stderr=subprocess.DEVNULL, start_new_session=True) as running:
         try:
-            running.stdin.write(numbers)
-            running.stdin.close()
+            interrupts.release()
             while running.poll() is None:
                 done = sum((folder / "answers" / f"{it}.{at}").exists() for it, at in asked)
                 progress.tell(f"{done} of {len(asked)} pieces are checked")
                 time.sleep(0.2)
         except BaseException:
-            running.terminate()
+            # The jobs that it has begun are of its group, and end with it.
+            if running.poll() is None:
+                os.killpg(running.pid, signal.SIGTERM)
             raise
         finally:
             progress.clear()
