@@ -176,7 +176,8 @@ FILE *fdopen(int descriptor, const char *mode) {
 }
 
 FILE *fopen(const char *name, const char *mode) {
-    int descriptor = open(name, *mode == 'r' ? O_RDONLY : O_WRONLY | O_CREAT | O_TRUNC, 0666);
+    int access = strchr(mode, '+') != 0 ? O_RDWR : *mode == 'r' ? O_RDONLY : O_WRONLY;
+    int descriptor = open(name, *mode == 'r' ? access : access | O_CREAT | O_TRUNC, 0666);
     return descriptor < 0 ? 0 : fdopen(descriptor, mode);
 }
 
