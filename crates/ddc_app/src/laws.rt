@@ -278,9 +278,9 @@ pub fn delta_starts()
         → DeltaPieces recipe base patch report files first (first + steps) (delta_start recipe base patch report steps files) }
 {}
 
-/// On files with a save BASE and as PATCH the delta of the position after `count` steps, `delta-resume` pauses after exactly STEPS more and
-/// leaves the delta against BASE, or its status, text and REPORT are those of `audit`. `answered` says so of a call of `delta-resume` whose
-/// status is not 10. `bytes` says so of files whose inputs are bytes, where the save and the delta always fit their limits.
+/// On files with a save BASE and its delta PATCH, `delta-resume` pauses after exactly STEPS more steps and leaves the delta against BASE, or
+/// its status, text and REPORT are those of `audit`. PATCH has the position after `count` steps. `answered` says so of a call whose status is
+/// not 10. `bytes` says so of files whose inputs are bytes, where the save and the delta always fit their limits.
 pub fn delta_resumes()
     ensures bytes { (recipe base patch report : List ℕ) (first count steps : ℕ) (files : NamedFiles)
         → AreDeltaWords recipe base patch report files → IsStepCount steps

@@ -6,8 +6,8 @@ mod MarkTests
 pub mod OneReport
 mod Placing
 mod Refused
-mod Rightness
-mod StageRules
+pub mod Rightness
+pub mod StageRules
 mod TrueReports
 pub mod ConclusionLemmas
 mod Wanting
