@@ -192,7 +192,7 @@ fn origin_text(
     with_origin(alloc, recipe, report, name, &basis)
 }
 
-/// The same, with the basis, which its caller lets go.
+/// The same, with the basis, which its caller drops.
 #[tactic(auto, unfolding(crate::specs::Provenance::origin_text))]
 fn with_origin(
     alloc: Global,
@@ -247,7 +247,7 @@ fn put_settling(
     put_marked(text, recipe, report, b"layout", basis.layouts.as_slice())
 }
 
-/// Adds the free layout of the stage itself, the runs, and what has to be believed of programs.
+/// Adds the free layout of the stage itself, the runs, and what is assumed of programs.
 #[tactic(auto, using(crate::proofs::Written::written))]
 fn put_believed(
     alloc: Global,
@@ -281,7 +281,7 @@ fn put_met(text: &mut Bytes, origin: &Origin) -> Result<(), OutOfMemory>
     put_names(text, b"same run", origin.same_run.as_slice())
 }
 
-/// Adds a line for each unchecked stage on the way back.
+/// Adds a line for each unchecked stage among the dependencies.
 fn put_runs(
     text: &mut Bytes,
     recipe: &Recipe,
