@@ -16,16 +16,15 @@ provenance() {
 a="recipe $(digest a.toml)\nequal two bin $(mark b.bin)\ntext text $(mark copy.hex0)\n"
 provenance 'the audited binary is read' 0 "yes\n${a}text src $(mark a.bin)\nrun two\naudited read src\n" a.toml a.rep
 check 'the report of the worked examples' 0 "yes\n${a}text src $(mark a.bin)\nrun two\naudited read src\n" "$ddc" provenance a.toml a.report
-run="run one $(mark copy.hex0)\nholds implements prog copy_src\nsource copy_src text $(mark copy.hex0)\n"
+run="run one $(mark copy.hex0)\nassumes implements prog copy_src\nsource copy_src text $(mark copy.hex0)\n"
 made="equal two bin $(mark copy.elf)\ntext text $(mark copy.hex0)\nprogram prog $(mark copy.elf)\n$run"
 provenance 'the audited binary is run' 0 "yes\nrecipe $(digest made-text.toml)\n${made}audited run prog\n" made-text.toml made-text.rep
 sed '0,/files = \["text"\]/s//files = ["one"]/' made-text.toml >speaks.toml
-unsettled=${made/holds/assumes}
 provenance 'a source that its own program wrote' 0 \
-    "yes\nrecipe $(digest speaks.toml)\n${unsettled/source copy_src text/speaks copy_src one}audited run prog\n" speaks.toml speaks.rep
+    "yes\nrecipe $(digest speaks.toml)\n${made/source copy_src text/speaks copy_src one}audited run prog\n" speaks.toml speaks.rep
 sed 's/^format = 1/format = 2/; s/^stage = "two"/stages = ["two", "one"]/' made-text.toml >both.toml
 provenance 'a block for each compared stage' 3 \
-    "recipe $(digest both.toml)\n${made}audited run prog\ndiffers one bin 0 $(wc -c <copy.hex0) $(wc -c <copy.elf)\ntext text $(mark copy.hex0)\nprogram prog $(mark copy.elf)\n${run/run one */run one}\nholds implements prog copy_src\nsource copy_src text $(mark copy.hex0)\naudited run prog\n" \
+    "recipe $(digest both.toml)\n${made}audited run prog\ndiffers one bin 0 $(wc -c <copy.hex0) $(wc -c <copy.elf)\ntext text $(mark copy.hex0)\nprogram prog $(mark copy.elf)\n${run/run one */run one}\nassumes implements prog copy_src\nsource copy_src text $(mark copy.hex0)\naudited run prog\n" \
     both.toml both.rep
 sed '1,/made/s/^made .*/made 3 ba7816bf8f01cfea414140de5dae2223b00361a396177a9cb410ff61f20015ad/' a.rep >false.rep
 check 'a report that is not true' 1 'refuted files 1\n' "$ddc" provenance a.toml false.rep
@@ -46,7 +45,6 @@ check 'a chain that rests on one text' 0 "yes\nrecipe\nequal m1_again binary\nte
 "$ddc" audit wheeler.toml wheeler.rep >/dev/null
 "$ddc" provenance wheeler.toml wheeler.rep >text
 check 'an earlier artefact that is the audited binary' 0 'same run first\n' sh -c 'grep -e ^same -e ^audited text'
-check 'an assumption that bytes settle' 0 'holds compiles hex2 first m1\n' sh -c 'grep -e ^assumes -e ^holds text'
 check 'the sources to be read' 0 'source hex2 hex2_text\nsource m1 m1_text\n' sh -c "grep ^source text | cut -d ' ' -f 1-3"
 check 'a run of the compared stage has no digest of its own' 0 'run second\n' grep '^run second$' text
 sed 's/^stage = "m1_again"/stage = "m1_expanded"/' chain.toml >expanded.toml

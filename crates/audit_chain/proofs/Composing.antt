@@ -95,7 +95,7 @@ given-source link source text is =
     λ i. record { lang = source.lang; base = source.base; files = files i } in
     sym same ∙ parts.1
 
-pub given-named : (link : Link) (name : List ℕ) (text : SourceText) → given_text_named link name ≡ Some text
+given-named : (link : Link) (name : List ℕ) (text : SourceText) → given_text_named link name ≡ Some text
     → full.text_named link.recipe (all_contents link.recipe link.inputs) name ≡ text
 unfolding full.text_named
 given-named link name text is = by (source_named link.recipe.sources name) is where

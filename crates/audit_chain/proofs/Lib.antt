@@ -2,4 +2,3 @@ mod Turns
 mod Composing
 pub mod RestsLemmas
 pub mod OriginLemmas
-pub mod Settling

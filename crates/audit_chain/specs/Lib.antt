@@ -2,5 +2,3 @@ pub mod Chain
 pub mod Composed
 pub mod Rests
 pub mod Provenance
-pub mod Settled
-pub mod Inside

@@ -103,7 +103,7 @@ fn source_named<'a>(link: &'a Link, name: &Name) -> Option<&'a Source>
 }
 
 /// Whether all these names are inputs'.
-pub(crate) fn are_inputs(recipe: &Recipe, names: &[Name]) -> bool
+fn are_inputs(recipe: &Recipe, names: &[Name]) -> bool
     ensures { result ≡ list_all (names_input recipe.now) names.now }
 {
     names.iter().all(|name| names_input(recipe, name))
@@ -136,7 +136,7 @@ fn input_bytes<'a>(link: &'a Link, name: &Name) -> &'a [u8]
 }
 
 /// The bytes at an index; none past the end.
-pub(crate) fn at(all: &[Bytes], index: usize) -> &[u8]
+fn at(all: &[Bytes], index: usize) -> &[u8]
     ensures { result.now ≡ get_or all.now index [] }
 {
     match all.get(index) {

@@ -1,9 +1,7 @@
 -- What `provenance` returns over files that hold what it judges.
-use Rattle.std.proofs.Common.{◌≡◌, ℕ, ◌-◌, false, cond, None, Some, List, [], ◌∷◌, length, min, refl, sym, ap, ap₂, ◌∙◌, subst}
+use Rattle.std.proofs.Common.{◌≡◌, ℕ, false, cond, None, List, [], ◌∷◌, sym, ap, ap₂, ◌∙◌}
 use Rattle.std.specs.Prelude.{IsTrue}
 use Rattle.std.specs.FinMap as finite
-use Rattle.std.specs.List.{AllZip}
-use Rattle.std.proofs.lemmas.Option.{same_Some}
 use Rattle.ddc_base.specs.Outside.{NamedFiles}
 use Rattle.recipe.specs.declared.contents.RecipeContents.{RecipeContents}
 use Rattle.recipe.specs.Reading.{recipe_of}
@@ -14,7 +12,7 @@ use Rattle.command_plan.specs.declared.status.Status.TheVariants.{ReportRefused}
 use Rattle.command_plan.specs.Plan.{Outcome, Plan, answers, outcome, unless_refused}
 use Rattle.command_plan.specs.Texts.{report_line}
 use Rattle.command_plan.specs.Words.{usage}
-use Rattle.recipe_plan.specs.Recipes.{needs_apart, needs_inputs, paths}
+use Rattle.recipe_plan.specs.Recipes.{needs_apart, needs_inputs}
 use Rattle.recipe_plan.specs.Reports.{compared_status, needs_report}
 use Rattle.verify_commands.specs.declared.explanation.Explanation.TheVariants.{Provenance}
 use Rattle.verify_commands.specs.Provenance.{provenance_text}
@@ -22,7 +20,6 @@ use Rattle.verify_commands.specs.Verify.{judge_files, judged_with, judged_by, pr
 use Rattle.wheeler.specs.Meaning.{Compiles, Prescribes}
 use Rattle.ddc_app.specs.Accepting.{is_compared, provenance, verify}
 use Rattle.ddc_app.specs.Accounted.{Accounted}
-use Rattle.ddc_app.specs.Holding.{AreHeld}
 use Rattle.ddc_app.specs.Judged.{HoldsReport}
 use Rattle.ddc_app.specs.Verified.{Verified}
 use Rattle.ddc_app.proofs.Loads.{follows, within}
@@ -30,7 +27,7 @@ use Rattle.ddc_app.proofs.Openings.{Holds, apart_opens, inputs_open, recipe_open
 use Rattle.ddc_app.proofs.TrueWritten.{replay, replay-held}
 
 module _ (recipe report : List ℕ) (files : NamedFiles) (said : RecipeContents) (inputs : List (List ℕ)) (made : Report) (h : HoldsReport recipe report files said inputs made) where
-  pub telling : outcome (provenance_plan (recipe ∷ report ∷ [])) files ≡ outcome (judged_with (provenance_text said inputs made) made.compare (first_fault said inputs made)) files
+  pub telling : outcome (provenance_plan (recipe ∷ report ∷ [])) files ≡ outcome (judged_with (provenance_text said made) made.compare (first_fault said inputs made)) files
   unfolding judge_files
   telling =
       let holds : Holds recipe said inputs files = record { bytes = h.recipe_bytes; recipe_held = h.recipe_held; reads = h.recipe_reads; inputs_held = h.inputs_held } in
@@ -44,22 +41,10 @@ module _ (recipe report : List ℕ) (files : NamedFiles) (said : RecipeContents)
       ∙ inputs_open recipe said inputs files holds (λ i. judged_by Provenance said i made)
 
   pub true-told : first_fault said inputs made ≡ None
-      → outcome (provenance_plan (recipe ∷ report ∷ [])) files ≡ record { status = compared_status made.compare; text = provenance_text said inputs made; files = files }
-  true-told none = telling ∙ ap (λ fault. outcome (judged_with (provenance_text said inputs made) made.compare fault) files) none
+      → outcome (provenance_plan (recipe ∷ report ∷ [])) files ≡ record { status = compared_status made.compare; text = provenance_text said made; files = files }
+  true-told none = telling ∙ ap (λ fault. outcome (judged_with (provenance_text said made) made.compare fault) files) none
 
 -- ---- what an answer shows
-
--- names have one content each
-one-content : (most room : ℕ) (files : NamedFiles) (names contents others : List (List ℕ)) → AreHeld most room files names contents
-    → AllZip (λ name content. finite.get files name ≡ Some content) names others → contents ≡ others
-one-content most room files [] [] [] held zip = refl
-one-content most room files [] [] (other ∷ others) held zip = absurd zip
-one-content most room files [] (content ∷ contents) others held zip = absurd held
-one-content most room files (name ∷ names) [] others held zip = absurd held
-one-content most room files (name ∷ names) (content ∷ contents) [] held zip = absurd zip
-one-content most room files (name ∷ names) (content ∷ contents) (other ∷ others) held zip =
-    let got = (within (min most room) (finite.get files name) content held.0).0 in
-    ap₂ (λ h t. h ∷ t) (same_Some content other (sym got ∙ zip.0)) (one-content most (room - length content) files names contents others held.1 zip.1)
 
 module _ (prescribes : Prescribes) (compiles : Compiles) (recipe report : List ℕ) (files : NamedFiles) where
   abbrev words : List (List ℕ)
@@ -80,13 +65,9 @@ module _ (prescribes : Prescribes) (compiles : Compiles) (recipe report : List �
       let report_bytes : r.text ≡ v.report_bytes = cc in
       let report_read = sym r.text_reads ∙ ap report_of report_bytes ∙ v.report_reads in
       let made : r.made ≡ v.made = cc in
-      let inputs : r.inputs ≡ v.inputs =
-      one-content 268_435_456 1_073_741_824 files (paths v.said) r.inputs v.inputs
-      (subst (λ (s : RecipeContents). AreHeld 268_435_456 1_073_741_824 files (paths s) r.inputs) said r.holds.inputs_held) v.inputs_held in
       record {
         verified = v;
         status = status;
-        text = ap (λ (o : Outcome). o.text) (true-told recipe report files r.said r.inputs r.made (replay-held recipe report files compared) r.none)
-            ∙ (λ i. provenance_text (said i) (inputs i) (made i));
+        text = ap (λ (o : Outcome). o.text) (true-told recipe report files r.said r.inputs r.made (replay-held recipe report files compared) r.none) ∙ ap₂ provenance_text said made;
         kept = kept;
       }

@@ -176,17 +176,17 @@ pub fn chains_verified()
     ensures text { (list : List ℕ) (files : NamedFiles) (all : AllVerified list files) → (chain list files).text ≡ chain_text all.links }
 {}
 
-/// On a valid recipe and a report without a fault (`HoldsReport`), `provenance` returns the status of the comparisons, the recipe, its
-/// inputs and the report determine the text, and no file changes.
+/// On a valid recipe and a report without a fault (`HoldsReport`), `provenance` returns the status of the comparisons, the recipe and the
+/// report alone determine the text, and no file changes.
 pub fn a_true_report_is_told()
     ensures { (recipe report : List ℕ) (files : NamedFiles) (said : Recipe) (inputs : List (List ℕ)) (made : Report)
         → HoldsReport recipe report files said inputs made → first_fault said inputs made ≡ None
         → outcome (provenance_plan (recipe ∷ report ∷ [])) files
-        ≡ record { status = compared_status made.compare; text = provenance_text said inputs made; files = files } }
+        ≡ record { status = compared_status made.compare; text = provenance_text said made; files = files } }
 {}
 
 /// If `provenance RECIPE REPORT` on files of bytes returns 0 or 3, `verify` returns the same status and shows what `verified` says, under
-/// every meaning of sources. The recipe, its inputs and the report determine the text, and no file changes.
+/// every meaning of sources. The recipe and the report determine the text, and no file changes.
 pub fn accounted<M: Meaning>()
     ensures { (recipe report : List ℕ) (files : NamedFiles) → LoadsBytes (plan_of (codes "provenance" ∷ recipe ∷ report ∷ [])) files
         → IsTrue (is_compared (provenance recipe report files).status)
@@ -204,7 +204,7 @@ pub fn printed_digests_settle_it()
     ensures { (bytes other_bytes : List ℕ) (said other_said : Recipe) (inputs others : List (List ℕ)) (made other : Report) (name : List ℕ) (stage : Stage)
         → recipe_of bytes ≡ Ok said → recipe_of other_bytes ≡ Ok other_said → said.digest ≡ other_said.digest
         → IsInputs said inputs → IsInputs other_said others → bench said inputs ≡ Completes made → bench other_said others ≡ Completes other
-        → stage_named said.stages name ≡ Some stage → origin_text said inputs made name ≡ origin_text other_said others other name
+        → stage_named said.stages name ≡ Some stage → origin_text said made name ≡ origin_text other_said other name
         → IsSameArtefact said inputs others stage ⊎ DigestCollision }
 {
     a_recipe_that_reads_keeps_the_rules();

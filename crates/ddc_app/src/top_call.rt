@@ -93,7 +93,7 @@ pub fn run<M: Meaning, S: Shelf, K: Sink, P: Prompt>(
         → map (λ word. word.now) words.now ≡ codes "verify" ∷ recipe ∷ report ∷ [] → IsTrue (is_compared result)
         → Verified M.prescribes M.compiles recipe report (S.state shelf.old).files (expected words.now (S.state shelf.old)) }
 
-    // What a 0 or 3 of `provenance` shows: all that `verify` shows, and a text that the recipe, its inputs and the report determine.
+    // What a 0 or 3 of `provenance` shows: all that `verify` shows, and a text that the recipe and the report determine.
     ensures accounted { IsExpected words.now (S.state shelf.old) → (recipe report : List ℕ)
         → map (λ word. word.now) words.now ≡ codes "provenance" ∷ recipe ∷ report ∷ [] → IsTrue (is_compared result)
         → Accounted M.prescribes M.compiles recipe report (S.state shelf.old).files (expected words.now (S.state shelf.old)) }

@@ -60,7 +60,7 @@ module _ (files : NamedFiles) where
 
   told-beside : (said : RecipeContents) (inputs : List (List ℕ)) (made : Report) → Beside (judged_by Provenance said inputs made) (judged_by Assumptions said inputs made) files
   told-beside said inputs made = by (first_fault said inputs made) where
-    by : (fault : Option (Part × ℕ)) → Beside (judged_with (explained Provenance said inputs made) made.compare fault) (judged_with (explained Assumptions said inputs made) made.compare fault) files
+    by : (fault : Option (Part × ℕ)) → Beside (judged_with (explained Provenance said made) made.compare fault) (judged_with (explained Assumptions said made) made.compare fault) files
     by None = record { status = refl; kept = refl; loads = λ found. found }
     by (Some (part, place)) = record { status = refl; kept = refl; loads = λ found. found }
 

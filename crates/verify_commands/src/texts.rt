@@ -135,7 +135,7 @@ pub(crate) fn put_assumptions(
 
 /// The line of an assumption about a program.
 #[tactic(auto, unfolding(crate::specs::Texts::assumption_line))]
-pub(crate) fn assumed(alloc: Global, assumption: &Assumption) -> Result<Bytes, OutOfMemory>
+fn assumed(alloc: Global, assumption: &Assumption) -> Result<Bytes, OutOfMemory>
     ensures { IfOk result (λ text. text ≡ assumption_line assumption.now) }
 {
     match assumption {

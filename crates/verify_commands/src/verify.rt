@@ -9,12 +9,10 @@ ghost use Rattle.command_plan.specs.Steps.{Says};
 ghost use Rattle.recipe_plan.specs.Recipes.{needs_apart, needs_inputs};
 ghost use Rattle.recipe_plan.specs.Reports.{compared_status, needs_report};
 ghost use Rattle.verify_commands.specs.Verify.{explained, judge_files, judge_plan, judged_by};
-ghost use Rattle.verify_commands.specs.Provenance.{provenance_text};
 ghost use Rattle.verify_commands.specs.Texts.{refuted_line};
 
 use crate::explanation::Explanation;
 use crate::{provenance_texts, texts};
-use audit_chain::origin::Replayed;
 use command_plan::{Answer, FileName, Status, Stop, usage};
 use ddc_base::{Bytes, OutOfMemory, Shelf};
 use recipe::{Inputs, Recipe};
@@ -96,8 +94,8 @@ fn answer<M: Meaning>(
     ensures { Says (judged_by explanation recipe.now inputs.now report.now) result }
 {
     match verifier::conclusion::verify::<M>(alloc, recipe, inputs, report) {
-        Verdict::Yes => accepted(alloc, explanation, recipe, inputs, report),
-        Verdict::TrueButDiffers => accepted(alloc, explanation, recipe, inputs, report),
+        Verdict::Yes => accepted(alloc, explanation, recipe, report),
+        Verdict::TrueButDiffers => accepted(alloc, explanation, recipe, report),
         Verdict::Refuted { part, place } => refuted(alloc, part, place),
         Verdict::OutOfMemory { .. } => Err(Stop::OutOfMemory),
     }
@@ -108,14 +106,13 @@ fn accepted(
     alloc: Global,
     explanation: Explanation,
     recipe: &Recipe,
-    inputs: &Inputs,
     report: &Report,
 ) -> Result<Answer, Stop>
-    ensures { Says (answers (compared_status report.now.compare) (explained explanation recipe.now inputs.now report.now)) result }
+    ensures { Says (answers (compared_status report.now.compare) (explained explanation recipe.now report.now)) result }
 {
     Ok(Answer {
         status: compared_status(report.compare.as_slice()),
-        text: explain(alloc, explanation, recipe, inputs, report)?,
+        text: explain(alloc, explanation, recipe, report)?,
     })
 }
 
@@ -124,35 +121,14 @@ fn explain(
     alloc: Global,
     explanation: Explanation,
     recipe: &Recipe,
-    inputs: &Inputs,
     report: &Report,
 ) -> Result<Bytes, OutOfMemory>
-    ensures { IfOk result (λ text. text ≡ explained explanation recipe.now inputs.now report.now) }
+    ensures { IfOk result (λ text. text ≡ explained explanation recipe.now report.now) }
 {
     match explanation {
         Explanation::Assumptions => texts::accepted(alloc, recipe, report.compare.as_slice()),
-        Explanation::Provenance => provenance(alloc, recipe, inputs, report),
+        Explanation::Provenance => provenance_texts::accepted(alloc, recipe, report),
     }
-}
-
-/// The dependencies of each compared artefact, for a report that is true.
-fn provenance(
-    alloc: Global,
-    recipe: &Recipe,
-    inputs: &Inputs,
-    report: &Report,
-) -> Result<Bytes, OutOfMemory>
-    ensures { IfOk result (λ text. text ≡ provenance_text recipe.now inputs.now report.now) }
-{
-    let inputs = inputs.as_slice();
-    provenance_texts::accepted(
-        alloc,
-        &Replayed {
-            recipe,
-            inputs,
-            report,
-        },
-    )
 }
 
 /// The answer to a false report: its first part that is false, and the place of that part.

@@ -21,7 +21,7 @@ returns c bytes other_bytes said other_said inputs others made other name stage 
           let ok = c.a_recipe_that_reads_keeps_the_rules.ensures bytes said reads in
           let settled =
           c.what_is_printed_settles_it.ensures said inputs others made other name stage ok one (subst (λ (r : RecipeContents). IsInputs r others) recipes two) is
-          (subst (λ (r : RecipeContents). bench r others ≡ Completes other) recipes was) at (printed ∙ ap (λ (r : RecipeContents). origin_text r others other name) recipes) in
+          (subst (λ (r : RecipeContents). bench r others ≡ Completes other) recipes was) at (printed ∙ ap (λ (r : RecipeContents). origin_text r other name) recipes) in
           elim settled [
             | inl artefact ↦ inl artefact
             | inr found ↦ inr (record { one = found.one; other = found.other; digests = found.digests; differ = found.differ })

@@ -1,2 +1,0 @@
--- No promise depends on these files being read.
-pub mod Programs
