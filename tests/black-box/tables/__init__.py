@@ -1,1 +1,0 @@
-"""The cases of the built program, in tables by command."""
