@@ -2,6 +2,7 @@
 
 from __future__ import annotations
 
+import languages
 import recipe as recipes
 import report as reports
 from outside import Answer
@@ -35,6 +36,34 @@ class Way:
             on_way |= set(files)
 
 
+def is_own(recipe: Recipe, contents: Contents, name: str, source: str) -> bool:
+    """Whether a name stands for the program of a source, and all files of that are inputs."""
+    said = recipe.sources[source]
+    if said.lang == "other" or not set(said.files) <= {one.name for one in recipe.inputs}:
+        return False
+    text = b"\n".join(contents[one] for one in said.files)
+    try:
+        if said.lang == "m1":
+            program = languages.link(languages.m1_items(text), said.base)
+        else:
+            program = languages.value(said.lang, text, said.base)
+    except languages.Refused:
+        return False
+    return program == contents[name]
+
+
+def judged(recipe: Recipe, contents: Contents, line: str) -> str:
+    """The line of an assumption, which holds where its programs are those of its sources."""
+    _, kind, *names = line.split()
+    pairs = [(names[0], names[1])]
+    if kind == "compiles":
+        source, stage, becomes = names
+        pairs = [(recipe.made[stage].program, source), (stage, becomes)]
+    if all(is_own(recipe, contents, *pair) for pair in pairs):
+        return line.replace("assumes", "holds", 1)
+    return line
+
+
 def block(recipe: Recipe, contents: Contents, name: str) -> list[str]:
     """The lines on a compared stage's artefact, but for the first."""
     way = Way(recipe, name)
@@ -49,7 +78,7 @@ def block(recipe: Recipe, contents: Contents, name: str) -> list[str]:
     lines += [f"run {one.name}{ends.get(one.name, '')}" for one in way.stages if one.check is None]
     assumed = recipes.assumptions(recipe, [*way.run])
     named = {word for line in assumed for word in line.split()[2:]}
-    lines += assumed
+    lines += [judged(recipe, contents, line) for line in assumed]
     lines += [f"{'source' if one in inputs else 'speaks'} {source.name} {one} {marks[one]}"
               for source in recipe.sources.values() if source.name in named for one in source.files]
     alike = [one for one in recipe.made if marks[one] == marks[recipe.binary] and one != name]

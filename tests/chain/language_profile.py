@@ -11,7 +11,8 @@ MOST_BYTES = 67_108_864
 MOST_ITEMS = 33_554_432
 KINDS = {b"!": "I", b"@": "B", b"$": "J", b"~": "U"}
 
-# An item is a tuple: ("byte", number), ("label", name), ("word", number, sign, name), ("rel", name), ("gap", name, name), ("abs", name)
+# An item is a tuple: ("byte", number), ("label", name), ("word", number, sign, name), ("rel",
+# name), ("gap", name, name), ("abs", name)
 # or ("pad",).
 
 
@@ -158,7 +159,10 @@ def field(kind, distance):
 
 
 def fits(kind, distance):
-    low, high = {"U": (-2**31 - 2048, 2**31 - 2049), "B": (-4096, 4094), "J": (-2**20, 2**20 - 2), "4": (-2**31, 2**31 - 1)}[kind]
+    low, high = {
+        "U": (-2**31 - 2048, 2**31 - 2049), "B": (-4096, 4094), "J": (-2**20, 2**20 - 2),
+        "4": (-2**31, 2**31 - 1)
+    }[kind]
     return low <= distance <= high and (kind in "U4" or distance % 2 == 0)
 
 
@@ -173,7 +177,9 @@ def link(items, base):
     out = bytearray()
     for number, item in enumerate(items):
         place = base + len(out)
-        names = {"word": item[3:], "rel": item[1:], "gap": item[1:], "abs": item[1:]}.get(item[0], ())
+        names = {
+            "word": item[3:], "rel": item[1:], "gap": item[1:], "abs": item[1:]
+        }.get(item[0], ())
         if any(name not in labels for name in names):
             raise Refused(5, number)
         there = [labels[name] for name in names]
@@ -188,7 +194,9 @@ def link(items, base):
                 raise Refused(6, number)
             out += (item[1] ^ field(kind, distance)).to_bytes(4, "little")
         elif item[0] != "label":
-            distance = {"rel": lambda x: x - place - 4, "gap": lambda x, y: x - y, "abs": lambda x: x}[item[0]](*there)
+            distance = {
+                "rel": lambda x: x - place - 4, "gap": lambda x, y: x - y, "abs": lambda x: x
+            }[item[0]](*there)
             if not (0 <= distance < 2**32 if item[0] == "abs" else fits("4", distance)):
                 raise Refused(6, number)
             out += (distance % 2**32).to_bytes(4, "little")
@@ -315,7 +323,9 @@ def expand(source):
                     words.byte(byte)
             else:
                 stored = (value >> 5 & 127) << 25 | (value & 31) << 7
-                words.field(at, {b"!": (value & 4095) << 20, b"@": stored, b"~": value + 2048 & 0xFFFFF000}[sign])
+                words.field(at, {
+                    b"!": (value & 4095) << 20, b"@": stored, b"~": value + 2048 & 0xFFFFF000
+                }[sign])
         else:
             refer(words, at, text)
     return words.end()
@@ -331,6 +341,8 @@ def write(items):
         elif item[0] == "gap":
             out += b"%" + item[1] + b">" + item[2]
         else:
-            out += {"label": b":", "rel": b"%", "abs": b"&", "pad": b"<"}[item[0]] + b"".join(item[1:])
+            out += {
+                "label": b":", "rel": b"%", "abs": b"&", "pad": b"<"
+            }[item[0]] + b"".join(item[1:])
         out += b"\n"
     return bytes(out)

@@ -5,12 +5,15 @@ import re
 BLANKS = [" ", "\n", "\t", "  ", " # a comment\n", " ; 00 :a\n"]
 SIGNS = "!@$~"
 NUMBERS = ["0", "1", "-1", "7", "2047", "-2048", "2048", "-2049", "0x7ff", "-0x800", "0x800", "0xABCdef", "65536", "-65536",
-           "2147483647", "-2147483648", "-2147483649", "4294967295", "4294967296", "0xFFFFFFFF", "0x100000000", "00012", "-0", "-0x0",
+           "2147483647", "-2147483648", "-2147483649", "4294967295", "4294967296", "0xFFFFFFFF",
+           "0x100000000", "00012", "-0", "-0x0",
            "0x" + "0" * 20 + "5", "1" * 30, "-" + "9" * 30, "0x1" + "0" * 16, "-0x1" + "0" * 15]
 # Words that are nearly something.
 NEARLY = ["0x", "-", "-0x", "0X5", "+1", "5x", "!", "@", "~", "%", "$", "&", ":", ">", "<<", "%a>", "%>a", "%a>b>c", "!a>b", ":a>b",
-          ".0005", ".0005000g", ".000500001", "0", "123", "xyz", "a", "DEFINE", "\"\"", "''", "'0'", "'0g'", "'00'", "\"a b\"",
-          "'00'11", "11\"a\"", "\"#\"#c", "%5>6", "$5", "&5", ":5", "?", "\xff", "\x00", "!-", "!0x", "%-1", "~-5", "!'00'"]
+          ".0005", ".0005000g", ".000500001", "0", "123", "xyz", "a", "DEFINE", "\"\"", "''", "'0'",
+          "'0g'", "'00'", "\"a b\"",
+          "'00'11", "11\"a\"", "\"#\"#c", "%5>6", "$5", "&5", ":5", "?", "\xff", "\x00", "!-",
+          "!0x", "%-1", "~-5", "!'00'"]
 
 
 def byte(chance):
@@ -28,8 +31,13 @@ def blank(chance):
 def names(chance, language):
     """Some names that differ."""
     if language == "hex1":
-        return chance.sample("abcdefghijklmnopqrstuvwxyzABCDEFGHIJ0123456789<>#;:!.,\"'%&", chance.randrange(1, 9))
-    return ["label_%d" % number + chance.choice(["", "#", ";x", "\"", "'q'", "." * 40]) for number in range(chance.randrange(1, 9))]
+        return chance.sample(
+            "abcdefghijklmnopqrstuvwxyzABCDEFGHIJ0123456789<>#;:!.,\"'%&", chance.randrange(1, 9)
+        )
+    return [
+        "label_%d" % number + chance.choice(["", "#", ";x", "\"", "'q'", "." * 40])
+        for number in range(chance.randrange(1, 9))
+    ]
 
 
 def digits(chance, language, count):
@@ -80,12 +88,16 @@ def well_formed(chance, language):
 def any_tokens(chance, language):
     pieces = [":a", ":b", "!a", "@b", "$a", "~b", "%a", "%a>b", "&b", "<", "00", "7f", "0", ".00100000", "13000000", "?", ">", ":", "#",
               "\n", " ", "\r", "\t", ";", ".", "!", "%", "%a>", "\xe9"]
-    return "".join(chance.choice(pieces) + chance.choice(["", " "]) for _ in range(chance.randrange(1, 16)))
+    return "".join(
+        chance.choice(pieces) + chance.choice(["", " "]) for _ in range(chance.randrange(1, 16))
+    )
 
 
 def far(chance, language):
     """A reference near the ends of what fits, forward or backward."""
-    sign, most = chance.choice([("@", 4096), ("!", 2048), ("~", 2048), ("$", 1 << 20 if chance.random() < 0.1 else 5000)])
+    sign, most = chance.choice(
+        [("@", 4096), ("!", 2048), ("~", 2048), ("$", 1 << 20 if chance.random() < 0.1 else 5000)]
+    )
     between = most + chance.randrange(-9, 9)
     if language == "M1":
         filled = " ".join(["00" * 100] * (between // 100) + ["00"] * (between % 100))
@@ -111,13 +123,17 @@ def m1_words(chance):
         if kind == 0:
             tokens.append(chance.choice(defined))
         elif kind == 1:
-            tokens.append('"' + "".join(chance.choice("abc #;'\n\t0") for _ in range(chance.randrange(12))) + '"')
+            tokens.append('"' + "".join(
+                chance.choice("abc #;'\n\t0") for _ in range(chance.randrange(12))
+            ) + '"')
         elif kind == 2:
             tokens.append("'" + digits(chance, "M1", chance.randrange(1, 6)) + "'")
         elif kind == 3:
             tokens.append("%" + chance.choice(NUMBERS[:8] if chance.random() < 0.9 else NUMBERS))
         elif kind == 4:
-            tokens.append(chance.choice(NEARLY) if chance.random() < 0.1 else ":" + chance.choice("abc"))
+            tokens.append(
+                chance.choice(NEARLY) if chance.random() < 0.1 else ":" + chance.choice("abc")
+            )
         elif kind == 5:
             tokens.append(chance.choice(["%a", "%a>b", "&b", "<", ":c"]))
         else:
@@ -129,7 +145,10 @@ def m1_words(chance):
 def near_words(chance):
     pieces = NEARLY + [chance.choice("!@~%$&:") + number for number in NUMBERS]
     pieces += ["!a", "@b", "00", "13000000", "DEFINE a 00", "DEFINE b .00100000"]
-    return "".join(chance.choice(pieces) + chance.choice([" ", "\n", " ", ""]) for _ in range(chance.randrange(1, 10)))
+    return "".join(
+        chance.choice(pieces) + chance.choice([" ", "\n", " ", ""])
+        for _ in range(chance.randrange(1, 10))
+    )
 
 
 def for_debian(text):

@@ -11,11 +11,17 @@ expressions touch nothing but their parameters and locals.
 import random
 import sys
 
-TYPES = ["char", "signed char", "short", "unsigned short", "int", "unsigned", "long", "unsigned long", "long long", "unsigned long long"]
+TYPES = [
+    "char", "signed char", "short", "unsigned short", "int", "unsigned", "long", "unsigned long",
+    "long long", "unsigned long long"
+]
 BITS = {"char": 8, "signed char": 8, "short": 16, "unsigned short": 16, "int": 32, "unsigned": 32}
 EDGES = [0, 1, 2, 7, 8, 127, 128, 255, 256, 32767, 32768, 65535, 65536, 2147483647, 2147483648, 4294967295, 4294967296,
          9223372036854775807, 0x8000000000000000, 0xFFFFFFFFFFFFFFFF]
-FIELDS = [("int", 31), ("unsigned", 32), ("short", 15), ("unsigned short", 16), ("char", 8), ("unsigned char", 8), ("signed char", 7)]
+FIELDS = [
+    ("int", 31), ("unsigned", 32), ("short", 15), ("unsigned short", 16), ("char", 8),
+    ("unsigned char", 8), ("signed char", 7)
+]
 
 
 class Program:
@@ -40,14 +46,18 @@ class Program:
 
     def constant(self):
         r = self.random
-        value = r.choice(EDGES) if r.random() < 0.4 else r.randrange(0, 1 << r.choice([3, 8, 12, 16, 31, 32, 40, 63]))
+        value = r.choice(EDGES) if r.random() < 0.4 else r.randrange(
+            0, 1 << r.choice([3, 8, 12, 16, 31, 32, 40, 63])
+        )
         text = hex(value) if r.random() < 0.3 else str(value)
         if value >= 1 << 63:
             text += "UL"
         else:
             text += r.choice(["", "", "", "U", "L", "UL", "LL", "ULL"])
         if r.random() < 0.1:
-            return r.choice(["'a'", "'\\n'", "'\\0'", "'\\377'", "sizeof(long)", "sizeof(short)", "RED", "BLUE"])
+            return r.choice(
+                ["'a'", "'\\n'", "'\\0'", "'\\377'", "sizeof(long)", "sizeof(short)", "RED", "BLUE"]
+            )
         return f"-{text}" if r.random() < 0.15 else text
 
     def read(self):
@@ -144,7 +154,10 @@ class Program:
         elif kind == 11:
             name = self.name("count")
             self.put(f"{{ int {name} = {r.randrange(1, 4)};")
-            self.put(f"while ({name}-- > 0 && {self.expression(1)} != {r.choice(EDGES[:8])}) {{" if r.random() < 0.5 else "do {")
+            self.put(
+                f"while ({name}-- > 0 && {self.expression(1)} != {r.choice(EDGES[:8])}) {{"
+                if r.random() < 0.5 else "do {"
+            )
             whole = self.lines[-1].endswith("do {")
             self.block(depth - 1, 2)
             if whole:
@@ -166,7 +179,9 @@ class Program:
         self.put(f"switch ({self.expression(2)} {r.choice(['', '& 15', '% 7'])}) {{")
         seen = set()
         for _ in range(r.randrange(1, 12)):
-            value = r.choice([r.randrange(-6, 16), r.randrange(-1 << 31, 1 << 31), r.choice(EDGES[:14])])
+            value = r.choice(
+                [r.randrange(-6, 16), r.randrange(-1 << 31, 1 << 31), r.choice(EDGES[:14])]
+            )
             if value % (1 << 32) in seen:
                 continue
             seen.add(value % (1 << 32))
@@ -336,7 +351,10 @@ def together(numbers):
         texts.append(program.text())
         texts += [f"#undef {name}" for name in fixed]
     texts.append("int main(void) {")
-    texts += [f'    printf("program {number}\\n");\n    printf("ends with %d\\n", main_{number}());' for number in numbers]
+    texts += [
+        f'    printf("program {number}\\n");\n    printf("ends with %d\\n", main_{number}());'
+        for number in numbers
+    ]
     texts.append("    return 0;\n}\n")
     return "\n".join(texts)
 

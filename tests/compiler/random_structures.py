@@ -9,7 +9,10 @@ import sys
 
 PLAIN = ["char", "signed char", "short", "unsigned short", "int", "unsigned", "long", "unsigned long", "char *", "float", "double", "long double",
          "int (*", "char[3]", "short[5]", "long[2]"]
-FIELDS = [("int", 32), ("unsigned", 32), ("short", 16), ("unsigned short", 16), ("char", 8), ("unsigned char", 8), ("signed char", 8)]
+FIELDS = [
+    ("int", 32), ("unsigned", 32), ("short", 16), ("unsigned short", 16), ("char", 8),
+    ("unsigned char", 8), ("signed char", 8)
+]
 
 
 class Structure:
@@ -38,7 +41,10 @@ class Structure:
             where = r.choice(["", f" {name}"])
             for _ in range(r.randrange(1, 5)):
                 self.member(depth + 1, prefix + (f"{name}." if where else ""), inner)
-            if not any(not line.rstrip(";").split(":")[0].strip() in [each for each, _ in FIELDS] for line in inner):
+            if not any(
+                not line.rstrip(";").split(":")[0].strip() in [each for each, _ in FIELDS]
+                for line in inner
+            ):
                 inner.append(f"char c{name};")
             lines.append(f"{r.choice(['struct', 'union'])} {{ {' '.join(inner)} }}{where};")
         else:
@@ -60,7 +66,8 @@ class Structure:
         kind = self.random.choice(["struct", "struct", "union"])
         name = f"{kind} s{self.number}"
         out = [f"{name} {{ {' '.join(lines)} }};", f"struct in{self.number} {{ char before; {name} inside; char after; }};",
-               f"static {name} v{self.number};", f"static void show{self.number}(void) {{", f"    {name} *at = &v{self.number}, copy;",
+               f"static {name} v{self.number};", f"static void show{self.number}(void) {{",
+               f"    {name} *at = &v{self.number}, copy;",
                f'    printf("{self.number}: %d %d\\n", (int)sizeof({name}), (int)sizeof(struct in{self.number}));']
         for member, type_name in self.plain:
             out.append(f'    printf(" %d", (int)((char *)&at->{member} - (char *)at));')
@@ -78,7 +85,9 @@ class Structure:
 def main(number):
     random_numbers = random.Random(number)
     print("#include <stdio.h>")
-    print("static void clear(void *what, int size) { char *at = what; while (size-- > 0) *at++ = 0; }")
+    print(
+        "static void clear(void *what, int size) { char *at = what; while (size-- > 0) *at++ = 0; }"
+    )
     print("static void fill(void *what, int size) { char *at = what; while (size > 0) *at++ = 7 * size--; }")
     print('static void bytes(void *what, int size) { char *at = what; printf("\\n"); while (size-- > 0) printf("%02x", *at++); }')
     for each in range(40):

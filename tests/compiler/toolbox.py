@@ -17,7 +17,9 @@ GCC_WORDS = ["-march=rv64im", "-mabi=lp64", "-mno-relax", "-O0", "-w", "-funsign
 def run(words, folder=None, seconds=600):
     """Runs a program; gives its status, output and errors. One that takes too long has the status 'time'."""
     try:
-        done = subprocess.run([str(word) for word in words], cwd=folder, capture_output=True, timeout=seconds)
+        done = subprocess.run(
+            [str(word) for word in words], cwd=folder, capture_output=True, timeout=seconds
+        )
     except subprocess.TimeoutExpired:
         return "time", b"", b""
     return done.returncode, done.stdout, done.stderr
@@ -45,12 +47,18 @@ class Box:
         if not self.cc:
             self.cc = [self.folder / "cc"]
             must(["gcc", *HOST_WORDS, "-o", self.cc[0], COMPILER / "cc.c", COMPILER / "start.c"])
-        text = "\n".join(line.split("#")[0].split(";")[0] for line in (TINYCC / "start.hex0").read_text().splitlines())
+        text = "\n".join(
+            line.split("#")[0].split(";")[0]
+            for line in (TINYCC / "start.hex0").read_text().splitlines()
+        )
         (self.folder / "start.o").write_bytes(bytes.fromhex("".join(text.split())))
         self.objects = [self.folder / "start.o"]
         for name in ("system", "library"):
             made = self.folder / f"{name}.o"
-            must(["riscv64-unknown-elf-gcc", *GCC_WORDS, "-I", self.include, "-c", "-o", made, TINYCC / f"{name}.c"])
+            must([
+                "riscv64-unknown-elf-gcc", *GCC_WORDS, "-I", self.include, "-c", "-o", made,
+                TINYCC / f"{name}.c"
+            ])
             self.objects.append(made)
 
     def by_gcc(self, sources, out):
@@ -58,7 +66,10 @@ class Box:
                     "-lgcc"])
 
     def by_cc(self, sources, out, words=()):
-        return run([*self.cc, *words, "-I", self.include, "-o", out, *sources, TINYCC / "library.c", TINYCC / "system.c"])
+        return run([
+            *self.cc, *words, "-I", self.include, "-o", out, *sources, TINYCC / "library.c",
+            TINYCC / "system.c"
+        ])
 
     def same(self, sources, stem):
         """Compiles sources by both, and runs what they made. Gives '' where both leave the same, else what is wrong."""
@@ -75,7 +86,9 @@ class Box:
 
 
 def difference(one, other):
-    lines, others = one.decode(errors="replace").splitlines(), other.decode(errors="replace").splitlines()
+    lines, others = one.decode(
+        errors="replace"
+    ).splitlines(), other.decode(errors="replace").splitlines()
     for number, (mine, yours) in enumerate(zip(lines, others), 1):
         if mine != yours:
             return f"differs in line {number}: {mine!r} and {yours!r}"

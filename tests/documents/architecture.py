@@ -49,7 +49,9 @@ def boxes(text):
     """The boxes of the drawing by name, each with its line, and the drawing's lines."""
     drawing = re.search(r"^```text\n(.*?)^```", text, re.M | re.S)
     lines = drawing.group(1).splitlines() if drawing else []
-    return {name: at for at, line in enumerate(lines) for name in re.findall(r"┌─ (\w+) ─", line)}, lines
+    return {
+        name: at for at, line in enumerate(lines) for name in re.findall(r"┌─ (\w+) ─", line)
+    }, lines
 
 
 def check_members(table, needs):
@@ -65,7 +67,9 @@ def check_families(table, needs):
     """Each family stands on exactly the families on which its crates stand."""
     family_of = {crate: family for family, (crates, _) in table.items() for crate in crates}
     for family, (crates, said) in table.items():
-        below = {family_of.get(other) for crate in crates for other in needs.get(crate, [])} - {family}
+        below = {
+            family_of.get(other) for crate in crates for other in needs.get(crate, [])
+        } - {family}
         if set(said) != below:
             yield f"family {family}: stands on {sorted(map(str, below))}, and the table says {sorted(said)}"
 
@@ -85,7 +89,9 @@ def check_drawing(table, placed, lines):
 
 def check_crates(text, needs):
     """The table of crates has each crate once, after those that it stands on."""
-    listed = [names(row[0])[0] for row in rows(section(text, "## The crates, lowest first"), "Crate")]
+    listed = [
+        names(row[0])[0] for row in rows(section(text, "## The crates, lowest first"), "Crate")
+    ]
     for crate in sorted(set(listed) ^ set(needs)):
         yield f"{crate}: not both in crates.txt and in the table of crates"
     for crate in sorted({crate for crate in listed if listed.count(crate) > 1}):

@@ -6,7 +6,9 @@ from architecture import stands_on
 
 # What a benchmark makes and git ignores.
 MADE = {"bench/work/"}
-ROOTED = re.compile(r"(?<![\w./*-])((?:crates|docs|tests|tools|examples|bench|build|\.ci)/[\w./*-]*[\w*/])")
+ROOTED = re.compile(
+    r"(?<![\w./*-])((?:crates|docs|tests|tools|examples|bench|build|\.ci)/[\w./*-]*[\w*/])"
+)
 FILE = re.compile(r"`((?:specs|src|proofs)/[\w/]+\.\w+|\w+\.(?:antt|rt))`")
 LINK = re.compile(r"\]\(([^)\s]+)\)")
 QUOTED = r"`[\w-]+`"
@@ -25,11 +27,16 @@ DEFINED = [
 def documents(root):
     found = [*sorted(root.glob("*.md")), *sorted((root / "docs").rglob("*.md"))]
     found += sorted((root / "examples").glob("*/README.md"))
-    return found + [it for top in ("tests", "bench") for it in sorted((root / top).rglob("README.md"))]
+    return found + [
+        it for top in ("tests", "bench") for it in sorted((root / top).rglob("README.md"))
+    ]
 
 
 def sources(root, crate):
-    return [path for folder in ("src", "specs", "proofs") for path in sorted((root / "crates" / crate / folder).rglob("*.*t"))]
+    return [
+        path for folder in ("src", "specs", "proofs")
+        for path in sorted((root / "crates" / crate / folder).rglob("*.*t"))
+    ]
 
 
 @cache
@@ -80,7 +87,9 @@ def check_files(root, paragraph, crates):
         before = re.findall(r"crates/(\w+)/?(specs|src|proofs)?", paragraph[:found.start()])
         crate, folder = (named.group(1), "") if named else before[-1] if before else ("", "")
         end = found.group(1) if "/" in found.group(1) else f"{folder}/**/{found.group(1)}" if folder else f"**/{found.group(1)}"
-        if not any(list((root / "crates" / other).glob(end)) for other in ([crate] if crate else crates)):
+        if not any(
+            list((root / "crates" / other).glob(end)) for other in ([crate] if crate else crates)
+        ):
             yield f"{found.group(1)}: no such file" + (f" of {crate}" if crate else "")
 
 
@@ -99,7 +108,9 @@ def check_qualified(root, text, crates):
             yield f"{cited}: no such name"
     for cited in re.findall(r"`(?:Rattle\.)?(\w+\.(?:specs|proofs)\.[\w.-]+)`", text):
         crate, *parts = cited.split(".")
-        if crate != "std" and not (crate in crates and holds(root, [crate], set(parts) - {"declared"})):
+        if crate != "std" and not (
+            crate in crates and holds(root, [crate], set(parts) - {"declared"})
+        ):
             yield f"{cited}: no such name"
 
 
@@ -126,11 +137,15 @@ def check_beside(root, text, crates, has_kit):
 def words(root):
     """Every word of the crates' sources and of what tests, examples and benchmarks are made of, and the names of their files."""
     files = [path for crate in stands_on(root) for path in sources(root, crate)]
-    files += [path for folder in ("tests", "examples", "bench") for path in (root / folder).rglob("*")]
+    files += [
+        path for folder in ("tests", "examples", "bench") for path in (root / folder).rglob("*")
+    ]
     held = set(stands_on(root))
     for path in files:
         if path.is_file() and path.suffix != ".md":
-            held |= {path.stem, path.parent.name, *re.findall(r"\w+", path.read_text(errors="ignore"))}
+            held |= {
+                path.stem, path.parent.name, *re.findall(r"\w+", path.read_text(errors="ignore"))
+            }
     return held
 
 
@@ -151,7 +166,9 @@ def clauses(root, crate):
         _, *functions = re.split(r"\bfn (?=\w)", path.read_text())
         for function in functions:
             name = re.match(r"\w+", function)[0]
-            found.setdefault(name, set()).update(re.findall(r"^\s+(?:ensures|requires) (\w+) \{", function, re.M))
+            found.setdefault(name, set()).update(
+                re.findall(r"^\s+(?:ensures|requires) (\w+) \{", function, re.M)
+            )
     return found
 
 

@@ -4,7 +4,8 @@ The ceilings are what the code has: they fall with it and never rise.
 """
 import re
 
-# so many functions of src have more than five parameters, none has more than so many, and so many conditions ask for a file's name where a
+# so many functions of src have more than five parameters, none has more than so many, and so many
+# conditions ask for a file's name where a
 # type could
 WITH_SIX, MOST, NAMED = 3, 6, 8
 
@@ -49,7 +50,9 @@ def functions(root):
         text = path.read_text()
         for found in FUNCTION.finditer(text):
             line = text.count("\n", 0, found.start(1)) + 1
-            yield parameters(text, found.end()), f"{path.relative_to(root)}:{line}: {found.group(1)}"
+            yield parameters(
+                text, found.end()
+            ), f"{path.relative_to(root)}:{line}: {found.group(1)}"
 
 
 def conditions(root):

@@ -63,7 +63,10 @@ def faults(root):
         if count > most:
             yield f"{name}: {count} words, more than {most}"
     at_top = [it for it in sorted(root.glob("*.md")) if it.name != "README.md"]
-    pages = [*at_top, *sorted((root / "docs").rglob("*.md")), *sorted(root.glob("examples/*/*.md")), *sorted(root.glob("tests/**/*.md")), *sorted(root.glob("bench/**/*.md"))]
+    pages = [
+        *at_top, *sorted((root / "docs").rglob("*.md")), *sorted(root.glob("examples/*/*.md")),
+        *sorted(root.glob("tests/**/*.md")), *sorted(root.glob("bench/**/*.md"))
+    ]
     for page in pages:
         if not asks(page.read_text()):
             yield f"{page.relative_to(root)}: no question under the title"

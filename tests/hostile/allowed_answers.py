@@ -37,29 +37,54 @@ COMMANDS = {
     "show": ({0: "ddc-report (?s:.*)\nend\n"}, (5,)),
     "audit": ({0: COMPARED, 3: COMPARED_OTHERWISE}, (2, 4, 6, 7, 10, 11)),
     "part": ({0: COMPARED, 3: COMPARED_OTHERWISE}, (2, 4, 6, 7, 8, 10, 11)),
-    "resume": ({0: COMPARED, 3: COMPARED_OTHERWISE, 9: "save refused [1-3]\n"}, (2, 4, 6, 7, 8, 10, 11)),
-    "delta-start": ({0: COMPARED, 3: COMPARED_OTHERWISE, 9: "save refused [1-3]\n"}, (2, 4, 6, 7, 8, 10, 11)),
-    "delta-resume": ({0: COMPARED, 3: COMPARED_OTHERWISE, 9: "save refused [1-35-7]\n"}, (2, 4, 6, 7, 8, 10, 11)),
+    "resume": (
+        {0: COMPARED, 3: COMPARED_OTHERWISE, 9: "save refused [1-3]\n"}, (2, 4, 6, 7, 8, 10, 11)
+    ),
+    "delta-start": (
+        {0: COMPARED, 3: COMPARED_OTHERWISE, 9: "save refused [1-3]\n"}, (2, 4, 6, 7, 8, 10, 11)
+    ),
+    "delta-resume": (
+        {0: COMPARED, 3: COMPARED_OTHERWISE, 9: "save refused [1-35-7]\n"}, (2, 4, 6, 7, 8, 10, 11)
+    ),
     "verify": ({0: f"yes\n{COMPARED}{ASSUMED}", 3: f"{COMPARED_OTHERWISE}{ASSUMED}",
-                1: f"refuted (?:header|input|run|files|assembled|compare) {NUMBER}\n"}, (2, 4, 5, 10, 11)),
+                1: f"refuted (?:header|input|run|files|assembled|compare) {NUMBER}\n"}, (2, 4, 5,
+                10, 11)),
     "chain": ({0: f"chain {NUMBER} yes\n(?:assumes {NUMBER} implements {NAME} {NAME}\n|assumes {NUMBER} compiles {NAME} {NAME} {NAME}\n)*",
                1: f"audit {NUMBER}\nrefuted (?:header|input|run|files|assembled|compare) {NUMBER}\n", 3: f"audit {NUMBER}\n{COMPARED_OTHERWISE}",
-               4: f"audit {NUMBER}\n{COMMON[4]}", 5: f"audit {NUMBER}\n{COMMON[5]}"}, (2, 10, 11, 16)),
-    "kaem": ({0: f"done {NUMBER} steps {NUMBER}\n", 6: f"run failed [1-9][0-9]* {STOPPED}\n"}, (2, 10, 11, 15, 16)),
-    "kaem-verify": ({0: f"yes {NUMBER}\n", 1: f"refuted (?:header|file|run|streams|left) {NUMBER}\n"}, (2, 5, 10, 11, 15, 16)),
+               4: f"audit {NUMBER}\n{COMMON[4]}", 5: f"audit {NUMBER}\n{COMMON[5]}"}, (2, 10, 11,
+               16)),
+    "kaem": (
+        {0: f"done {NUMBER} steps {NUMBER}\n", 6: f"run failed [1-9][0-9]* {STOPPED}\n"},
+        (2, 10, 11, 15, 16)
+    ),
+    "kaem-verify": (
+        {0: f"yes {NUMBER}\n", 1: f"refuted (?:header|file|run|streams|left) {NUMBER}\n"},
+        (2, 5, 10, 11, 15, 16)
+    ),
     "kaem-left": ({0: f"left {NUMBER} [^\n]+ {NUMBER} status {NUMBER} step [1-9][0-9]*\n", 10: f"{COMMON[10]}|not left {NUMBER} [^\n]+ status {NUMBER} step [1-9][0-9]*\n",
                    6: f"run failed [1-9][0-9]* {STOPPED}\n|(?:not )?left {NUMBER} [^\n]+ (?:{TRAP}|call {NUMBER}|spent) step [1-9][0-9]*\n"}, (2, 11, 15, 16)),
     "step": ({0: f"(?:(?:{REPLY})\n)*"}, (2, 4, 6, 7, 10, 11)),
     "left": ({0: f"left {NAME} [^\n]+ {NUMBER} status {NUMBER} step [1-9][0-9]*\n", 10: f"{COMMON[10]}|not left {NAME} [^\n]+ status {NUMBER} step [1-9][0-9]*\n",
               6: f"{COMMON[6]}|(?:not )?left {NAME} [^\n]+ (?:{TRAP}|call {NUMBER}|spent) step [1-9][0-9]*\n"}, (2, 4, 7, 11)),
     "cut": ({0: f"cut {NUMBER} step {NUMBER}\n", 14: "too many segments\n"}, (2, 4, 6, 7, 10, 11)),
-    "segment": ({0: f"segment yes {NUMBER}\n", 1: f"refuted segment (?:(?:from|to) [1-3]|later|far|(?:ends|differs) {NUMBER})\n"}, (2, 10, 11)),
-    "ends": ({0: f"stage {NAME} {NUMBER}\n{LEFT}made {NUMBER} [0-9a-f]{{64}}\n", 1: f"refuted (?:first (?:[1-3]|differs {NUMBER})|last [1-3])\n"}, (2, 4, 6, 7, 10, 11)),
+    "segment": ({
+        0: f"segment yes {NUMBER}\n",
+        1: f"refuted segment (?:(?:from|to) [1-3]|later|far|(?:ends|differs) {NUMBER})\n"
+    }, (2, 10, 11)),
+    "ends": ({
+        0: f"stage {NAME} {NUMBER}\n{LEFT}made {NUMBER} [0-9a-f]{{64}}\n",
+        1: f"refuted (?:first (?:[1-3]|differs {NUMBER})|last [1-3])\n"
+    }, (2, 4, 6, 7, 10, 11)),
     "demo": ({0: f"demo {NUMBER} steps {NUMBER} equal yes\n", 3: COMPARED_OTHERWISE}, (6, 7)),
 }
-TEXTS = {command: {status: re.compile(form) for status, form in {**{it: COMMON[it] for it in common}, **own}.items()}
+TEXTS = {command: {
+    status: re.compile(form) for status,
+    form in {**{it: COMMON[it] for it in common}, **own}.items()
+}
          for command, (own, common) in COMMANDS.items()}
 # The word after the command that is saved, by the status.
-SAVES = {"asm": {0: 4}, "audit": {0: 2, 3: 2}, "kaem": {0: 3}, "part": {0: 3, 3: 3, 8: 2}, "resume": {0: 3, 3: 3, 8: 2},
+SAVES = {"asm": {0: 4}, "audit": {0: 2, 3: 2}, "kaem": {0: 3}, "part": {
+    0: 3, 3: 3, 8: 2
+}, "resume": {0: 3, 3: 3, 8: 2},
          "delta-start": {0: 4, 3: 4, 8: 3}, "delta-resume": {0: 4, 3: 4, 8: 3}}
 LONG_RUN = re.compile(rb"[0-9a-fA-Fx_]{9,}")

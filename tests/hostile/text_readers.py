@@ -14,7 +14,9 @@ def word_fault(word, is_first, quoted, after):
     """The number of a word's first fault by itself, or none."""
     if quoted and after is None:
         return 1
-    if b"\0" in word or not quoted and re.search(rb'["$\\]', word) or quoted and after not in (b"", b" ", b"\t", b"\r"):
+    if b"\0" in word or not quoted and re.search(rb'["$\\]', word) or quoted and after not in (
+        b"", b" ", b"\t", b"\r"
+    ):
         return 2
     if is_first and not re.sub(rb"^(?:\./)+", b"", word):
         return 2
@@ -57,11 +59,20 @@ def list_fault(listed):
 
 def random_script(chance):
     """A script of any tokens, most of which are words."""
-    tokens = [b"copy.elf", b"./copy.elf", b"out", b'"out"', b"in", b'""', b'"a b"', b"a#b", b"x", b"./", b"none", b"w" * 255]
-    rare = [b"w" * 256, b"$x", b"\\", b'"', b"\0", b'"a"b', b"a\"", b"#", b"# a comment", b"./" * 128, b" a" * 63, b"\na" * 4094]
+    tokens = [
+        b"copy.elf", b"./copy.elf", b"out", b'"out"', b"in", b'""', b'"a b"', b"a#b", b"x", b"./",
+        b"none", b"w" * 255
+    ]
+    rare = [
+        b"w" * 256, b"$x", b"\\", b'"', b"\0", b'"a"b', b"a\"", b"#", b"# a comment", b"./" * 128,
+        b" a" * 63, b"\na" * 4094
+    ]
     pieces = []
     for _ in range(chance.choice([1, 3, 10, 40])):
-        pieces += [chance.choice(rare if chance.randrange(12) == 0 else tokens), chance.choice([b" ", b"\n", b"\n", b"\t", b"\r\n", b"  ", b""])]
+        pieces += [
+            chance.choice(rare if chance.randrange(12) == 0 else tokens),
+            chance.choice([b" ", b"\n", b"\n", b"\t", b"\r\n", b"  ", b""])
+        ]
     return b"".join(pieces)
 
 
@@ -69,5 +80,8 @@ def random_list(chance):
     """A list of any words, most of which name files that are there."""
     names = [b"copy.elf", b"./in", b"in", b"sha256.elf", b"script", b"list"]
     rare = [b"none", b"./", b"", b"a b", b"\x7f", b"w" * 255, b"w" * 256, b"new", b"././new", b"\0"]
-    lines = [chance.choice(rare if chance.randrange(8) == 0 else names) for _ in range(chance.randrange(6))]
+    lines = [
+        chance.choice(rare if chance.randrange(8) == 0 else names)
+        for _ in range(chance.randrange(6))
+    ]
     return b"".join(it + b"\n" for it in lines)[: None if chance.randrange(8) else -1]

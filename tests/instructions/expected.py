@@ -67,7 +67,9 @@ def tables():
 
 def main():
     rows, others = tables()
-    lines = [f'(0x{word:08x}, "{shown}")' for word, shown in rows] + [f"0x{word:08x}" for word in others]
+    lines = [
+        f'(0x{word:08x}, "{shown}")' for word, shown in rows
+    ] + [f"0x{word:08x}" for word in others]
     if sys.argv[1:] != ["check"]:
         print(*(line + "," for line in lines), sep="\n")
         return

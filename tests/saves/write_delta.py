@@ -15,7 +15,9 @@ from write_save import Audit, counted, digest, reserved_text, runs, sized, slot_
 
 def listed(state):
     """The pages that the text of a state lists, by their numbers."""
-    return {number: bytes(page) for number, page in state.pages.items() if bytes(page) != guest.ZEROS}
+    return {
+        number: bytes(page) for number, page in state.pages.items() if bytes(page) != guest.ZEROS
+    }
 
 
 def page_changes(base, now):
@@ -70,14 +72,18 @@ class Place:
     """Where an audit stands: the text of its save, the stages that are done and the present guest."""
 
     def __init__(self, audit):
-        self.save, self.old_save, self.line = audit.save(), None, "paused {} {}\n".format(*audit.place())
+        self.save, self.old_save, self.line = audit.save(), None, "paused {} {}\n".format(
+            *audit.place()
+        )
         if audit.now.reserved is None:
             self.old_save = audit.save(1)
         self.done, self.now = list(audit.done), copy.deepcopy(audit.now)
 
     def delta(self, base):
         kept = kept_stages(base.done, self.done)
-        return b"ddcdelt2" + digest(base.save) + u32(kept) + counted(self.done[kept:]) + patch_text(base.now, self.now)
+        return b"ddcdelt2" + digest(base.save) + u32(kept) + counted(self.done[kept:]) + patch_text(
+            base.now, self.now
+        )
 
 
 def places(path, steps):

@@ -84,7 +84,9 @@ def state_text(now, form):
         *map(u64, now.heap),
         counted(u32(first) + u32(count) for first, count in runs(now.mapped)),
         counted(u32(number) + page for number, page in pages if page != guest.ZEROS),
-        counted(u32(number) + u16(len(name)) + name + sized(content) for number, name, content in files),
+        counted(
+            u32(number) + u16(len(name)) + name + sized(content) for number, name, content in files
+        ),
         counted(slot_text(number, slot) for number, slot in sorted(now.slots.items())),
         sized(now.streams[1]),
         sized(now.streams[2]),
@@ -99,7 +101,9 @@ def mark(data):
 def done_text(ended, made):
     """A stage that is done: its guest, which stands at its exit, and its artefact."""
     left = (u16(len(name)) + name + mark(content) for name, content in ended.left().items())
-    return u64(ended.steps + 1) + mark(ended.streams[1]) + mark(ended.streams[2]) + counted(left) + sized(made)
+    return u64(ended.steps + 1) + mark(
+        ended.streams[1]
+    ) + mark(ended.streams[2]) + counted(left) + sized(made)
 
 
 class Audit:
@@ -121,9 +125,15 @@ class Audit:
         self.now = None
         if len(self.done) < len(self.recipe["stage"]):
             self.stage = self.recipe["stage"][len(self.done)]
-            files = {guest.plain_name(entry["path"].encode()): self.contents[entry["from"]] for entry in self.stage.get("files", [])}
+            files = {
+                guest.plain_name(entry["path"].encode()): self.contents[entry["from"]]
+                for entry in self.stage.get("files", [])
+            }
             words = [[text.encode() for text in self.stage.get(key, [])] for key in ("args", "env")]
-            self.now = guest.Guest(self.contents[self.stage["program"]], *words, files, self.stage.get("heap", DEFAULT_HEAP))
+            self.now = guest.Guest(
+                self.contents[self.stage["program"]], *words, files,
+                self.stage.get("heap", DEFAULT_HEAP)
+            )
 
     def advance(self, steps):
         """Takes so many steps. An audit that is over takes none."""
@@ -136,7 +146,9 @@ class Audit:
 
     def finish(self):
         output = self.stage["output"]
-        made = bytes(self.now.streams[1]) if output == "-" else self.now.left()[guest.plain_name(output.encode())]
+        made = bytes(self.now.streams[1]) if output == "-" else self.now.left()[
+            guest.plain_name(output.encode())
+        ]
         if self.now.exited != 0:
             raise SystemExit(f"stage {self.stage['name']} exits with {self.now.exited}")
         self.contents[self.stage["name"]] = made
@@ -148,7 +160,9 @@ class Audit:
         return self.stage["name"], self.now.steps
 
     def save(self, form=2):
-        return b"ddcsave%d" % form + digest(self.text) + counted(self.inputs) + counted(self.done) + state_text(self.now, form)
+        return b"ddcsave%d" % form + digest(self.text) + counted(
+            self.inputs
+        ) + counted(self.done) + state_text(self.now, form)
 
 
 def main():

@@ -313,8 +313,8 @@ fn start_fails(
     number: &str,
 ) -> Result<(), OutOfMemory> {
     let mut program = EXIT;
-    if let Some(place) = program.get_mut(index) {
-        *place = byte;
+    if let Some(target) = program.get_mut(index) {
+        *target = byte;
     }
     let cause = format!(in alloc; "start elf {number} step 0")?;
     run_fails(rt, alloc, SAME, &program, cause.as_str())

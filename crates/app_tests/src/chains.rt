@@ -43,7 +43,7 @@ fn files(alloc: Global) -> Result<MemShelf, OutOfMemory> {
     let copy = decoded(alloc, COPY)?;
     let mut longer = Bytes::from_slice(alloc, copy.as_slice())?;
     longer.push(0)?;
-    let (front, back) = COPY.split_once('\n').unwrap_or((COPY, ""));
+    let (leading, back) = COPY.split_once('\n').unwrap_or((COPY, ""));
     shelf.set("copy.elf", copy.as_slice())?;
     shelf.set("same.elf", copy.as_slice())?;
     shelf.set("longer.elf", longer.as_slice())?;
@@ -52,7 +52,7 @@ fn files(alloc: Global) -> Result<MemShelf, OutOfMemory> {
         "commented.hex0",
         format!(in alloc; "{COPY}# no more\n")?.as_bytes(),
     )?;
-    shelf.set("front.hex0", front.as_bytes())?;
+    shelf.set("front.hex0", leading.as_bytes())?;
     shelf.set("back.hex0", back.as_bytes())?;
     shelf.set("a.bin", b"abc")?;
     shelf.set("b.bin", b"abc")?;
@@ -655,10 +655,10 @@ fn too_many(
     rt: &impl Abort,
     alloc: Global,
     shelf: &mut MemShelf,
-    &(front, end, text): &Ends,
+    &(leading, end, text): &Ends,
 ) -> Result<(), OutOfMemory> {
     let whole = many(alloc, 64)?;
-    let list = format!(in alloc; "{front}{whole}{end}")?;
+    let list = format!(in alloc; "{leading}{whole}{end}")?;
     chains(rt, alloc, shelf, list.as_str(), (Status::ListRefused, text))
 }
 

@@ -77,7 +77,7 @@ static START_SAVES: [Piece; 2] = [
 
 /// A failed load sets nothing, and a failed save nothing but its own name; the same call again continues.
 #[test]
-fn faults_of_delta_start_are_said_and_pass(rt: HostRuntime) -> Result<(), Fail> {
+fn faults_of_delta_start_are_reported_and_pass(rt: HostRuntime) -> Result<(), Fail> {
     for load in START_LOADS {
         start_load_passes(&rt, rt.alloc(), load)?;
     }
@@ -120,7 +120,7 @@ static RESUME_SAVES: [Piece; 2] = [
 ];
 
 #[test]
-fn faults_of_delta_resume_are_said_and_pass(rt: HostRuntime) -> Result<(), Fail> {
+fn faults_of_delta_resume_are_reported_and_pass(rt: HostRuntime) -> Result<(), Fail> {
     for load in RESUME_LOADS {
         resume_load_passes(&rt, rt.alloc(), load)?;
     }

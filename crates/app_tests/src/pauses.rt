@@ -576,7 +576,7 @@ static PART_SAVES: [Piece; 2] = [
 ];
 
 #[test]
-fn faults_of_part_are_said_and_pass(rt: HostRuntime) -> Result<(), Fail> {
+fn faults_of_part_are_reported_and_pass(rt: HostRuntime) -> Result<(), Fail> {
     for (load, text) in PART_LOADS {
         part_loads_pass(&rt, rt.alloc(), load, text)?;
     }
@@ -637,7 +637,7 @@ static RESUME_SAVES: [Piece; 2] = [
 ];
 
 #[test]
-fn faults_of_resume_are_said_and_pass(rt: HostRuntime) -> Result<(), Fail> {
+fn faults_of_resume_are_reported_and_pass(rt: HostRuntime) -> Result<(), Fail> {
     for (load, text) in RESUME_LOADS {
         resume_loads_pass(&rt, rt.alloc(), load, text)?;
     }

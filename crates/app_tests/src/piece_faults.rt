@@ -46,7 +46,7 @@ fn cut_load_passes(rt: &impl Abort, alloc: Global, load: (u64, &str)) -> Result<
 /// Whether the states before one of a number, from 1, stand as in the whole cut, and none after it.
 fn stand_before(shelf: &MemShelf, whole: &MemShelf, save: u64) -> bool {
     let names = ["c.0", "c.1", "c.2", "c.3"];
-    names.iter().zip(1u64..5).all(|(name, number)| stands_before(
+    names.iter().zip(1u64..5).all(|(name, number)| expects_before(
         shelf.get(name),
         whole.get(name),
         number,
@@ -55,7 +55,7 @@ fn stand_before(shelf: &MemShelf, whole: &MemShelf, save: u64) -> bool {
 }
 
 /// The same of the state of a number, which is found here and held there.
-fn stands_before(found: Option<&[u8]>, held: Option<&[u8]>, number: u64, save: u64) -> bool {
+fn expects_before(found: Option<&[u8]>, held: Option<&[u8]>, number: u64, save: u64) -> bool {
     if number < save {
         found == held
     } else {
@@ -88,7 +88,7 @@ fn cut_save_passes(
 }
 
 #[test]
-fn faults_of_cut_are_said_and_pass(rt: HostRuntime) -> Result<(), Fail> {
+fn faults_of_cut_are_reported_and_pass(rt: HostRuntime) -> Result<(), Fail> {
     for load in CUT_LOADS {
         cut_load_passes(&rt, rt.alloc(), load)?;
     }
@@ -135,7 +135,7 @@ fn names_cut_load(
 }
 
 #[test]
-fn faults_of_checks_are_said(rt: HostRuntime) -> Result<(), Fail> {
+fn faults_of_checks_are_reported(rt: HostRuntime) -> Result<(), Fail> {
     for load in ENDS_LOADS {
         names_cut_load(&rt, rt.alloc(), ENDS_WORDS, load)?;
     }

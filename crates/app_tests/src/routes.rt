@@ -278,7 +278,7 @@ fn forms_are_compared(rt: HostRuntime) -> Result<(), Fail> {
     Ok(())
 }
 
-fn has_a_place(rt: &impl Abort, alloc: Global, shelf: &mut MemShelf) -> Result<(), OutOfMemory> {
+fn has_a_number(rt: &impl Abort, alloc: Global, shelf: &mut MemShelf) -> Result<(), OutOfMemory> {
     let equal = (Status::Yes, "equal three bin 3\n");
     comes_to(rt, alloc, shelf, "audit", equal)?;
     alter(alloc, shelf, "bin equal 3", "bin equal 4")?;
@@ -290,10 +290,10 @@ fn has_a_place(rt: &impl Abort, alloc: Global, shelf: &mut MemShelf) -> Result<(
 
 /// A recipe of format 2 that compares one stage: its comparison has the place 1, and under form 1 the report is another's.
 #[test]
-fn one_comparison_has_a_place(rt: HostRuntime) -> Result<(), Fail> {
+fn one_comparison_has_a_number(rt: HostRuntime) -> Result<(), Fail> {
     let stages = "stages = [\"two\", \"three\"]";
     let mut shelf = shelf_of(rt.alloc(), stages, "stages = [\"three\"]")?;
-    has_a_place(&rt, rt.alloc(), &mut shelf)?;
+    has_a_number(&rt, rt.alloc(), &mut shelf)?;
     Ok(())
 }
 

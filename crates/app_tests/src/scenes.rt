@@ -176,7 +176,7 @@ pub(crate) fn are_calls(calls: &[Call], wanted: &[Wanted]) -> bool {
 }
 
 /// Asks what a step says of a file store.
-fn stands(rt: &impl Abort, shelf: &MemShelf, step: Step) {
+fn expects(rt: &impl Abort, shelf: &MemShelf, step: Step) {
     match step {
         Step::Holds(name, text) => assert!(rt; holds(shelf, name, text.as_bytes()), "{name}"),
         Step::Absent(name) => assert!(rt; shelf.get(name).is_none(), "{name}"),
@@ -209,7 +209,7 @@ fn go(rt: &impl Abort, alloc: Global, shelf: &mut MemShelf, step: Step) -> Resul
         Step::FailLoad(number) => shelf.fail_load(number),
         Step::FailSave(number) => shelf.fail_save(number),
         _ => {
-            stands(rt, shelf, step);
+            expects(rt, shelf, step);
             Ok(())
         }
     }

@@ -56,7 +56,7 @@ struct Talk<'t> {
     failing_put: u64,
     status: Status,
     replies: &'t [&'t str],
-    left: &'t [u8],
+    unread: &'t [u8],
 }
 
 /// Holds a session on a file store.
@@ -79,7 +79,7 @@ fn holds_talk(
 fn comes_to(rt: &impl Abort, talk: &Talk<'_>, status: Status, out: &MemSink, prompt: &MemPrompt) {
     assert_eq!(rt; status, talk.status);
     assert!(rt; are_pieces(out.pieces(), talk.replies), "{:?}", talk.words);
-    assert_eq!(rt; prompt.left(), talk.left);
+    assert_eq!(rt; prompt.unread(), talk.unread);
 }
 
 /// Holds a session over the worked files, whose recipe has a piece changed.
@@ -100,7 +100,7 @@ fn talks(
     stage: &str,
     lines: &[u8],
     replies: &[&str],
-    left: &[u8],
+    unread: &[u8],
 ) -> Result<(), OutOfMemory> {
     let talk = Talk {
         words: &["step", "a.toml", stage],
@@ -109,7 +109,7 @@ fn talks(
         failing_put: 0,
         status: Status::Yes,
         replies,
-        left,
+        unread,
     };
     talks_over(rt, alloc, ("", ""), &talk)
 }
@@ -259,7 +259,7 @@ fn answers_lines(
     let status = run(alloc, &WORDS, shelf, &mut out, &mut prompt);
     assert_eq!(rt; status, Status::Yes);
     assert_eq!(rt; out.pieces().len(), 65_536);
-    assert_eq!(rt; prompt.left(), b"?\n".as_slice());
+    assert_eq!(rt; prompt.unread(), b"?\n".as_slice());
     Ok(())
 }
 
@@ -291,8 +291,8 @@ fn failed_line(
     rt: &impl Abort,
     alloc: Global,
     failing: u64,
-    said: usize,
-    left: &str,
+    reported: usize,
+    unread: &str,
 ) -> Result<(), OutOfMemory> {
     let status = if failing < 7 {
         Status::OutFault
@@ -305,8 +305,8 @@ fn failed_line(
         failing_line: failing,
         failing_put: 0,
         status,
-        replies: REPLIES.get(..said).unwrap_or(&[]),
-        left: left.as_bytes(),
+        replies: REPLIES.get(..reported).unwrap_or(&[]),
+        unread: unread.as_bytes(),
     };
     talks_over(rt, alloc, ("", ""), &talk)
 }
@@ -315,8 +315,8 @@ fn failed_line(
 /// of its bytes.
 #[test]
 fn a_failed_line_ends_the_session(rt: HostRuntime) -> Result<(), Fail> {
-    for (failing, said, left) in FAILED_LINES {
-        failed_line(&rt, rt.alloc(), failing, said, left)?;
+    for (failing, reported, unread) in FAILED_LINES {
+        failed_line(&rt, rt.alloc(), failing, reported, unread)?;
     }
     Ok(())
 }
@@ -334,8 +334,8 @@ fn failed_put(
     rt: &impl Abort,
     alloc: Global,
     failing: u64,
-    said: usize,
-    left: &str,
+    reported: usize,
+    unread: &str,
 ) -> Result<(), OutOfMemory> {
     let talk = Talk {
         words: &WORDS,
@@ -343,8 +343,8 @@ fn failed_put(
         failing_line: 0,
         failing_put: failing,
         status: Status::OutFault,
-        replies: REPLIES.get(..said).unwrap_or(&[]),
-        left: left.as_bytes(),
+        replies: REPLIES.get(..reported).unwrap_or(&[]),
+        unread: unread.as_bytes(),
     };
     talks_over(rt, alloc, ("", ""), &talk)
 }
@@ -352,8 +352,8 @@ fn failed_put(
 /// Each put of the worked session fails in turn, after half of its reply; the lines so far are taken, and no further one.
 #[test]
 fn a_failed_put_ends_the_session(rt: HostRuntime) -> Result<(), Fail> {
-    for (failing, said, left) in FAILED_PUTS {
-        failed_put(&rt, rt.alloc(), failing, said, left)?;
+    for (failing, reported, unread) in FAILED_PUTS {
+        failed_put(&rt, rt.alloc(), failing, reported, unread)?;
     }
     Ok(())
 }
@@ -373,7 +373,7 @@ fn says(
         failing_put: 0,
         status,
         replies: &[text],
-        left: b"where\n",
+        unread: b"where\n",
     };
     holds_talk(rt, alloc, shelf, &talk)
 }
@@ -536,7 +536,7 @@ fn talks_alone(
         failing_put: 0,
         status: Status::Yes,
         replies,
-        left: b"",
+        unread: b"",
     };
     talks_over(rt, alloc, change, &talk)
 }
@@ -617,8 +617,8 @@ fn demonstrations_are_made(rt: HostRuntime) -> Result<(), Fail> {
 }
 
 fn loads_two(rt: &impl Abort, alloc: Global, shelf: &mut MemShelf) -> Result<(), OutOfMemory> {
-    let said = (Status::Yes, "demo 5 steps 64 equal yes\n");
-    says(rt, alloc, shelf, &["demo", "5"], said)?;
+    let reported = (Status::Yes, "demo 5 steps 64 equal yes\n");
+    says(rt, alloc, shelf, &["demo", "5"], reported)?;
     let wanted = [
         ("copy.elf", Some(268_435_456)),
         ("copy.hex0", Some(268_435_456)),

@@ -629,7 +629,7 @@ fn fault_passes(rt: &impl Abort, alloc: Global, load: u64, text: &str) -> Result
 
 /// The recipe is load 1, the report load 2, and the inputs are loads 3 to 6.
 #[test]
-fn faults_are_said_and_pass(rt: HostRuntime) -> Result<(), Fail> {
+fn faults_are_reported_and_pass(rt: HostRuntime) -> Result<(), Fail> {
     for (load, text) in FAULTS {
         fault_passes(&rt, rt.alloc(), load, text)?;
     }

@@ -23,7 +23,7 @@ use Rattle.wheeler.specs.Listed.{BinaryImplements, ConcludesListed, ListedHold, 
 use Rattle.wheeler.specs.Meaning.{Compiles as Compiling, Implements as IsProgram, Prescribes}
 use Rattle.wheeler.specs.declared.assumption.Assumption.{Assumption}
 use Rattle.wheeler.specs.declared.assumption.Assumption.TheVariants.{Implements, Compiles}
-use Rattle.wheeler.proofs.Argument.{All-back, All-front}
+use Rattle.wheeler.proofs.Argument.{All-back, All-prefix}
 use Rattle.wheeler.proofs.Naming.{get-split}
 use Rattle.audit_chain.specs.declared.link.Link.{Link}
 use Rattle.audit_chain.specs.Chain.{input_bytes, given_contents, given_text, gives, is_given, names_input, is_struck, is_same_text, chain_line, remaining_after, same_files, same_text, text_of_stage, given_text_named, unstruck}
@@ -51,9 +51,9 @@ same-text : (a b : SourceText) → same_text a b ≡ true → a ≡ b
 unfolding same_text
 same-text a b is =
     let parts = and_parts (same_language (defined a.lang) (defined b.lang) && a.base == b.base) (same_files a.files b.files) is in
-    let front = and_parts (same_language (defined a.lang) (defined b.lang)) (a.base == b.base) parts.0 in
-    let lang = same-language a.lang b.lang front.0 in
-    let base = eqb-true a.base b.base front.1 in
+    let prefix = and_parts (same_language (defined a.lang) (defined b.lang)) (a.base == b.base) parts.0 in
+    let lang = same-language a.lang b.lang prefix.0 in
+    let base = eqb-true a.base b.base prefix.1 in
     let files = same-files a.files b.files parts.1 in
     λ i. record { lang = lang i; base = base i; files = files i }
 
@@ -95,7 +95,7 @@ given-source link source text is =
     λ i. record { lang = source.lang; base = source.base; files = files i } in
     sym same ∙ parts.1
 
-given-named : (link : Link) (name : List ℕ) (text : SourceText) → given_text_named link name ≡ Some text
+pub given-named : (link : Link) (name : List ℕ) (text : SourceText) → given_text_named link name ≡ Some text
     → full.text_named link.recipe (all_contents link.recipe link.inputs) name ≡ text
 unfolding full.text_named
 given-named link name text is = by (source_named link.recipe.sources name) is where
@@ -205,7 +205,7 @@ module _ (prescribes : Prescribes) (compiles : Compiling) where
       let mine = All-head IsTrueAudit link rest true_audits in
       let number : (length earlier + 1) - 1 ≡ length earlier = omega arith in
       let at : slice_get links ((length earlier + 1) - 1) ≡ Some link = ap (slice_get links) number ∙ ap (λ ls. slice_get ls (length earlier)) split ∙ get-split earlier link rest in
-      let held = lines-hold links earlier link (length earlier + 1) at audited (lines_listed link.recipe) (All-front (HoldsIn prescribes compiles links) own others remain) in
+      let held = lines-hold links earlier link (length earlier + 1) at audited (lines_listed link.recipe) (All-prefix (HoldsIn prescribes compiles links) own others remain) in
       let concluded = concludes link mine held in
       All-cons Concluded link rest concluded
       (each-concludes links concludes (earlier ++ link ∷ []) rest (split ∙ sym (append_assoc earlier (link ∷ []) rest)) (All-push Audited earlier link audited (mine, concluded))

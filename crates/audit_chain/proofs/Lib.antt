@@ -2,3 +2,4 @@ mod Turns
 mod Composing
 pub mod RestsLemmas
 pub mod OriginLemmas
+pub mod Settling

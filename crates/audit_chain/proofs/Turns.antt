@@ -11,10 +11,10 @@ use Rattle.audit_chain.specs.Chain.{is_struck, chain_line, remaining_after, unst
 abbrev pub kept : List Link → Link → List Assumption → List ChainLine
 kept earlier link lines = map (chain_line (length earlier + 1)) (filter (λ line. not (is_struck earlier link line)) lines)
 
-kept-append : (earlier : List Link) (link : Link) (front more : List Assumption) → kept earlier link (front ++ more) ≡ kept earlier link front ++ kept earlier link more
-kept-append earlier link front more =
+kept-append : (earlier : List Link) (link : Link) (prefix more : List Assumption) → kept earlier link (prefix ++ more) ≡ kept earlier link prefix ++ kept earlier link more
+kept-append earlier link prefix more =
     let passes = λ (line : Assumption). not (is_struck earlier link line) in
-    ap (map (chain_line (length earlier + 1))) (filter-append passes front more) ∙ map-append (chain_line (length earlier + 1)) (filter passes front) (filter passes more)
+    ap (map (chain_line (length earlier + 1))) (filter-append passes prefix more) ∙ map-append (chain_line (length earlier + 1)) (filter passes prefix) (filter passes more)
 
 -- one line more
 pub line_more : (earlier : List Link) (link : Link) (old now new : List ChainLine) (listed : List Assumption) (i : ℕ) (line : Assumption)
@@ -30,12 +30,12 @@ pub link_more : (lines new whole : List ChainLine) (links : List Link) (i : ℕ)
     → lines ++ remaining_after (take i links) (drop i links) ≡ whole → new ≡ lines ++ unstruck (take i links) link
     → new ++ remaining_after (take (i + 1) links) (drop (i + 1) links) ≡ whole
 link_more lines new whole links i link less is before after =
-    let front : drop i links ≡ link ∷ drop (i + 1) links = at_drop_more (λ (l : List Link). l) links i link less ∙ ap (λ (x : Link). x ∷ drop (i + 1) links) (sym is) in
+    let prefix : drop i links ≡ link ∷ drop (i + 1) links = at_drop_more (λ (l : List Link). l) links i link less ∙ ap (λ (x : Link). x ∷ drop (i + 1) links) (sym is) in
     let grown : take i links ++ link ∷ [] ≡ take (i + 1) links = sym (take_more links i link less ∙ ap (λ (x : Link). take i links ++ x ∷ []) (sym is)) in
     ap (λ ls. ls ++ remaining_after (take (i + 1) links) (drop (i + 1) links)) after
     ∙ append_assoc lines (unstruck (take i links) link) (remaining_after (take (i + 1) links) (drop (i + 1) links))
     ∙ ap (λ earlier. lines ++ (unstruck (take i links) link ++ remaining_after earlier (drop (i + 1) links))) (sym grown)
-    ∙ ap (λ rest. lines ++ remaining_after (take i links) rest) (sym front) ∙ before
+    ∙ ap (λ rest. lines ++ remaining_after (take i links) rest) (sym prefix) ∙ before
 
 pub links_end : (lines whole : List ChainLine) (links : List Link) (i : ℕ) → length links ≤ i
     → lines ++ remaining_after (take i links) (drop i links) ≡ whole → lines ≡ whole

@@ -2,3 +2,5 @@ pub mod Chain
 pub mod Composed
 pub mod Rests
 pub mod Provenance
+pub mod Settled
+pub mod Inside

@@ -103,7 +103,7 @@ fn source_named<'a>(link: &'a Link, name: &Name) -> Option<&'a Source>
 }
 
 /// Whether all these names are inputs'.
-fn are_inputs(recipe: &Recipe, names: &[Name]) -> bool
+pub(crate) fn are_inputs(recipe: &Recipe, names: &[Name]) -> bool
     ensures { result ≡ list_all (names_input recipe.now) names.now }
 {
     names.iter().all(|name| names_input(recipe, name))
@@ -113,11 +113,11 @@ fn are_inputs(recipe: &Recipe, names: &[Name]) -> bool
 fn names_input(recipe: &Recipe, name: &Name) -> bool
     ensures { result ≡ names_input recipe.now name.now }
 {
-    place_of(recipe.inputs().as_slice(), name).is_some()
+    input_index(recipe.inputs().as_slice(), name).is_some()
 }
 
 /// The index of the input of a name; `None` if it is not an input.
-fn place_of(inputs: &[Input], name: &Name) -> Option<usize>
+fn input_index(inputs: &[Input], name: &Name) -> Option<usize>
     ensures { result ≡ input_at inputs.now name.now }
 {
     inputs.iter().position(|input| input.name == *name)
@@ -136,7 +136,7 @@ fn input_bytes<'a>(link: &'a Link, name: &Name) -> &'a [u8]
 }
 
 /// The bytes at an index; none past the end.
-fn at(all: &[Bytes], index: usize) -> &[u8]
+pub(crate) fn at(all: &[Bytes], index: usize) -> &[u8]
     ensures { result.now ≡ get_or all.now index [] }
 {
     match all.get(index) {

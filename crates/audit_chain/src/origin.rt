@@ -6,9 +6,11 @@ pub mod laws;
 mod marks;
 mod meeting;
 mod reported;
+mod settling;
 mod telling;
 
 pub use marks::mark_named;
 pub use meeting::Meeting;
 pub use reported::Reported;
+pub use settling::{Replayed, is_settled_line};
 pub use telling::{Origin, names_source, origin_of};

@@ -40,18 +40,18 @@ module _ (recipe : RecipeContents) (inputs : List (List ℕ)) (count : ℕ) (all
 
 pub says_completed : (size : ℕ) (recipe : RecipeContents) (outcome : Outcome) (report : Report) (result : Result Answer Stop) → outcome ≡ Completes report
     → Says (demo_compared size report) result → Says (demonstrated size recipe outcome) result
-says_completed size recipe outcome report result is said = subst (λ o. Says (demonstrated size recipe o) result) (sym is) said
+says_completed size recipe outcome report result is answered = subst (λ o. Says (demonstrated size recipe o) result) (sym is) answered
 
 pub says_stopped : (size : ℕ) (recipe : RecipeContents) (outcome : Outcome) (not_done : Unfinished) (result : Result Answer Stop) → outcome ≡ Fails not_done.stage not_done.fault
     → Says (unfinished recipe not_done.stage not_done.fault) result → Says (demonstrated size recipe outcome) result
-says_stopped size recipe outcome not_done result is said = subst (λ o. Says (demonstrated size recipe o) result) (sym is) said
+says_stopped size recipe outcome not_done result is answered = subst (λ o. Says (demonstrated size recipe o) result) (sym is) answered
 
 -- files that are borrowed are the files
 pub of_files : (size : ℕ) (recipe : RecipeContents) (borrowed program held source made : List ℕ) (result : Result Answer Stop) → borrowed ≡ program → held ≡ source
     → Says (demonstrated size recipe (bench recipe (demo_inputs recipe borrowed held made))) result → Says (demonstrated size recipe (bench recipe (demo_inputs recipe program source made))) result
-of_files size recipe borrowed program held source made result same alike said =
+of_files size recipe borrowed program held source made result same alike answered =
     subst (λ bytes. Says (demonstrated size recipe (bench recipe (demo_inputs recipe program bytes made))) result) alike
-    (subst (λ bytes. Says (demonstrated size recipe (bench recipe (demo_inputs recipe bytes held made))) result) same said)
+    (subst (λ bytes. Says (demonstrated size recipe (bench recipe (demo_inputs recipe bytes held made))) result) same answered)
 
 -- ---- a report that is true
 
@@ -69,23 +69,23 @@ module _ (size : ℕ) (report : Report) (fault : Option (Part × ℕ)) (none : f
 
   by_equal : (equal : Bool) (result : Result Answer Stop) → verdict.Yes ≡ verdict_by equal → Says (answers status.Yes (demo_line size (steps_of_all report))) result
       → Says (compared_by equal) result
-  by_equal true result is said = said
-  by_equal false result is said = absurd cc
+  by_equal true result is answered = answered
+  by_equal false result is answered = absurd cc
 
   pub yes : (result : Result Answer Stop) → Judges fault report.compare verdict.Yes → Says (answers status.Yes (demo_line size (steps_of_all report))) result
       → Says (demo_compared size report) result
   unfolding demo_compared
-  yes result is said = by_equal (all_equal report.compare) result (judged verdict.Yes is) said
+  yes result is answered = by_equal (all_equal report.compare) result (judged verdict.Yes is) answered
 
   by_differs : (equal : Bool) (answer : Answer) → verdict.TrueButDiffers ≡ verdict_by equal → answer.status ≡ (if equal then status.Yes else status.Differs)
       → answer.text ≡ compared_lines report.compare → Says (compared_by equal) (Ok answer)
-  by_differs true answer is told said = absurd cc
-  by_differs false answer is told said = record { by_result = λ i. answers (sym told i) (sym said i) }
+  by_differs true answer is told answered = absurd cc
+  by_differs false answer is told answered = record { by_result = λ i. answers (sym told i) (sym answered i) }
 
   pub differs : (answer : Answer) → Judges fault report.compare verdict.TrueButDiffers → answer.status ≡ compared_status report.compare
       → answer.text ≡ compared_lines report.compare → Says (demo_compared size report) (Ok answer)
   unfolding demo_compared
-  differs answer is told said = by_differs (all_equal report.compare) answer (judged verdict.TrueButDiffers is) told said
+  differs answer is told answered = by_differs (all_equal report.compare) answer (judged verdict.TrueButDiffers is) told answered
 
   by_refuted : (equal : Bool) (part : Part) (place : ℕ) → verdict.Refuted part place ≡ verdict_by equal → ⊥
   by_refuted true part place is = cc

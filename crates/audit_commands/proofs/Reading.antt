@@ -5,7 +5,7 @@ use Rattle.recipe.specs.declared.contents.RecipeContents.{RecipeContents}
 use Rattle.audit_run.specs.declared.save.reading.SaveRefusal.{SaveRefusal}
 use Rattle.audit_run.specs.declared.save.reading.SaveRefusal.TheVariants.{Form, OtherRecipe, State, OutOfMemory}
 use Rattle.audit_run.proofs.SaveLemmas.Answered.{is_answer}
-use Rattle.audit_run.specs.Saved.{ResumesAudit, standing_at}
+use Rattle.audit_run.specs.Saved.{ResumesAudit, phase_at}
 use Rattle.audit_run.specs.Seen.{AuditState}
 use Rattle.command_plan.specs.declared.answer.Answer.{Answer}
 use Rattle.command_plan.specs.declared.stop.Stop.{Stop}
@@ -21,7 +21,7 @@ use Rattle.audit_commands.specs.PauseTexts.{save_refused_line}
 module _ (recipe : RecipeContents) (inputs : List (List ℕ)) (text : List ℕ) (shelf : ShelfState) where
   -- the plan of a save that is read, as one over audits
   abbrev pub needs_audit : (AuditState → Plan) → Plan
-  needs_audit next = needs_position recipe inputs text (λ p. next (standing_at recipe inputs p))
+  needs_audit next = needs_position recipe inputs text (λ p. next (phase_at recipe inputs p))
 
   abbrev refuse : SaveRefusal → Plan
   refuse refusal = answers SaveRefused (save_refused_line refusal)
@@ -29,24 +29,24 @@ module _ (recipe : RecipeContents) (inputs : List (List ℕ)) (text : List ℕ) 
   -- the audit goes on from the position that was read
   pub goes_on : (audit : AuditState) → ResumesAudit recipe inputs text (Ok audit) → Obtains needs_audit shelf shelf (Ok audit)
   unfolding read_as
-  goes_on audit r = step.reads (read_as recipe inputs text) refuse (standing_at recipe inputs) shelf r.0 audit (is_answer recipe inputs text (Ok r.0) r.2 (λ same. cc)) r.1
+  goes_on audit r = step.reads (read_as recipe inputs text) refuse (phase_at recipe inputs) shelf r.0 audit (is_answer recipe inputs text (Ok r.0) r.2 (λ same. cc)) r.1
 
   -- a refusal that is the file's own is said
   refused : (refusal : SaveRefusal) (answer : Answer) → refusal ≢ OutOfMemory → ResumesAudit recipe inputs text (Err refusal)
       → Says (refuse refusal) (Ok answer) → Obtains needs_audit shelf shelf (Err (stop.Answered answer))
   unfolding read_as
-  refused refusal answer other r said =
-      step.refuses (read_as recipe inputs text) refuse (standing_at recipe inputs) shelf refusal answer (is_answer recipe inputs text (Err refusal) r (λ wants. other cc)) said.by_result
+  refused refusal answer other r answered =
+      step.refuses (read_as recipe inputs text) refuse (phase_at recipe inputs) shelf refusal answer (is_answer recipe inputs text (Err refusal) r (λ wants. other cc)) answered.by_result
 
   pub refuses : (refusal : SaveRefusal) (answer : Answer) → ResumesAudit recipe inputs text (Err refusal) → Refuses refusal (Ok answer)
       → Obtains needs_audit shelf shelf (Err (stop.Answered answer))
-  refuses OutOfMemory answer r said = absurd cc
-  refuses (Form offset) answer r said = refused (Form offset) answer (λ same. cc) r said
-  refuses OtherRecipe answer r said = refused OtherRecipe answer (λ same. cc) r said
-  refuses State answer r said = refused State answer (λ same. cc) r said
+  refuses OutOfMemory answer r answered = absurd cc
+  refuses (Form offset) answer r answered = refused (Form offset) answer (λ same. cc) r answered
+  refuses OtherRecipe answer r answered = refused OtherRecipe answer (λ same. cc) r answered
+  refuses State answer r answered = refused State answer (λ same. cc) r answered
 
   pub wants : (refusal : SaveRefusal) (ending : Stop) → Refuses refusal (Err ending) → Obtains needs_audit shelf shelf (Err ending)
-  wants OutOfMemory ending said = step.wants_as needs_audit shelf ending cc
-  wants (Form offset) ending said = step.wants_as needs_audit shelf ending said.by_result
-  wants OtherRecipe ending said = step.wants_as needs_audit shelf ending said.by_result
-  wants State ending said = step.wants_as needs_audit shelf ending said.by_result
+  wants OutOfMemory ending answered = step.wants_as needs_audit shelf ending cc
+  wants (Form offset) ending answered = step.wants_as needs_audit shelf ending answered.by_result
+  wants OtherRecipe ending answered = step.wants_as needs_audit shelf ending answered.by_result
+  wants State ending answered = step.wants_as needs_audit shelf ending answered.by_result

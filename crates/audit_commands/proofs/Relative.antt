@@ -10,8 +10,8 @@ use Rattle.audit_run.specs.Delta.Audits.{IsResumedRelative, ResumesAuditRelative
 use Rattle.audit_run.specs.Delta.Deltas.{IsBaseAt, ResumesRelative, delta_text_of}
 use Rattle.audit_run.specs.Delta.Judged.{after_base, judged_relative}
 use Rattle.audit_run.specs.Save.Saves.{Resumes}
-use Rattle.audit_run.specs.Saved.{IsResumed, ResumesAudit, standing_at}
-use Rattle.audit_run.specs.Seen.{AuditState, standing}
+use Rattle.audit_run.specs.Saved.{IsResumed, ResumesAudit, phase_at}
+use Rattle.audit_run.specs.Seen.{AuditState, phase}
 use Rattle.audit_run.specs.declared.delta.reading.DeltaRefusal.{DeltaRefusal}
 use Rattle.audit_run.specs.declared.delta.reading.DeltaRefusal.TheVariants as delta
 use Rattle.audit_run.specs.declared.save.reading.SaveRefusal.{SaveRefusal}
@@ -44,18 +44,18 @@ read_refuses : {A E : Type 0} (reading : Result A E) (refuse : E → Plan) (next
 read_refuses reading refuse next why old new result is p = subst (λ plan. Performs plan old new result) (sym (ap (λ r. unless_refused r refuse next) is)) p
 
 -- an audit stands at one position
-same_position : (recipe : RecipeContents) (inputs : List (List ℕ)) (audit : AuditState) (p q : Position) → audit ≡ standing_at recipe inputs p → audit ≡ standing_at recipe inputs q → p ≡ q
+same_position : (recipe : RecipeContents) (inputs : List (List ℕ)) (audit : AuditState) (p q : Position) → audit ≡ phase_at recipe inputs p → audit ≡ phase_at recipe inputs q → p ≡ q
 same_position recipe inputs audit p q first second =
-    let both : Some (On p) ≡ Some (On q) = ap (λ (a : AuditState). a.stands) (sym first ∙ second) in
+    let both : Some (On p) ≡ Some (On q) = ap (λ (a : AuditState). a.current) (sym first ∙ second) in
     cc
 
 module _ (recipe : RecipeContents) (inputs : List (List ℕ)) (base : Bor (List ℕ)) (patch report : List ℕ) (steps : ℕ) where
   -- an audit that was resumed goes on, with what is kept relative to the base
   abbrev GoesOn : AuditState → ShelfState → ShelfState → Result Answer Stop → Type 0
   GoesOn audit old new result = (text : Position → List ℕ) → Keeps audit.recipe audit.inputs (Relative base) text
-      → Performs (came_to audit.recipe text patch report (forward_from audit.recipe audit.inputs (standing audit) steps)) old new result
+      → Performs (came_to audit.recipe text patch report (forward_from audit.recipe audit.inputs (phase audit) steps)) old new result
 
-  came_relative : (b p : Position) (audit : AuditState) (old new : ShelfState) (result : Result Answer Stop) → IsBaseAt recipe inputs b base.now → audit ≡ standing_at recipe inputs p
+  came_relative : (b p : Position) (audit : AuditState) (old new : ShelfState) (result : Result Answer Stop) → IsBaseAt recipe inputs b base.now → audit ≡ phase_at recipe inputs p
       → GoesOn audit old new result → Performs (came_to recipe (delta_text_of recipe inputs b) patch report (forward recipe inputs p steps)) old new result
   came_relative b p audit old new result is at goes =
       subst (λ (a : AuditState). GoesOn a old new result) at goes (delta_text_of recipe inputs b) (b, is, λ q. refl)
@@ -79,19 +79,19 @@ module _ (recipe : RecipeContents) (inputs : List (List ℕ)) (base : Bor (List 
   base_refused : (next : Position → Plan) (refusal : SaveRefusal) (shelf : ShelfState) (result : Result Answer Stop) → refusal ≢ save.OutOfMemory
       → Resumes recipe inputs base.now (Err refusal) → Says (answers SaveRefused (save_refused_line refusal)) result
       → Performs (needs_position recipe inputs base.now next) shelf shelf result
-  base_refused next refusal shelf result other r said =
+  base_refused next refusal shelf result other r answered =
       read_refuses (read_as recipe inputs base.now) (λ why. answers SaveRefused (save_refused_line why)) next refusal shelf shelf result
-      (is_read (Err refusal) (λ wants. other cc) r) (says (answers SaveRefused (save_refused_line refusal)) shelf result said)
+      (is_read (Err refusal) (λ wants. other cc) r) (says (answers SaveRefused (save_refused_line refusal)) shelf result answered)
 
   wants : (plan : Plan) (shelf : ShelfState) (result : Result Answer Stop) → result ≡ Err stop.OutOfMemory → Performs plan shelf shelf result
   wants plan shelf result is = subst (Performs plan shelf shelf) (sym is) (wants_memory plan shelf)
 
   pub start_refused : (refusal : SaveRefusal) (shelf : ShelfState) (result : Result Answer Stop) → ResumesAudit recipe inputs base.now (Err refusal) → Refuses refusal result
       → Performs (starts_relative recipe inputs base.now patch report steps) shelf shelf result
-  start_refused save.OutOfMemory shelf result r said = wants (starts_relative recipe inputs base.now patch report steps) shelf result said
-  start_refused (save.Form offset) shelf result r said = base_refused _ (save.Form offset) shelf result (λ same. cc) r said
-  start_refused save.OtherRecipe shelf result r said = base_refused _ save.OtherRecipe shelf result (λ same. cc) r said
-  start_refused save.State shelf result r said = base_refused _ save.State shelf result (λ same. cc) r said
+  start_refused save.OutOfMemory shelf result r answered = wants (starts_relative recipe inputs base.now patch report steps) shelf result answered
+  start_refused (save.Form offset) shelf result r answered = base_refused _ (save.Form offset) shelf result (λ same. cc) r answered
+  start_refused save.OtherRecipe shelf result r answered = base_refused _ save.OtherRecipe shelf result (λ same. cc) r answered
+  start_refused save.State shelf result r answered = base_refused _ save.State shelf result (λ same. cc) r answered
 
   -- ---- the delta
 
@@ -123,19 +123,19 @@ module _ (recipe : RecipeContents) (inputs : List (List ℕ)) (base : Bor (List 
     delta_refused : (refusal : DeltaRefusal) (shelf : ShelfState) (result : Result Answer Stop) → refusal ≢ delta.OutOfMemory → (b : Position) → Resumes recipe inputs base.now (Ok b)
         → ResumesRelative recipe inputs base.now text (Err refusal) → Says (answers SaveRefused (delta_refused_line refusal)) result
         → Performs (resumes_relative recipe inputs base.now text patch report steps) shelf shelf result
-    delta_refused refusal shelf result other b r rules said =
+    delta_refused refusal shelf result other b r rules answered =
         read_leads (read_as recipe inputs base.now) (λ refusal. answers SaveRefused (save_refused_line refusal))
         (λ b. needs_position_relative recipe inputs b text (λ p. came_to recipe (delta_text_of recipe inputs b) patch report (forward recipe inputs p steps))) b shelf shelf result
         (is_read (Ok b) (λ never. cc) r)
         (read_refuses (read_relative recipe inputs b text) (λ refusal. answers SaveRefused (delta_refused_line refusal))
         (λ p. came_to recipe (delta_text_of recipe inputs b) patch report (forward recipe inputs p steps)) refusal shelf shelf result
-        (is_read_relative b (Err refusal) (λ wants. other cc) r rules) (says (answers SaveRefused (delta_refused_line refusal)) shelf result said))
+        (is_read_relative b (Err refusal) (λ wants. other cc) r rules) (says (answers SaveRefused (delta_refused_line refusal)) shelf result answered))
 
     pub resume_refused : (refusal : DeltaRefusal) (shelf : ShelfState) (result : Result Answer Stop) → ResumesAuditRelative recipe inputs base.now text (Err refusal) → RefusesDelta refusal result
         → Performs (resumes_relative recipe inputs base.now text patch report steps) shelf shelf result
     unfolding save_refused_line delta_refused_line
-    resume_refused delta.OutOfMemory shelf result r said = wants (resumes_relative recipe inputs base.now text patch report steps) shelf result said
-    resume_refused (delta.Base why) shelf result r said = base_refused _ why shelf result r.1 r.0 said
-    resume_refused (delta.Form offset) shelf result r said = delta_refused (delta.Form offset) shelf result (λ same. cc) r.0 r.1 r said
-    resume_refused delta.OtherBase shelf result r said = delta_refused delta.OtherBase shelf result (λ same. cc) r.0 r.1 r said
-    resume_refused delta.State shelf result r said = delta_refused delta.State shelf result (λ same. cc) r.0 r.1 r said
+    resume_refused delta.OutOfMemory shelf result r answered = wants (resumes_relative recipe inputs base.now text patch report steps) shelf result answered
+    resume_refused (delta.Base why) shelf result r answered = base_refused _ why shelf result r.1 r.0 answered
+    resume_refused (delta.Form offset) shelf result r answered = delta_refused (delta.Form offset) shelf result (λ same. cc) r.0 r.1 r answered
+    resume_refused delta.OtherBase shelf result r answered = delta_refused delta.OtherBase shelf result (λ same. cc) r.0 r.1 r answered
+    resume_refused delta.State shelf result r answered = delta_refused delta.State shelf result (λ same. cc) r.0 r.1 r answered

@@ -2,14 +2,25 @@
 use Rattle.std.proofs.Common.{◌≡◌, ℕ, Bool, true, false, Option, None, Some, List, [], ◌∷◌, refl}
 use Rattle.std.specs.Prelude.{if◌then◌else◌}
 use Rattle.command_plan.specs.Plan.{Plan}
-use Rattle.command_plan.specs.Words.{are_four_files, are_three_files, are_two_files, as_steps, or_usage, usage}
+use Rattle.command_plan.specs.Words.{are_four_files, are_three_files, are_two_files, as_steps, is_file_word, or_usage, usage}
 use Rattle.audit_commands.specs.Audit.{audit_files, audit_plan}
 use Rattle.audit_commands.specs.Delta.{delta_resume_files, delta_resume_plan, delta_start_files, delta_start_plan}
-use Rattle.audit_commands.specs.Inside.Words.{relative_of, relative_words, report_of, report_words, whole_of, whole_words}
+use Rattle.audit_commands.specs.Inside.Words.{relative_of, relative_words, report_of, report_word, report_words, whole_of, whole_words}
 use Rattle.audit_commands.specs.Pause.{part_files, part_plan, resume_files, resume_plan}
+use Rattle.audit_commands.specs.Show.{show_file, show_plan}
 use Rattle.audit_commands.specs.declared.words.RelativeWords.{RelativeWords}
 use Rattle.audit_commands.specs.declared.words.PieceWords.{PieceWords}
 use Rattle.audit_commands.specs.declared.words.ReportWords.{ReportWords}
+
+-- ---- one file
+
+one : (report : List ℕ) (named : Bool) → (if named then show_file report else usage) ≡ or_usage (if named then Some report else None) show_file
+one report true = refl
+one report false = refl
+
+pub shows : (words : List (List ℕ)) → show_plan words ≡ or_usage (report_word words) show_file
+shows (report ∷ []) = one report (is_file_word report)
+shows _ = refl
 
 -- ---- two files
 

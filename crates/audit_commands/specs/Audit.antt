@@ -27,10 +27,10 @@ audited recipe out (Fails number fault) = unfinished recipe number fault
 -- the plan of `audit`: the recipe, a report that is not an input, the inputs, and then the audit
 unfoldable pub audit_files : List ℕ → List ℕ → Plan
 audit_files recipe report =
-    needs_recipe recipe (λ said.
-    needs_apart said report (λ _.
-    needs_inputs said (λ inputs.
-    audited said report (bench said inputs))))
+    needs_recipe recipe (λ parsed.
+    needs_apart parsed report (λ _.
+    needs_inputs parsed (λ inputs.
+    audited parsed report (bench parsed inputs))))
 
 -- the plan of the words after `audit`
 abbrev pub audit_plan : List (List ℕ) → Plan

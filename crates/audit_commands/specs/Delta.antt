@@ -2,6 +2,7 @@
 -- steps. It starts from the position of a whole save, or of that save and a delta; the delta against the whole save is kept.
 -- docs/reference/command-line.md and docs/reference/delta.md say the same for people.
 use Rattle.std.specs.Prelude.{ℕ, Result, List, [], ◌∷◌, if◌then◌else◌}
+use Rattle.ddc_base.specs.Limits.{most_save}
 use Rattle.recipe.specs.declared.contents.RecipeContents.{RecipeContents}
 use Rattle.audit_rules.specs.Positions.{Position, forward}
 use Rattle.audit_run.specs.Delta.Deltas.{delta_text_of}
@@ -27,13 +28,13 @@ starts_relative recipe inputs text patch report steps =
 -- inputs; and then the audit from the base's position
 unfoldable pub delta_start_files : List ℕ → List ℕ → List ℕ → List ℕ → ℕ → Plan
 delta_start_files recipe base patch report steps =
-    needs_recipe recipe (λ said.
-    needs_apart said report (λ _.
-    needs_apart said base (λ _.
-    needs_apart said patch (λ _.
-    needs base 4_294_967_296 (λ text.
-    needs_inputs said (λ inputs.
-    starts_relative said inputs text patch report steps))))))
+    needs_recipe recipe (λ parsed.
+    needs_apart parsed report (λ _.
+    needs_apart parsed base (λ _.
+    needs_apart parsed patch (λ _.
+    needs base most_save (λ text.
+    needs_inputs parsed (λ inputs.
+    starts_relative parsed inputs text patch report steps))))))
 
 -- ---- `delta-resume`
 
@@ -56,14 +57,14 @@ resumes_relative recipe inputs text delta patch report steps =
 -- the plan of `delta-resume`: like `delta-start`, with the patch, of at most 4,294,967,296 bytes, loaded after the base
 unfoldable pub delta_resume_files : List ℕ → List ℕ → List ℕ → List ℕ → ℕ → Plan
 delta_resume_files recipe base patch report steps =
-    needs_recipe recipe (λ said.
-    needs_apart said report (λ _.
-    needs_apart said base (λ _.
-    needs_apart said patch (λ _.
-    needs base 4_294_967_296 (λ text.
-    needs patch 4_294_967_296 (λ delta.
-    needs_inputs said (λ inputs.
-    resumes_relative said inputs text delta patch report steps)))))))
+    needs_recipe recipe (λ parsed.
+    needs_apart parsed report (λ _.
+    needs_apart parsed base (λ _.
+    needs_apart parsed patch (λ _.
+    needs base most_save (λ text.
+    needs patch most_save (λ delta.
+    needs_inputs parsed (λ inputs.
+    resumes_relative parsed inputs text delta patch report steps)))))))
 
 -- ---- the words
 

@@ -2,6 +2,7 @@
 use Rattle.std.specs.Prelude.{ℕ, zero, suc, ◌+◌, ◌*◌, ◌/◌, ◌%◌, ◌&&◌, Option, None, Some, List, [], ◌∷◌, ◌++◌, bytes_eq, codes, decimal, map, nat_le, sum_by, if◌then◌else◌}
 use Rattle.ddc_base.specs.Decimals.{as_decimal}
 use Rattle.ddc_base.specs.Lines.{line}
+use Rattle.ddc_base.specs.Limits.{most_content, most_demo}
 use Rattle.recipe.specs.declared.contents.RecipeContents.{RecipeContents}
 use Rattle.recipe.specs.declared.parts.Input.{Input}
 use Rattle.report.specs.declared.types.Report.{Report}
@@ -19,7 +20,7 @@ use Rattle.recipe_plan.specs.NotDone.{unfinished}
 -- N: a number from 1 to 16,777,216, both included
 abbrev pub within_demo : Option ℕ → Option ℕ
 within_demo None = None
-within_demo (Some size) = if nat_le 1 size && nat_le size 16_777_216 then Some size else None
+within_demo (Some size) = if nat_le 1 size && nat_le size most_demo then Some size else None
 
 unfoldable pub as_demo_size : List ℕ → Option ℕ
 as_demo_size word = within_demo (as_decimal word)
@@ -65,10 +66,10 @@ demonstrated size recipe (Fails number fault) = unfinished recipe number fault
 -- the plan of `demo`: the two files, the recipe, and then the audit
 unfoldable pub demo_files : ℕ → Plan
 demo_files size =
-    needs (codes "copy.elf") 268_435_456 (λ program.
-    needs (codes "copy.hex0") 268_435_456 (λ source.
-    reads_recipe demo_recipe (λ said.
-    demonstrated size said (bench said (demo_inputs said program source (generated_bytes size))))))
+    needs (codes "copy.elf") most_content (λ program.
+    needs (codes "copy.hex0") most_content (λ source.
+    reads_recipe demo_recipe (λ parsed.
+    demonstrated size parsed (bench parsed (demo_inputs parsed program source (generated_bytes size))))))
 
 -- the plan of the words after `demo`
 abbrev pub demo_plan : List (List ℕ) → Plan

@@ -1,9 +1,10 @@
 -- `part RECIPE SAVE REPORT STEPS` and `resume RECIPE SAVE REPORT STEPS`: an audit runs at most so many steps, from its beginning or from
 -- the position of a save. docs/reference/command-line.md and docs/reference/save.md say the same for people.
 use Rattle.std.specs.Prelude.{ℕ, ◌+◌, Result, List, [], ◌∷◌, length, if◌then◌else◌}
+use Rattle.ddc_base.specs.Limits.{most_save}
 use Rattle.recipe.specs.declared.contents.RecipeContents.{RecipeContents}
-use Rattle.audit_rules.specs.Positions.{Position, Standing, On, Over, forward, position}
-use Rattle.save_format.specs.Spelled.{text_of_save}
+use Rattle.audit_rules.specs.Positions.{Position, Phase, On, Over, forward, position}
+use Rattle.save_format.specs.Encoded.{text_of_save}
 use Rattle.audit_run.specs.Save.Judged.{judged}
 use Rattle.audit_run.specs.Save.Saves.{save_of}
 use Rattle.audit_run.specs.declared.save.reading.SaveRefusal.{SaveRefusal}
@@ -27,7 +28,7 @@ paused recipe kept name p =
     sets name (kept p) (answers Paused (paused_line (stage_name recipe.stages (length p.done + 1)) p.at.steps))
 
 -- the plan afterwards: that of `audit` if the audit is over, else a pause at a position
-abbrev pub came_to : RecipeContents → (Position → List ℕ) → List ℕ → List ℕ → Standing → Plan
+abbrev pub came_to : RecipeContents → (Position → List ℕ) → List ℕ → List ℕ → Phase → Plan
 came_to recipe kept name report (Over answer) = audited recipe report answer
 came_to recipe kept name report (On p) = paused recipe kept name p
 
@@ -36,11 +37,11 @@ came_to recipe kept name report (On p) = paused recipe kept name p
 -- the plan of `part`: the recipe, a report and a save that are not inputs, the inputs, and then the audit from its beginning
 unfoldable pub part_files : List ℕ → List ℕ → List ℕ → ℕ → Plan
 part_files recipe save report steps =
-    needs_recipe recipe (λ said.
-    needs_apart said report (λ _.
-    needs_apart said save (λ _.
-    needs_inputs said (λ inputs.
-    came_to said (whole_save said inputs) save report (position said inputs steps)))))
+    needs_recipe recipe (λ parsed.
+    needs_apart parsed report (λ _.
+    needs_apart parsed save (λ _.
+    needs_inputs parsed (λ inputs.
+    came_to parsed (whole_save parsed inputs) save report (position parsed inputs steps)))))
 
 -- ---- `resume`
 
@@ -57,13 +58,13 @@ needs_position recipe inputs text next =
 -- audit then continues from the save's position
 unfoldable pub resume_files : List ℕ → List ℕ → List ℕ → ℕ → Plan
 resume_files recipe save report steps =
-    needs_recipe recipe (λ said.
-    needs_apart said report (λ _.
-    needs_apart said save (λ _.
-    needs save 4_294_967_296 (λ text.
-    needs_inputs said (λ inputs.
-    needs_position said inputs text (λ p.
-    came_to said (whole_save said inputs) save report (forward said inputs p steps)))))))
+    needs_recipe recipe (λ parsed.
+    needs_apart parsed report (λ _.
+    needs_apart parsed save (λ _.
+    needs save most_save (λ text.
+    needs_inputs parsed (λ inputs.
+    needs_position parsed inputs text (λ p.
+    came_to parsed (whole_save parsed inputs) save report (forward parsed inputs p steps)))))))
 
 -- ---- the words
 

@@ -2,18 +2,16 @@
 
 ghost use Rattle.std.specs.Prelude.{◌≡◌, map, IfOk};
 ghost use Rattle.report.specs.Reports.{IsReport};
-ghost use Rattle.audit_rules.specs.Bench.{bench};
-ghost use Rattle.audit_rules.specs.Valid.{IsAuditAnswer, IsInputs};
+ghost use Rattle.audit_rules.specs.Valid.{IsAuditAnswer};
 ghost use Rattle.command_plan.specs.Performs.{Performs};
-ghost use Rattle.recipe_plan.specs.Recipes.{needs_apart, needs_inputs};
 ghost use Rattle.recipe_plan.specs.Reports.{compared_status};
 ghost use Rattle.recipe_plan.specs.Texts.{compared_lines};
-ghost use Rattle.audit_commands.specs.Audit.{audited, audit_files, audit_plan, completed};
+ghost use Rattle.audit_commands.specs.Audit.{audited, audit_plan, completed};
 
 use crate::words::ReportWords;
 use audit_run::run_bench;
 use command_plan::{Answer, FileName, Stop, keep, usage};
-use ddc_base::{Bytes, OutOfMemory, Shelf};
+use ddc_base::{OutOfMemory, Shelf};
 use recipe::Recipe;
 use recipe_plan::texts::compared_lines;
 use recipe_plan::{apart, compared_status, fetch_inputs, fetch_recipe, unfinished};
@@ -27,45 +25,11 @@ pub fn perform<S: Shelf>(alloc: Global, shelf: &mut S, words: &[&str]) -> Result
     let Some(words) = ReportWords::read(words) else {
         return usage(alloc);
     };
-    audit(alloc, shelf, &words)
-}
-
-/// The command on two distinct files.
-fn audit<S: Shelf>(alloc: Global, shelf: &mut S, words: &ReportWords<'_>) -> Result<Answer, Stop>
-    ensures { Performs (audit_files words.now.recipe words.now.report) (S.state shelf.old) (S.state shelf.new) result }
-{
     let recipe = fetch_recipe(alloc, shelf, &words.recipe)?;
-    on_recipe(alloc, shelf, &recipe, &words.report)
-}
-
-/// The command on a recipe that was read.
-fn on_recipe<S: Shelf>(
-    alloc: Global,
-    shelf: &mut S,
-    recipe: &Recipe,
-    report: &FileName<'_>,
-) -> Result<Answer, Stop>
-    ensures { Performs (needs_apart recipe.now report.now (λ _. needs_inputs recipe.now (λ inputs. audited recipe.now report.now (bench recipe.now inputs))))
-        (S.state shelf.old) (S.state shelf.new) result }
-{
-    apart(alloc, recipe, report)?;
-    let inputs = fetch_inputs(alloc, shelf, recipe)?;
-    run(alloc, shelf, recipe, inputs.as_slice(), report)
-}
-
-/// Runs the audit, and saves its report or answers which stage is not done.
-fn run<S: Shelf>(
-    alloc: Global,
-    shelf: &mut S,
-    recipe: &Recipe,
-    inputs: &[Bytes],
-    report: &FileName<'_>,
-) -> Result<Answer, Stop>
-    requires { IsInputs recipe.now inputs.now }
-    ensures { Performs (audited recipe.now report.now (bench recipe.now inputs.now)) (S.state shelf.old) (S.state shelf.new) result }
-{
-    let answer = run_bench(alloc, recipe, inputs)?;
-    tell(alloc, shelf, recipe, &answer, report)
+    apart(alloc, &recipe, &words.report)?;
+    let inputs = fetch_inputs(alloc, shelf, &recipe)?;
+    let answer = run_bench(alloc, &recipe, inputs.as_slice())?;
+    tell(alloc, shelf, &recipe, &answer, &words.report)
 }
 
 /// Saves the report of a finished audit, or answers which stage is not done. Errors: a fault of the file store (`Shelf`), out of memory.

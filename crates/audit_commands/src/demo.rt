@@ -2,6 +2,7 @@
 
 ghost use Rattle.std.specs.Prelude.{◌≡◌, ◌≤◌, IfOk, IfSome, None, length, map, sum_by};
 ghost use Rattle.ddc_base.specs.Outside.{ShelfState};
+ghost use Rattle.ddc_base.specs.Limits.{most_content, most_demo};
 ghost use Rattle.mem_files.specs.Outputs.{IsContent};
 ghost use Rattle.verifier.specs.Faults.{first_fault};
 ghost use Rattle.audit_rules.specs.Bench.{bench};
@@ -19,6 +20,7 @@ use audit_run::laws::earlier_stages_are_the_audits;
 use audit_run::run_earlier;
 use audit_run::stage::report_of;
 use command_plan::{Answer, FileName, Status, Stop, fetch_file, usage};
+use ddc_base::limits::MOST_DEMO;
 use ddc_base::{Bytes, OutOfMemory, Shelf, read_decimal};
 use recipe::{Input, Inputs, Recipe};
 use recipe_plan::{read_recipe, unfinished};
@@ -27,9 +29,6 @@ use std::alloc::Global;
 use verifier::Verdict;
 use verifier::laws::one_report;
 use wheeler::Meaning;
-
-/// The most bytes of a demonstration: 16 MiB.
-const MOST_BYTES: u64 = 16_777_216;
 
 /// `demo N`: makes, runs and verifies an audit of N bytes, and saves nothing. Statuses 0, 2, 3, 6, 7, 10 to 13. It does the same whatever
 /// sources mean.
@@ -54,10 +53,10 @@ pub fn perform<M: Meaning, S: Shelf>(
 #[tactic(auto, unfolding(crate::specs::Demo::as_demo_size))]
 fn size_of(word: &str) -> Option<u64>
     ensures value { result ≡ as_demo_size word.now }
-    ensures few { IfSome result (λ size. size ≤ 16_777_216) }
+    ensures few { IfSome result (λ size. size ≤ most_demo) }
 {
     match read_decimal(word.as_bytes()) {
-        Some(size) if 1 <= size && size <= MOST_BYTES => Some(size),
+        Some(size) if 1 <= size && size <= MOST_DEMO => Some(size),
         _ => None,
     }
 }
@@ -65,7 +64,7 @@ fn size_of(word: &str) -> Option<u64>
 /// The command on a number of bytes.
 #[tactic(auto, using(command_plan::proofs::Obtaining::obtaining), unfolding(crate::specs::Demo::demo_files))]
 fn demo<M: Meaning, S: Shelf>(alloc: Global, shelf: &mut S, size: u64) -> Result<Answer, Stop>
-    requires { size ≤ 16_777_216 }
+    requires { size ≤ most_demo }
     ensures { Performs (demo_files size) (S.state shelf.old) (S.state shelf.new) result }
 {
     let program = fetch_file(alloc, shelf, &FileName::of("copy.elf"))?;
@@ -89,9 +88,9 @@ fn audit<M: Meaning>(
     source: &[u8],
     size: u64,
 ) -> Result<Answer, Stop>
-    requires program { length program.now ≤ 268_435_456 }
-    requires source { length source.now ≤ 268_435_456 }
-    requires few { size ≤ 16_777_216 }
+    requires program { length program.now ≤ most_content }
+    requires source { length source.now ≤ most_content }
+    requires few { size ≤ most_demo }
     ensures { Says (demonstrated size recipe.now (bench recipe.now (demo_inputs recipe.now program.now source.now (generated_bytes size)))) result }
 {
     let made = generated_bytes(alloc, size)?;
@@ -103,7 +102,7 @@ fn audit<M: Meaning>(
 
 /// Proves that at most 268,435,456 bytes are a content; does nothing else.
 fn show_content(bytes: &[u8])
-    requires { length bytes.now ≤ 268_435_456 }
+    requires { length bytes.now ≤ most_content }
     ensures { IsContent bytes.now }
 {}
 

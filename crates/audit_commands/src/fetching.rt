@@ -3,6 +3,7 @@
 
 ghost use Rattle.std.specs.Prelude.{ℕ, IfOk, List};
 ghost use Rattle.ddc_base.specs.Outside.{ShelfState};
+ghost use Rattle.ddc_base.specs.Limits.{most_save};
 ghost use Rattle.audit_rules.specs.Valid.{IsInputs};
 ghost use Rattle.command_plan.specs.Plan.{Plan, needs};
 ghost use Rattle.command_plan.specs.Steps.{Obtains};
@@ -10,13 +11,11 @@ ghost use Rattle.recipe_plan.specs.Recipes.{needs_apart, needs_inputs, needs_rec
 
 use crate::words::{PieceWords, RelativeWords};
 use command_plan::{FileName, Stop, fetch};
+use ddc_base::limits::MOST_SAVE;
 use ddc_base::{Bytes, Shelf};
 use recipe::{Inputs, Recipe};
 use recipe_plan::{apart, fetch_inputs, fetch_recipe};
 use std::alloc::Global;
-
-/// The limit for loading a save or a delta, in bytes. That of a position is always shorter.
-pub(crate) const SAVE_LIMIT: u64 = 4_294_967_296;
 
 /// The recipe; the report and the save must not be its inputs.
 pub(crate) fn fetch_apart<S: Shelf>(
@@ -24,8 +23,8 @@ pub(crate) fn fetch_apart<S: Shelf>(
     shelf: &mut S,
     words: &PieceWords<'_>,
 ) -> Result<Recipe, Stop>
-    ensures { Obtains (λ next. needs_recipe words.now.recipe (λ said. needs_apart said words.now.piece.report (λ _.
-        needs_apart said words.now.piece.save (λ _. next said))))
+    ensures { Obtains (λ next. needs_recipe words.now.recipe (λ parsed. needs_apart parsed words.now.piece.report (λ _.
+        needs_apart parsed words.now.piece.save (λ _. next parsed))))
         (S.state shelf.old) (S.state shelf.new) result }
 {
     let recipe = fetch_recipe(alloc, shelf, &words.recipe)?;
@@ -52,8 +51,8 @@ pub(crate) fn fetch_relative<S: Shelf>(
     shelf: &mut S,
     words: &RelativeWords<'_>,
 ) -> Result<Recipe, Stop>
-    ensures { Obtains (λ next. needs_recipe words.now.recipe (λ said. needs_apart said words.now.piece.report (λ _. needs_apart said words.now.base (λ _.
-        needs_apart said words.now.piece.save (λ _. next said)))))
+    ensures { Obtains (λ next. needs_recipe words.now.recipe (λ parsed. needs_apart parsed words.now.piece.report (λ _. needs_apart parsed words.now.base (λ _.
+        needs_apart parsed words.now.piece.save (λ _. next parsed)))))
         (S.state shelf.old) (S.state shelf.new) result }
 {
     let recipe = fetch_recipe(alloc, shelf, &words.recipe)?;
@@ -69,11 +68,11 @@ pub(crate) fn fetch_save<S: Shelf>(
     recipe: &Recipe,
     save: &FileName<'_>,
 ) -> Result<(Bytes, Inputs), Stop>
-    ensures obtained { Obtains (λ (next : List ℕ × List (List ℕ) → Plan). needs save.now 4_294_967_296 (λ text. needs_inputs recipe.now (λ inputs. next (text, inputs))))
+    ensures obtained { Obtains (λ (next : List ℕ × List (List ℕ) → Plan). needs save.now most_save (λ text. needs_inputs recipe.now (λ inputs. next (text, inputs))))
         (S.state shelf.old) (S.state shelf.new) result }
     ensures given { IfOk result (λ found. IsInputs recipe.now found.1) }
 {
-    let text = fetch(alloc, shelf, save, SAVE_LIMIT)?;
+    let text = fetch(alloc, shelf, save, MOST_SAVE)?;
     let inputs = fetch_inputs(alloc, shelf, recipe)?;
     Ok((text, inputs))
 }

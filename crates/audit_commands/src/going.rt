@@ -1,9 +1,9 @@
 //! Continuing an audit, and answering where it then stands.
 
 ghost use Rattle.std.specs.Prelude.{◌≡◌, ℕ, IfOk, List, Some};
-ghost use Rattle.audit_rules.specs.Positions.{Position, Standing, On, forward_from};
+ghost use Rattle.audit_rules.specs.Positions.{Position, Phase, On, forward_from};
 ghost use Rattle.audit_run.specs.Saved.{IsOn};
-ghost use Rattle.audit_run.specs.Seen.{standing};
+ghost use Rattle.audit_run.specs.Seen.{phase};
 ghost use Rattle.audit_commands.specs.Inside.Keeping.{Keeps};
 ghost use Rattle.command_plan.specs.Performs.{Performs};
 ghost use Rattle.audit_commands.specs.Pause.{came_to, paused};
@@ -36,7 +36,7 @@ pub(crate) fn go_on<S: Shelf>(
 ) -> Result<Answer, Stop>
     requires { (text : Position → List ℕ) × Keeps audit.recipe audit.inputs kept text }
     ensures { (text : Position → List ℕ) → Keeps audit.recipe audit.inputs kept.entry text
-        → Performs (came_to audit.recipe text piece.now.save piece.now.report (forward_from audit.recipe audit.inputs (standing audit) piece.now.steps))
+        → Performs (came_to audit.recipe text piece.now.save piece.now.report (forward_from audit.recipe audit.inputs (phase audit) piece.now.steps))
         (S.state shelf.old) (S.state shelf.new) result }
 {
     let audit = audit.advanced(piece.steps.count())?;
@@ -51,10 +51,10 @@ fn settle<S: Shelf>(
     kept: Kept<'_>,
     piece: &Piece<'_>,
 ) -> Result<Answer, Stop>
-    requires stands { (stands : Standing) × (audit.now.stands ≡ Some stands) }
+    requires current { (current : Phase) × (audit.now.current ≡ Some current) }
     requires keeps { (text : Position → List ℕ) × Keeps audit.now.recipe audit.now.inputs kept text }
-    ensures { (stands : Standing) (text : Position → List ℕ) → audit.now.stands ≡ Some stands → Keeps audit.now.recipe audit.now.inputs kept.entry text
-        → Performs (came_to audit.now.recipe text piece.now.save piece.now.report stands) (S.state shelf.old) (S.state shelf.new) result }
+    ensures { (current : Phase) (text : Position → List ℕ) → audit.now.current ≡ Some current → Keeps audit.now.recipe audit.now.inputs kept.entry text
+        → Performs (came_to audit.now.recipe text piece.now.save piece.now.report current) (S.state shelf.old) (S.state shelf.new) result }
 {
     match audit.answer() {
         Some(answer) => tell(alloc, shelf, audit.recipe(), answer, &piece.report),
@@ -70,9 +70,9 @@ fn keep_position<S: Shelf>(
     kept: Kept<'_>,
     name: &FileName<'_>,
 ) -> Result<Answer, Stop>
-    requires on { IsOn audit.now.stands }
+    requires on { IsOn audit.now.current }
     requires keeps { (text : Position → List ℕ) × Keeps audit.now.recipe audit.now.inputs kept text }
-    ensures { (p : Position) (text : Position → List ℕ) → audit.now.stands ≡ Some (On p) → Keeps audit.now.recipe audit.now.inputs kept.entry text
+    ensures { (p : Position) (text : Position → List ℕ) → audit.now.current ≡ Some (On p) → Keeps audit.now.recipe audit.now.inputs kept.entry text
         → Performs (paused audit.now.recipe text name.now p) (S.state shelf.old) (S.state shelf.new) result }
 {
     let text = kept_text(audit, kept)?;
@@ -87,9 +87,9 @@ fn keep_position<S: Shelf>(
 
 /// The save, or the delta, of an audit's position.
 fn kept_text(audit: &Audit, kept: Kept<'_>) -> Result<Bytes, OutOfMemory>
-    requires on { IsOn audit.now.stands }
+    requires on { IsOn audit.now.current }
     requires keeps { (text : Position → List ℕ) × Keeps audit.now.recipe audit.now.inputs kept text }
-    ensures { (p : Position) (text : Position → List ℕ) → audit.now.stands ≡ Some (On p) → Keeps audit.now.recipe audit.now.inputs kept.entry text
+    ensures { (p : Position) (text : Position → List ℕ) → audit.now.current ≡ Some (On p) → Keeps audit.now.recipe audit.now.inputs kept.entry text
         → IfOk result (λ bytes. bytes ≡ text p) }
 {
     match kept {

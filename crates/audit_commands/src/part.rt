@@ -2,7 +2,7 @@
 
 ghost use Rattle.std.specs.Prelude.{map};
 ghost use Rattle.command_plan.specs.Performs.{Performs};
-ghost use Rattle.audit_commands.specs.Pause.{part_files, part_plan};
+ghost use Rattle.audit_commands.specs.Pause.{part_plan};
 
 use crate::fetching::fetch_apart;
 use crate::going::{Kept, go_on};
@@ -20,15 +20,7 @@ pub fn perform<S: Shelf>(alloc: Global, shelf: &mut S, words: &[&str]) -> Result
     let Some(words) = PieceWords::read(words) else {
         return usage(alloc);
     };
-    part(alloc, shelf, &words)
-}
-
-/// The command on three distinct files and a number of steps.
-fn part<S: Shelf>(alloc: Global, shelf: &mut S, words: &PieceWords<'_>) -> Result<Answer, Stop>
-    ensures { Performs (part_files words.now.recipe words.now.piece.save words.now.piece.report words.now.piece.steps)
-        (S.state shelf.old) (S.state shelf.new) result }
-{
-    let recipe = fetch_apart(alloc, shelf, words)?;
+    let recipe = fetch_apart(alloc, shelf, &words)?;
     let inputs = fetch_inputs(alloc, shelf, &recipe)?;
     let audit = Audit::new(alloc, recipe, inputs);
     go_on(alloc, shelf, audit, Kept::Whole, &words.piece)

@@ -2,13 +2,13 @@
 
 ghost use Rattle.std.specs.Prelude.{map};
 ghost use Rattle.ddc_base.specs.Outside.{ShelfState};
-ghost use Rattle.audit_run.specs.Saved.{ResumesAudit, standing_at};
+ghost use Rattle.audit_run.specs.Saved.{phase_at};
 ghost use Rattle.command_plan.specs.declared.status.Status.TheVariants.{SaveRefused};
 ghost use Rattle.command_plan.specs.Performs.{Performs};
 ghost use Rattle.command_plan.specs.Plan.{answers};
 ghost use Rattle.command_plan.specs.Steps.{Obtains, Says};
 ghost use Rattle.audit_commands.specs.Inside.Refusing.{Refuses};
-ghost use Rattle.audit_commands.specs.Pause.{needs_position, resume_files, resume_plan};
+ghost use Rattle.audit_commands.specs.Pause.{needs_position, resume_plan};
 ghost use Rattle.audit_commands.specs.PauseTexts.{save_refused_line};
 
 use crate::fetching::{fetch_apart, fetch_save};
@@ -29,15 +29,7 @@ pub fn perform<S: Shelf>(alloc: Global, shelf: &mut S, words: &[&str]) -> Result
     let Some(words) = PieceWords::read(words) else {
         return usage(alloc);
     };
-    resume(alloc, shelf, &words)
-}
-
-/// The command on three distinct files and a number of steps.
-fn resume<S: Shelf>(alloc: Global, shelf: &mut S, words: &PieceWords<'_>) -> Result<Answer, Stop>
-    ensures { Performs (resume_files words.now.recipe words.now.piece.save words.now.piece.report words.now.piece.steps)
-        (S.state shelf.old) (S.state shelf.new) result }
-{
-    let recipe = fetch_apart(alloc, shelf, words)?;
+    let recipe = fetch_apart(alloc, shelf, &words)?;
     let (text, inputs) = fetch_save(alloc, shelf, &recipe, &words.piece.save)?;
     let audit = audit_at(alloc, Supplied { recipe, inputs }, text)?;
     go_on(alloc, shelf, audit, Kept::Whole, &words.piece)
@@ -45,20 +37,13 @@ fn resume<S: Shelf>(alloc: Global, shelf: &mut S, words: &PieceWords<'_>) -> Res
 
 /// The audit at the position that a save says, or what ends the command.
 fn audit_at(alloc: Global, supplied: Supplied, text: Bytes) -> Result<Audit, Stop>
-    ensures { (shelf : ShelfState) → Obtains (λ next. needs_position supplied.recipe supplied.inputs text (λ p. next (standing_at supplied.recipe supplied.inputs p)))
+    ensures { (shelf : ShelfState) → Obtains (λ next. needs_position supplied.recipe supplied.inputs text (λ p. next (phase_at supplied.recipe supplied.inputs p)))
         shelf shelf result }
 {
-    match read(alloc, supplied, text) {
+    match Audit::resume(alloc, supplied.recipe, supplied.inputs, text.as_slice()) {
         Ok(audit) => Ok(audit),
         Err(refusal) => Err(Stop::Answered(refuse(alloc, refusal)?)),
     }
-}
-
-/// Reads a save and drops its text.
-fn read(alloc: Global, supplied: Supplied, text: Bytes) -> Result<Audit, SaveRefusal>
-    ensures { ResumesAudit supplied.recipe supplied.inputs text result }
-{
-    Audit::resume(alloc, supplied.recipe, supplied.inputs, text.as_slice())
 }
 
 /// The answer to a refused save. Error: out of memory, if the refusal is that.

@@ -6,33 +6,23 @@ ghost use Rattle.command_plan.specs.declared.status.Status.TheVariants.{Yes};
 ghost use Rattle.command_plan.specs.Performs.{Performs};
 ghost use Rattle.command_plan.specs.Plan.{answers};
 ghost use Rattle.command_plan.specs.Steps.{Says};
-ghost use Rattle.audit_commands.specs.Show.{show_file, show_plan};
+ghost use Rattle.audit_commands.specs.Show.{show_plan};
 
-use command_plan::{Answer, FileName, Status, Stop, usage};
+use crate::words::report_word;
+use command_plan::{Answer, Status, Stop, usage};
 use ddc_base::Shelf;
 use recipe_plan::fetch_report;
 use report::Report;
 use std::alloc::Global;
 
 /// `show REPORT`: prints the report, or its first invalid line. Statuses 0, 2, 5, 10 to 13.
-#[tactic(auto, using(command_plan::proofs::Performing::performing))]
 pub fn perform<S: Shelf>(alloc: Global, shelf: &mut S, words: &[&str]) -> Result<Answer, Stop>
     ensures { Performs (show_plan (map (λ w. w.now) words.now)) (S.state shelf.old) (S.state shelf.new) result }
 {
-    let [report] = words else {
+    let Some(report) = report_word(words) else {
         return usage(alloc);
     };
-    let Some(report) = FileName::read(report) else {
-        return usage(alloc);
-    };
-    show(alloc, shelf, &report)
-}
-
-/// The command on a file.
-fn show<S: Shelf>(alloc: Global, shelf: &mut S, report: &FileName<'_>) -> Result<Answer, Stop>
-    ensures { Performs (show_file report.now) (S.state shelf.old) (S.state shelf.new) result }
-{
-    let report = fetch_report(alloc, shelf, report)?;
+    let report = fetch_report(alloc, shelf, &report)?;
     shown(alloc, &report)
 }
 

@@ -1,9 +1,19 @@
 //! The words of the audit commands, each set of them as one value.
 
 ghost use Rattle.std.specs.Prelude.{◌≡◌, map};
-ghost use Rattle.audit_commands.specs.Inside.Words.{relative_words, report_words, whole_words};
+ghost use Rattle.audit_commands.specs.Inside.Words.{relative_words, report_word, report_words, whole_words};
 
 use command_plan::{FileName, StepCount, four_files, three_files, two_files};
+
+/// The word `REPORT`; `None` for any others.
+pub(crate) fn report_word<'w>(words: &[&'w str]) -> Option<FileName<'w>>
+    ensures { result ≡ report_word (map (λ w. w.now) words.now) }
+{
+    let [report] = words else {
+        return None;
+    };
+    FileName::read(report)
+}
 
 /// The names of a recipe and of the report of its audit.
 #[derive(Drop)]

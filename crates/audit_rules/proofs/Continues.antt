@@ -7,7 +7,7 @@ use Rattle.guest_run.specs.State.{GuestState}
 use Rattle.elf_load.specs.Image.{image_of}
 use Rattle.elf_load.specs.declared.Image.{Image}
 use Rattle.elf_load.specs.declared.refusal.ElfRefusal.{ElfRefusal}
-use Rattle.mem_files.specs.Limits.{most_total}
+use Rattle.ddc_base.specs.Limits.{most_texts, most_total}
 use Rattle.guest_run.specs.Start.{Refusal, ArgsTooLong, BoxTooLarge, start_of, start_state, started}
 use Rattle.guest_run.specs.Setting.{Setting, files_size}
 use Rattle.guest_run.specs.Stack.{start_size}
@@ -22,7 +22,7 @@ use Rattle.audit_rules.specs.declared.answer.StageFault.{StageFault}
 use Rattle.audit_rules.specs.declared.answer.AuditAnswer.{AuditAnswer}
 use Rattle.audit_rules.specs.Stages.{by_end, by_start, contents, ending, start_stage}
 use Rattle.audit_rules.specs.Bench.{after_stage, bench, bench_from}
-use Rattle.audit_rules.specs.Positions.{Position, Standing, On, Over, at, beginning, stage_closed, continue, continue_among, enter, entered, finish, forward, onward, position, step, todo}
+use Rattle.audit_rules.specs.Positions.{Position, Phase, On, Over, at, beginning, stage_closed, continue, continue_among, enter, entered, finish, forward, onward, position, step, todo}
 use Rattle.audit_rules.proofs.Slices.{step-next, went-on, went-spent}
 use Rattle.audit_rules.proofs.Here.{IsHere}
 
@@ -49,7 +49,7 @@ fresh program setting guest is = by_image (image_of program) is where
 
   started_steps : (r : Result Image ElfRefusal) → steps_of (started program setting r) ≡ 0
   started_steps (Err refusal) = refl
-  started_steps (Ok image) = by_texts (nat_lt 131072 (start_size setting.args setting.env)) where
+  started_steps (Ok image) = by_texts (nat_lt most_texts (start_size setting.args setting.env)) where
     by_files : (b : Bool) → steps_of (if b then Err BoxTooLarge else Ok (start_state program setting image)) ≡ 0
     by_files true = refl
     by_files false = refl
@@ -141,61 +141,61 @@ abbrev pub IsPosition : RecipeContents → Position → Type 0
 IsPosition recipe p = (stage : Stage) × (stages : List Stage) × IsHere recipe p stage stages
 
 -- where an audit stands is a position, or it is over
-abbrev pub IsPlace : RecipeContents → Standing → Type 0
-IsPlace recipe (On p) = IsPosition recipe p
-IsPlace recipe (Over answer) = Unit {0}
+abbrev pub IsOnPosition : RecipeContents → Phase → Type 0
+IsOnPosition recipe (On p) = IsPosition recipe p
+IsOnPosition recipe (Over answer) = Unit {0}
 
 pub first_may : (recipe : RecipeContents) → AllMayStep recipe → (done : List Finished) (stage : Stage) (stages : List Stage) → todo recipe done ≡ stage ∷ stages → 1 ≤ stage.steps
 first_may recipe all done stage stages left =
     let P : Stage → Type 0 = λ s. 1 ≤ s.steps in
     subst (All P) left (All-drop P (length done) recipe.stages all) 0 stage (omega arith)
 
-pub enter-place : (recipe : RecipeContents) → AllMayStep recipe → (inputs : List (List ℕ)) (done : List Finished) (stages : List Stage) → todo recipe done ≡ stages
-    → IsPlace recipe (enter recipe inputs done stages)
-enter-place recipe all inputs done [] left = tt
-enter-place recipe all inputs done (stage ∷ stages) left = by_begin (start_stage recipe (contents inputs done) stage) refl where
-  by_begin : (s : Result GuestState Refusal) → start_stage recipe (contents inputs done) stage ≡ s → IsPlace recipe (entered done s)
+pub enter-position : (recipe : RecipeContents) → AllMayStep recipe → (inputs : List (List ℕ)) (done : List Finished) (stages : List Stage) → todo recipe done ≡ stages
+    → IsOnPosition recipe (enter recipe inputs done stages)
+enter-position recipe all inputs done [] left = tt
+enter-position recipe all inputs done (stage ∷ stages) left = by_begin (start_stage recipe (contents inputs done) stage) refl where
+  by_begin : (s : Result GuestState Refusal) → start_stage recipe (contents inputs done) stage ≡ s → IsOnPosition recipe (entered done s)
   by_begin (Err why) is = tt
   by_begin (Ok guest) is =
       let zero_steps = fresh _ _ guest is in
       let may = first_may recipe all done stage stages left in
       (stage, stages, record { left = left; within = omega arith })
 
-closed-place : (recipe : RecipeContents) → AllMayStep recipe → (inputs : List (List ℕ)) (done : List Finished) (stage : Stage) (stages : List Stage) → todo recipe done ≡ stage ∷ stages
-    → (r : Result Finished StageFault) → IsPlace recipe (stage_closed recipe inputs done stages r)
-closed-place recipe all inputs done stage stages left (Err fault) = tt
-closed-place recipe all inputs done stage stages left (Ok f) = enter-place recipe all inputs (done ++ f ∷ []) stages (todo-next recipe done f stage stages left)
+closed-position : (recipe : RecipeContents) → AllMayStep recipe → (inputs : List (List ℕ)) (done : List Finished) (stage : Stage) (stages : List Stage) → todo recipe done ≡ stage ∷ stages
+    → (r : Result Finished StageFault) → IsOnPosition recipe (stage_closed recipe inputs done stages r)
+closed-position recipe all inputs done stage stages left (Err fault) = tt
+closed-position recipe all inputs done stage stages left (Ok f) = enter-position recipe all inputs (done ++ f ∷ []) stages (todo-next recipe done f stage stages left)
 
 -- a step from a position gives a position or an answer
-pub step-place : (recipe : RecipeContents) → AllMayStep recipe → (inputs : List (List ℕ)) (p : Position) → IsPosition recipe p → IsPlace recipe (step recipe inputs p)
-step-place recipe all inputs p (stage, stages, ok) = by_next (next p.at) refl where
-  by_next : (n : Next) → next p.at ≡ n → IsPlace recipe (step recipe inputs p)
+pub step-position : (recipe : RecipeContents) → AllMayStep recipe → (inputs : List (List ℕ)) (p : Position) → IsPosition recipe p → IsOnPosition recipe (step recipe inputs p)
+step-position recipe all inputs p (stage, stages, ok) = by_next (next p.at) refl where
+  by_next : (n : Next) → next p.at ≡ n → IsOnPosition recipe (step recipe inputs p)
   by_next (Ends why) is =
-      subst (IsPlace recipe) (sym (step-next recipe inputs p stage stages (Ends why) ok.left is))
-      (closed-place recipe all inputs p.done stage stages ok.left (ending recipe inputs p.done stage why p.at))
+      subst (IsOnPosition recipe) (sym (step-next recipe inputs p stage stages (Ends why) ok.left is))
+      (closed-position recipe all inputs p.done stage stages ok.left (ending recipe inputs p.done stage why p.at))
   by_next (Goes to) is =
-      subst (IsPlace recipe) (sym (step-next recipe inputs p stage stages (Goes to) ok.left is))
+      subst (IsOnPosition recipe) (sym (step-next recipe inputs p stage stages (Goes to) ok.left is))
       (elim (cases_lt to.steps stage.steps) [
-        | inl lt ↦ subst (IsPlace recipe) (sym (went-on p.done stage to lt)) (stage, stages, record { left = ok.left; within = lt })
-        | inr le ↦ subst (IsPlace recipe) (sym (went-spent p.done stage to le)) tt
+        | inl lt ↦ subst (IsOnPosition recipe) (sym (went-on p.done stage to lt)) (stage, stages, record { left = ok.left; within = lt })
+        | inr le ↦ subst (IsOnPosition recipe) (sym (went-spent p.done stage to le)) tt
       ])
 
 -- many steps keep the answer, and come to a position or an answer
 pub forward-continue : (recipe : RecipeContents) → AllMayStep recipe → (inputs : List (List ℕ)) (p : Position) → IsPosition recipe p → (count : ℕ)
-    → (finish recipe inputs (forward recipe inputs p count) ≡ continue recipe inputs p) × IsPlace recipe (forward recipe inputs p count)
+    → (finish recipe inputs (forward recipe inputs p count) ≡ continue recipe inputs p) × IsOnPosition recipe (forward recipe inputs p count)
 unfolding forward
 forward-continue recipe all inputs p ok zero = (refl, ok)
-forward-continue recipe all inputs p ok (suc count) = by_place (forward recipe inputs p count) (forward-continue recipe all inputs p ok count) where
-  by_place : (o : Standing) → (finish recipe inputs o ≡ continue recipe inputs p) × IsPlace recipe o
-      → (finish recipe inputs (onward o (step recipe inputs)) ≡ continue recipe inputs p) × IsPlace recipe (onward o (step recipe inputs))
-  by_place (Over answer) earlier = earlier
-  by_place (On q) earlier =
-      (step-continue recipe inputs q earlier.1.0 earlier.1.1 earlier.1.2 ∙ earlier.0, step-place recipe all inputs q earlier.1)
+forward-continue recipe all inputs p ok (suc count) = by_position (forward recipe inputs p count) (forward-continue recipe all inputs p ok count) where
+  by_position : (o : Phase) → (finish recipe inputs o ≡ continue recipe inputs p) × IsOnPosition recipe o
+      → (finish recipe inputs (onward o (step recipe inputs)) ≡ continue recipe inputs p) × IsOnPosition recipe (onward o (step recipe inputs))
+  by_position (Over answer) earlier = earlier
+  by_position (On q) earlier =
+      (step-continue recipe inputs q earlier.1.0 earlier.1.1 earlier.1.2 ∙ earlier.0, step-position recipe all inputs q earlier.1)
 
 -- every position on the way has the bench's answer
 pub position-bench : (recipe : RecipeContents) → AllMayStep recipe → (inputs : List (List ℕ)) (count : ℕ)
     → finish recipe inputs (position recipe inputs count) ≡ bench recipe inputs
-position-bench recipe all inputs count = by_place (beginning recipe inputs) (enter-bench recipe inputs [] recipe.stages refl) (enter-place recipe all inputs [] recipe.stages refl) where
-  by_place : (o : Standing) → finish recipe inputs o ≡ bench recipe inputs → IsPlace recipe o → finish recipe inputs (onward o (λ p. forward recipe inputs p count)) ≡ bench recipe inputs
-  by_place (Over answer) is ok = is
-  by_place (On p) is ok = (forward-continue recipe all inputs p ok count).0 ∙ is
+position-bench recipe all inputs count = by_position (beginning recipe inputs) (enter-bench recipe inputs [] recipe.stages refl) (enter-position recipe all inputs [] recipe.stages refl) where
+  by_position : (o : Phase) → finish recipe inputs o ≡ bench recipe inputs → IsOnPosition recipe o → finish recipe inputs (onward o (λ p. forward recipe inputs p count)) ≡ bench recipe inputs
+  by_position (Over answer) is ok = is
+  by_position (On p) is ok = (forward-continue recipe all inputs p ok count).0 ∙ is

@@ -11,6 +11,7 @@ use Rattle.std.proofs.lemmas.Option.{same_Some}
 use Rattle.std.proofs.Math.ListN.{get_or-map}
 use Rattle.ddc_base.specs.Results.{◌>>=◌, ◌>>◌, or_error, error_unless}
 use Rattle.ddc_base.proofs.Results.{bound, found, taken, tested}
+use Rattle.ddc_base.specs.Limits.{most_artefacts}
 use Rattle.mem_files.specs.Names.{bytes_cmp}
 use Rattle.mem_files.specs.Outputs.{IsLeftFile, left, out}
 use Rattle.mem_files.specs.Sound.{IsSound}
@@ -83,7 +84,7 @@ pub record Ended (recipe : RecipeContents) (inputs : List (List ℕ)) (done : Li
   pub exit : end ≡ Exited 0
   pub made : List ℕ
   pub there : out guest.world (output_of stage.output) ≡ Some made
-  pub small : artefact_bytes done + length made ≤ 1073741824
+  pub small : artefact_bytes done + length made ≤ most_artefacts
   pub right : check_of recipe (contents inputs done) stage made ≡ None
   pub is : f ≡ finished (guest.steps + 1) guest.world made
 
@@ -100,7 +101,7 @@ ended recipe inputs done stage (Exited status) guest f is =
     taken {P = Ended recipe inputs done stage (Exited status) guest} (exited_with recipe inputs done stage status steps guest.world) f
     (tested (Runs (run.Status status) steps) (status == 0) _ (λ none.
     found (Runs run.NoOutput steps) (out guest.world (output_of stage.output)) _ (λ made there.
-    tested (Runs run.Crowded steps) (nat_le (artefact_bytes done + length made) 1073741824) _ (λ small.
+    tested (Runs run.Crowded steps) (nat_le (artefact_bytes done + length made) most_artefacts) _ (λ small.
     bound (check_passed (check_of recipe (contents inputs done) stage made)) _ (λ passed right. record {
       is = record {
         exit = ap Exited (eqb-true status 0 none);
@@ -115,11 +116,11 @@ ended recipe inputs done stage (Exited status) guest f is =
 
 -- and the way back
 pub exit-done : (recipe : RecipeContents) (inputs : List (List ℕ)) (done : List Finished) (stage : Stage) (steps : ℕ) (world : World) (made : List ℕ)
-    → out world (output_of stage.output) ≡ Some made → artefact_bytes done + length made ≤ 1073741824 → check_of recipe (contents inputs done) stage made ≡ None
+    → out world (output_of stage.output) ≡ Some made → artefact_bytes done + length made ≤ most_artefacts → check_of recipe (contents inputs done) stage made ≡ None
     → exited_with recipe inputs done stage 0 steps world ≡ Ok (finished steps world made)
 exit-done recipe inputs done stage steps world made there small right =
     let kept : List ℕ → Result Finished StageFault = λ m. check_passed (check_of recipe (contents inputs done) stage m) >> Ok (finished steps world m) in
     let sized : Bool → List ℕ → Result Finished StageFault = λ b m. error_unless (Runs run.Crowded steps) b >> kept m in
-    ap (λ o. or_error (Runs run.NoOutput steps) o >>= λ m. sized (nat_le (artefact_bytes done + length m) 1073741824) m) there
+    ap (λ o. or_error (Runs run.NoOutput steps) o >>= λ m. sized (nat_le (artefact_bytes done + length m) most_artefacts) m) there
     ∙ ap (λ b. sized b made) (le-leb _ _ small)
     ∙ ap (λ o. check_passed o >> Ok (finished steps world made)) right

@@ -11,7 +11,7 @@ use Rattle.audit_rules.specs.declared.answer.Finished.{Finished}
 use Rattle.audit_rules.specs.declared.answer.StageFault.{StageFault}
 use Rattle.audit_rules.specs.declared.answer.AuditAnswer.{AuditAnswer}
 use Rattle.audit_rules.specs.Stages.{contents, ending, start_stage}
-use Rattle.audit_rules.specs.Positions.{Position, Standing, On, Over, at, stage_closed, enter, entered, forward, onward, step, todo}
+use Rattle.audit_rules.specs.Positions.{Position, Phase, On, Over, at, stage_closed, enter, entered, forward, onward, step, todo}
 use Rattle.audit_rules.specs.Valid.{limits}
 use Rattle.audit_rules.proofs.Here.{IsHere}
 use Rattle.audit_rules.proofs.Forwards.{forward-over, forward-sum}
@@ -23,12 +23,12 @@ unfolding forward
 forward-one recipe inputs p = refl
 
 -- many steps, by the first
-forward-front : (recipe : RecipeContents) (inputs : List (List ℕ)) (p : Position) (count : ℕ) (o : Standing) → step recipe inputs p ≡ o
+forward-prefix : (recipe : RecipeContents) (inputs : List (List ℕ)) (p : Position) (count : ℕ) (o : Phase) → step recipe inputs p ≡ o
     → forward recipe inputs p (suc count) ≡ onward o (λ q. forward recipe inputs q count)
-forward-front recipe inputs p count (On q) is =
+forward-prefix recipe inputs p count (On q) is =
     let more : suc count ≡ 1 + count = omega arith in
     ap (forward recipe inputs p) more ∙ forward-sum recipe inputs p q 1 count (forward-one recipe inputs p ∙ is)
-forward-front recipe inputs p count (Over answer) is =
+forward-prefix recipe inputs p count (Over answer) is =
     let more : suc count ≡ 1 + count = omega arith in
     ap (forward recipe inputs p) more ∙ forward-over recipe inputs p answer 1 count (forward-one recipe inputs p ∙ is)
 
@@ -44,10 +44,10 @@ enough recipe all inputs (suc fuel) p stage stages ok le =
       Again = (q : Position) (stage' : Stage) (stages' : List Stage) → IsHere recipe q stage' stages' → limits (stage' ∷ stages') ≤ q.at.steps + fuel → IsOver recipe inputs q fuel
 
       over : (answer : AuditAnswer) → step recipe inputs p ≡ Over answer → IsOver recipe inputs p (suc fuel)
-      over answer is = (answer, forward-front recipe inputs p fuel (Over answer) is)
+      over answer is = (answer, forward-prefix recipe inputs p fuel (Over answer) is)
 
       on : (q : Position) → step recipe inputs p ≡ On q → IsOver recipe inputs q fuel → IsOver recipe inputs p (suc fuel)
-      on q is later = (later.0, forward-front recipe inputs p fuel (On q) is ∙ later.1)
+      on q is later = (later.0, forward-prefix recipe inputs p fuel (On q) is ∙ later.1)
 
       rest : limits stages ≤ fuel
       rest = omega (arith, ok.within, le)

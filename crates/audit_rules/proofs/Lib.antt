@@ -8,6 +8,6 @@ pub mod Marks
 pub mod GivenBoxes
 pub mod Endings
 pub mod WellFormed
-pub mod Places
+pub mod ValidPositions
 pub mod Closing
 pub mod SourceCheckLemmas

@@ -8,6 +8,7 @@ use Rattle.std.proofs.lemmas.List.Elements.{All-cons, All-nil, All-weaker}
 use Rattle.std.proofs.lemmas.List.Quantifiers.{position-Some}
 use Rattle.std.proofs.lemmas.Slice.Eq.{bytes_eq-Decides}
 use Rattle.ddc_base.specs.Names.{IsName}
+use Rattle.ddc_base.specs.Limits.{most_heap, most_steps}
 use Rattle.mem_files.specs.Names.{is_stripped_name}
 use Rattle.mem_files.specs.Sound.{AreBytes}
 use Rattle.guest_run.specs.Setting.{IsText}
@@ -40,25 +41,25 @@ pub record IsStage (stage : Stage) : Type 0 where
   pub files : All IsStageFile stage.files
   pub few_files : length stage.files ≤ 256
   pub some_steps : 1 ≤ stage.steps
-  pub few_steps : stage.steps ≤ 2 ^ 48
-  pub heap : stage.heap ≤ 2 ^ 30
+  pub few_steps : stage.steps ≤ most_steps
+  pub heap : stage.heap ≤ most_heap
 
 pub record IsInput (input : Input) : Type 0 where
   pub name : IsName input.name
 
-pub record IsRecipe (said : RecipeContents) : Type 0 where
-  pub digest : IsDigest said.digest
-  pub some_inputs : 1 ≤ length said.inputs
-  pub few_inputs : length said.inputs ≤ 256
-  pub inputs : All IsInput said.inputs
-  pub some_stages : 1 ≤ length said.stages
-  pub few_stages : length said.stages ≤ 256
-  pub stages : All IsStage said.stages
-  pub format : IsFormat said.format
-  pub some_compared : 1 ≤ length said.compare.stages
-  pub few_compared : length said.compare.stages ≤ kept.most_compared said.format
-  pub compared : All IsName said.compare.stages
-  pub binary : IsName said.compare.binary
+pub record IsRecipe (parsed : RecipeContents) : Type 0 where
+  pub digest : IsDigest parsed.digest
+  pub some_inputs : 1 ≤ length parsed.inputs
+  pub few_inputs : length parsed.inputs ≤ 256
+  pub inputs : All IsInput parsed.inputs
+  pub some_stages : 1 ≤ length parsed.stages
+  pub few_stages : length parsed.stages ≤ 256
+  pub stages : All IsStage parsed.stages
+  pub format : IsFormat parsed.format
+  pub some_compared : 1 ≤ length parsed.compare.stages
+  pub few_compared : length parsed.compare.stages ≤ kept.most_compared parsed.format
+  pub compared : All IsName parsed.compare.stages
+  pub binary : IsName parsed.compare.binary
 
 -- of each element, in the two ways to say it
 all-of : {A : Type 0} (P Q : A → Type 0) → ((x : A) → P x → Q x) → (xs : List A) → kept.Each P xs → All Q xs
@@ -113,23 +114,23 @@ input-name : (inputs : List Input) (name : List ℕ) → All IsInput inputs → 
 input-name inputs name all found =
     name-of (λ (i : Input). i.name) inputs name (All-weaker IsInput (λ i. IsName i.name) (λ i is. is.name) inputs all) (input_at inputs name) refl found
 
-stage-is : (said : RecipeContents) (earlier : List Stage) (stage : Stage) → kept.IsStage said earlier stage → IsStage stage
-stage-is said earlier stage is = record {
+stage-is : (parsed : RecipeContents) (earlier : List Stage) (stage : Stage) → kept.IsStage parsed earlier stage → IsStage stage
+stage-is parsed earlier stage is = record {
   name = is.name;
   args = all-of (λ text. IsTrue (is_word text)) IsWord word-is stage.args is.args;
   env = all-of (λ text. IsTrue (is_word text)) IsWord word-is stage.env is.env;
-  files = all-of (kept.IsStageFile said earlier) IsStageFile (λ file there. record { path = path-is file.path there.path }) stage.files is.files;
+  files = all-of (kept.IsStageFile parsed earlier) IsStageFile (λ file there. record { path = path-is file.path there.path }) stage.files is.files;
   few_files = is.few_files;
   some_steps = is.some_steps;
   few_steps = is.few_steps;
   heap = is.heap;
 }
 
-pub rules : (said : RecipeContents) → kept.IsRecipe said → IsRecipe said
-rules said is =
-    let inputs = all-of (kept.IsInput said) IsInput (λ input there. record { name = there.name }) said.inputs is.inputs in
-    let stages : All IsStage said.stages =
-    λ k d less. stage-is said (take k said.stages) (get_or said.stages k d) (is.stages k (get_or said.stages k d) (slice_get-get_or said.stages k d less)) in
+pub rules : (parsed : RecipeContents) → kept.IsRecipe parsed → IsRecipe parsed
+rules parsed is =
+    let inputs = all-of (kept.IsInput parsed) IsInput (λ input there. record { name = there.name }) parsed.inputs is.inputs in
+    let stages : All IsStage parsed.stages =
+    λ k d less. stage-is parsed (take k parsed.stages) (get_or parsed.stages k d) (is.stages k (get_or parsed.stages k d) (slice_get-get_or parsed.stages k d less)) in
     record {
       digest = subst IsDigest (λ i. record { 0 = sym is.digest.1 i }) (is_digest is.digest.0);
       some_inputs = is.some_inputs;
@@ -141,6 +142,6 @@ rules said is =
       format = is.format;
       some_compared = is.some_compared;
       few_compared = is.few_compared;
-      compared = all-of (λ name. IsSome (stage_at said.stages name)) IsName (λ name at. stage-name said.stages name stages at) said.compare.stages is.compared;
-      binary = input-name said.inputs said.compare.binary inputs is.binary;
+      compared = all-of (λ name. IsSome (stage_at parsed.stages name)) IsName (λ name at. stage-name parsed.stages name stages at) parsed.compare.stages is.compared;
+      binary = input-name parsed.inputs parsed.compare.binary inputs is.binary;
     }

@@ -71,9 +71,9 @@ unfolding end_at
 no_end-zero guest end is = cc
 
 -- where a first end comes
-pub end-place : (guest : GuestState) (most : ℕ) (end : End × GuestState) → first_end guest most ≡ Some end
+pub end-step : (guest : GuestState) (most : ℕ) (end : End × GuestState) → first_end guest most ≡ Some end
     → (count : ℕ) × (count < most) × (after guest count ≡ Some end.1) × (next end.1 ≡ Ends end.0)
-end-place guest most end is =
+end-step guest most end is =
     let found = first_end-at guest most end is in
     by_number found.0 found.1 found.2 where
       by_number : (number : ℕ) → number ≤ most → end_at guest number ≡ Some end
@@ -88,8 +88,8 @@ pub slice-end : (recipe : RecipeContents) (inputs : List (List ℕ)) (done : Lis
     → todo recipe done ≡ stage ∷ stages → (guest last : GuestState) (most : ℕ) (end : End) → first_end guest most ≡ Some (end, last) → guest.steps + most ≤ stage.steps
     → forward recipe inputs (at done guest) (suc (last.steps - guest.steps)) ≡ stage_closed recipe inputs done stages (ending recipe inputs done stage end last)
 slice-end recipe inputs done stage stages left guest last most end is le =
-    let place = end-place guest most (end, last) is in
-    let counted = after-counted guest last place.0 place.2 in
-    let same : suc (last.steps - guest.steps) ≡ suc place.0 = omega arith in
+    let at_step = end-step guest most (end, last) is in
+    let counted = after-counted guest last at_step.0 at_step.2 in
+    let same : suc (last.steps - guest.steps) ≡ suc at_step.0 = omega arith in
     ap (forward recipe inputs (at done guest)) same
-    ∙ slice-step recipe inputs done stage stages left guest last place.0 (Ends end) place.2 (omega (arith, place.1)) place.3
+    ∙ slice-step recipe inputs done stage stages left guest last at_step.0 (Ends end) at_step.2 (omega (arith, at_step.1)) at_step.3

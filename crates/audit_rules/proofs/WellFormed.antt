@@ -4,7 +4,7 @@ use Rattle.std.specs.Prelude.{option_map, nat_le, not, ◌&&◌, IsTrue}
 use Rattle.std.specs.List.{list_any}
 use Rattle.std.proofs.lemmas.Bool.{and_parts, leb-true}
 use Rattle.std.proofs.lemmas.Option.{same_Some}
-use Rattle.mem_files.specs.Limits.{most_name}
+use Rattle.ddc_base.specs.Limits.{most_name}
 use Rattle.mem_files.specs.Names.{begins_with_dot_slash, is_file_name, is_stripped_name}
 use Rattle.std.proofs.lemmas.List.{length-drop, length-map}
 use Rattle.std.proofs.lemmas.List.Elements.{All-cons, All-head, All-map, All-nil, All-tail, All-weaker}

@@ -2,6 +2,7 @@
 -- SHA-256 (FIPS 180-4).
 use Rattle.std.specs.Prelude.{ℕ, ◌+◌, ◌==◌, nat_le, Option, None, Some, Result, Ok, Err, List, length, map, sum_by}
 use Rattle.ddc_base.specs.Results.{◌>>=◌, ◌>>◌, or_error, error_unless}
+use Rattle.ddc_base.specs.Limits.{most_artefacts}
 use Rattle.mem_files.specs.World.{World}
 use Rattle.mem_files.specs.Outputs.{FirstStream, AtPath, left, out}
 use Rattle.mem_files.specs.Outputs as outputs
@@ -32,7 +33,7 @@ abbrev pub artefact_bytes : List Finished → ℕ
 artefact_bytes done = sum_by (λ (f : Finished). length f.made) done
 
 -- where a stage's artefact is: at its output
-abbrev pub output_of : Output → outputs.OutputPlace
+abbrev pub output_of : Output → outputs.OutputLocation
 output_of Stream = FirstStream
 output_of (File path) = AtPath path
 
@@ -75,7 +76,7 @@ abbrev pub exited_with : RecipeContents → List (List ℕ) → List Finished �
 exited_with recipe inputs done stage status steps world = do
   error_unless (Runs (run.Status status) steps) (status == 0)
   made ← or_error (Runs run.NoOutput steps) (out world (output_of stage.output))
-  error_unless (Runs run.Crowded steps) (nat_le (artefact_bytes done + length made) 1_073_741_824)
+  error_unless (Runs run.Crowded steps) (nat_le (artefact_bytes done + length made) most_artefacts)
   check_passed (check_of recipe (contents inputs done) stage made)
   Ok (finished steps world made)
 

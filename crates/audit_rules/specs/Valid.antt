@@ -2,6 +2,7 @@
 -- same for people.
 use Rattle.std.specs.Prelude.{◌≡◌, ◌<◌, ◌≤◌, ◌+◌, ◌^◌, ℕ, IsTrue, List, [], ◌∷◌, length, All}
 use Rattle.std.specs.List.{Contains}
+use Rattle.ddc_base.specs.Limits.{most_artefacts, most_names}
 use Rattle.mem_files.specs.Names.{is_stripped_name}
 use Rattle.mem_files.specs.Outputs.{IsContent}
 use Rattle.mem_files.specs.Sound.{AreBytes}
@@ -18,7 +19,7 @@ use Rattle.audit_rules.specs.declared.answer.AuditAnswer.TheVariants.{Completes,
 use Rattle.audit_rules.specs.declared.answer.Finished.{Finished}
 use Rattle.report.specs.Marks.{mark_of}
 use Rattle.audit_rules.specs.Stages.{artefact_bytes}
-use Rattle.audit_rules.specs.Positions.{Position, Standing, On, Over, todo}
+use Rattle.audit_rules.specs.Positions.{Position, Phase, On, Over, todo}
 
 -- the inputs of a recipe: as many as it names, each at most 268,435,456 bytes
 pub record IsInputs (recipe : RecipeContents) (inputs : List (List ℕ)) : Type 0 where
@@ -49,7 +50,7 @@ pub record IsFinished (stage : Stage) (f : Finished) : Type 0 where
   pub stream1 : IsSmallMark f.stream1
   pub stream2 : IsSmallMark f.stream2
   pub each_left : All IsLeftLine f.left
-  pub few_left : length f.left ≤ 4_096
+  pub few_left : length f.left ≤ most_names
   pub ascending : IsTrue (ascend f.left)
   pub made : IsContent f.made
   pub output : HasMark stage.output f
@@ -63,7 +64,7 @@ AreFinished (stage ∷ stages) (f ∷ done) = IsFinished stage f × AreFinished 
 -- the finished stages, whose artefacts have at most 1,073,741,824 bytes together
 pub record AreDone (recipe : RecipeContents) (done : List Finished) : Type 0 where
   pub each : AreFinished recipe.stages done
-  pub small : artefact_bytes done ≤ 1_073_741_824
+  pub small : artefact_bytes done ≤ most_artefacts
 
 -- a position in a stage: the guest is in a valid state, with the stage's heap, below the stage's step limit
 pub record IsAt (recipe : RecipeContents) (p : Position) (stage : Stage) (stages : List Stage) : Type 0 where
@@ -83,9 +84,9 @@ IsAuditAnswer (Completes report) = IsReport report
 IsAuditAnswer (Fails number fault) = Unit {0}
 
 -- where an audit stands: at a position, or it is over with an answer
-abbrev pub IsStanding : RecipeContents → Standing → Type 0
-IsStanding recipe (On p) = IsPosition recipe p
-IsStanding recipe (Over answer) = IsAuditAnswer answer
+abbrev pub IsPhase : RecipeContents → Phase → Type 0
+IsPhase recipe (On p) = IsPosition recipe p
+IsPhase recipe (Over answer) = IsAuditAnswer answer
 
 -- the step limits of these stages, added
 abbrev pub limits : List Stage → ℕ

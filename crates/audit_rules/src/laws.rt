@@ -1,23 +1,20 @@
 //! Laws of benches, positions and reports of a well-formed recipe. Each law is the contract of a function that does nothing.
 
-ghost use Rattle.mem_files.specs.Limits.{most_content};
 ghost use Rattle.recipe.specs.Kept.{IsRecipe};
 ghost use Rattle.recipe.specs.declared.contents.RecipeContents.{RecipeContents};
 ghost use Rattle.report.specs.Reports.{IsReport};
 ghost use Rattle.report.specs.declared.types.Report.{Report};
 ghost use Rattle.std.specs.Prelude.{◌≡◌, ◌≤◌, ◌+◌, ◌-◌, ◌^◌, ℕ, List};
 ghost use Rattle.audit_rules.specs.Bench.{bench};
-ghost use Rattle.audit_rules.specs.Positions.{Position, Standing, On, Over, beginning, continue, finish, forward, forward_from, position, step, todo};
-ghost use Rattle.audit_rules.specs.Valid.{IsInputs, IsPosition, IsStanding, limits};
+ghost use Rattle.audit_rules.specs.Positions.{Position, Phase, On, Over, beginning, continue, finish, forward, forward_from, position, step, todo};
+ghost use Rattle.audit_rules.specs.Valid.{IsInputs, IsPosition, IsPhase, limits};
 ghost use Rattle.audit_rules.specs.declared.answer.AuditAnswer.TheVariants.{Completes};
-
-use crate::{MAX_ARTEFACTS, MAX_INPUT};
 
 /// Advancing by some steps and then by more is advancing by their sum.
 pub fn steps_in_parts()
     ensures position { (recipe : RecipeContents) (inputs : List (List ℕ)) (p q : Position) (first more : ℕ)
         → forward recipe inputs p first ≡ On q → forward recipe inputs p (first + more) ≡ forward recipe inputs q more }
-    ensures standing { (recipe : RecipeContents) (inputs : List (List ℕ)) (from : Standing) (first more : ℕ)
+    ensures phase { (recipe : RecipeContents) (inputs : List (List ℕ)) (from : Phase) (first more : ℕ)
         → forward_from recipe inputs (forward_from recipe inputs from first) more ≡ forward_from recipe inputs from (first + more) }
 {}
 
@@ -51,11 +48,11 @@ pub fn one_advance_is_enough()
 /// A step from a valid position gives a valid position or an answer with a well-formed report. So does the beginning.
 pub fn steps_keep_positions_valid()
     ensures step { (recipe : RecipeContents) (inputs : List (List ℕ)) (p : Position) → IsRecipe recipe → IsInputs recipe inputs → IsPosition recipe p
-        → IsStanding recipe (step recipe inputs p) }
+        → IsPhase recipe (step recipe inputs p) }
     ensures steps { (recipe : RecipeContents) (inputs : List (List ℕ)) (p : Position) (count : ℕ) → IsRecipe recipe → IsInputs recipe inputs
-        → IsPosition recipe p → IsStanding recipe (forward recipe inputs p count) }
+        → IsPosition recipe p → IsPhase recipe (forward recipe inputs p count) }
     ensures beginning { (recipe : RecipeContents) (inputs : List (List ℕ)) → IsRecipe recipe → IsInputs recipe inputs
-        → IsStanding recipe (beginning recipe inputs) }
+        → IsPhase recipe (beginning recipe inputs) }
 {}
 
 /// Every report of an audit is well formed, from the beginning or from any valid position.
@@ -64,10 +61,4 @@ pub fn reports_are_well_formed()
         → bench recipe inputs ≡ Completes report → IsReport report }
     ensures position { (recipe : RecipeContents) (inputs : List (List ℕ)) (p : Position) (report : Report) → IsRecipe recipe → IsInputs recipe inputs
         → IsPosition recipe p → continue recipe inputs p ≡ Completes report → IsReport report }
-{}
-
-/// The constants of the code are the written limits.
-pub fn numbers_are_those_written()
-    ensures artefacts { MAX_ARTEFACTS ≡ 1_073_741_824 }
-    ensures input { MAX_INPUT ≡ most_content }
 {}

@@ -14,9 +14,3 @@ pub mod source_check;
 pub use answer::{AuditAnswer, Finished, StageFault};
 pub use cause::{RunCause, StartCause};
 pub use comparison::all_equal;
-
-/// The most bytes of all artefacts together.
-pub const MAX_ARTEFACTS: u64 = 1_073_741_824;
-
-/// The most bytes of an input.
-pub const MAX_INPUT: u64 = 268_435_456;

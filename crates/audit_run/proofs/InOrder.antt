@@ -14,9 +14,9 @@ use Rattle.audit_rules.specs.declared.answer.StageFault.{StageFault}
 use Rattle.audit_rules.specs.declared.answer.Finished.{Finished}
 use Rattle.audit_rules.specs.Positions.{at, enter, entered, todo}
 use Rattle.audit_rules.specs.Stages.{by_end, by_start, contents, stage_result, start_stage}
-use Rattle.audit_rules.specs.Valid.{AreDone, IsAt, IsAuditAnswer, IsInputs, IsStanding}
+use Rattle.audit_rules.specs.Valid.{AreDone, IsAt, IsAuditAnswer, IsInputs, IsPhase}
 use Rattle.audit_rules.proofs.Closing.{bench-report}
-use Rattle.audit_rules.proofs.Places.{enter-standing}
+use Rattle.audit_rules.proofs.ValidPositions.{enter-phase}
 use Rattle.audit_rules.proofs.Rules.{rules}
 use Rattle.audit_run.specs.Earlier.{done_in_order, goes_on_after, unless_unfinished}
 use Rattle.audit_run.specs.Stage.Rules.{IsStageOf}
@@ -31,8 +31,8 @@ module _ (recipe : RecipeContents) (inputs : List (List ℕ)) (done : List Finis
   pub starts-at : kept.IsRecipe recipe → IsInputs recipe inputs → AreDone recipe done → todo recipe done ≡ stage ∷ stages
       → start_stage recipe (contents inputs done) stage ≡ Ok guest → IsAt recipe (at done guest) stage stages
   starts-at is given are left begins =
-      let standing : IsStanding recipe (enter recipe inputs done (stage ∷ stages)) = enter-standing recipe (rules recipe is) inputs given done (stage ∷ stages) are left in
-      same-stage recipe (at done guest) stage stages (subst (IsStanding recipe) (ap (entered done) begins) standing) left
+      let phase : IsPhase recipe (enter recipe inputs done (stage ∷ stages)) = enter-phase recipe (rules recipe is) inputs given done (stage ∷ stages) are left in
+      same-stage recipe (at done guest) stage stages (subst (IsPhase recipe) (ap (entered done) begins) phase) left
 
   -- what its run comes to
   pub value-of : (result : Result (Result Finished StageFault) OutOfMemory) → guest.steps ≡ 0 → start_stage recipe (contents inputs done) stage ≡ Ok guest

@@ -7,9 +7,9 @@ use Rattle.recipe.specs.declared.contents.RecipeContents.{RecipeContents}
 use Rattle.recipe.specs.declared.parts.Stage.{Stage}
 use Rattle.recipe.specs.Kept as kept
 use Rattle.audit_rules.specs.declared.answer.Finished.{Finished}
-use Rattle.audit_rules.specs.Positions.{Position, Standing, forward, todo}
-use Rattle.audit_rules.specs.Valid.{AreDone, AreFinished, IsAt, IsInputs, IsPosition, IsStanding}
-use Rattle.audit_rules.proofs.Places.{all-made, forward-standing}
+use Rattle.audit_rules.specs.Positions.{Position, Phase, forward, todo}
+use Rattle.audit_rules.specs.Valid.{AreDone, AreFinished, IsAt, IsInputs, IsPosition, IsPhase}
+use Rattle.audit_rules.proofs.ValidPositions.{all-made, forward-phase}
 use Rattle.audit_rules.proofs.Rules.{rules}
 use Rattle.audit_run.specs.Stage.Rules.{AreMade, IsStageOf}
 use Rattle.audit_run.specs.Inside.Parts.{later}
@@ -84,9 +84,9 @@ same-stage recipe p stage stages (other, rest, ok) left =
       tail (x ∷ xs) = xs
 
 -- where steps from a position come to is valid
-pub stays : (recipe : RecipeContents) (inputs : List (List ℕ)) (p : Position) (count : ℕ) (to : Standing) → kept.IsRecipe recipe → IsInputs recipe inputs → IsPosition recipe p
-    → forward recipe inputs p count ≡ to → IsStanding recipe to
-stays recipe inputs p count to is given ok reached = subst (IsStanding recipe) reached (forward-standing recipe (rules recipe is) inputs given p ok count)
+pub stays : (recipe : RecipeContents) (inputs : List (List ℕ)) (p : Position) (count : ℕ) (to : Phase) → kept.IsRecipe recipe → IsInputs recipe inputs → IsPosition recipe p
+    → forward recipe inputs p count ≡ to → IsPhase recipe to
+stays recipe inputs p count to is given ok reached = subst (IsPhase recipe) reached (forward-phase recipe (rules recipe is) inputs given p ok count)
 
 -- fewer stages are done than 256
 few : (stages : List Stage) (done : List Finished) → AreFinished stages done → length done ≤ length stages

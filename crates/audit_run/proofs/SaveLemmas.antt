@@ -2,6 +2,6 @@ pub mod Answered
 pub mod Judged
 pub mod Written
 pub mod Exactly
-pub mod PositionSaid
+pub mod PositionParsed
 pub mod SaveLengths
 pub mod Origins

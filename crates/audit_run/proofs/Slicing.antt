@@ -17,11 +17,11 @@ use Rattle.audit_rules.specs.Stages.{ending}
 use Rattle.audit_rules.specs.Positions.{Position, On, at, stage_closed, forward}
 use Rattle.audit_rules.specs.Valid.{IsAt, IsInputs}
 use Rattle.audit_rules.proofs.Endings.{ended}
-use Rattle.audit_rules.proofs.Places.{done-more}
+use Rattle.audit_rules.proofs.ValidPositions.{done-more}
 use Rattle.audit_rules.proofs.Rules.{rules}
-use Rattle.audit_rules.proofs.Slices.{end-place, slice-end, slice-on, slice-spent}
+use Rattle.audit_rules.proofs.Slices.{end-step, slice-end, slice-on, slice-spent}
 use Rattle.audit_run.specs.Stage.Makes.{Makes}
-use Rattle.audit_run.specs.declared.standing.Moved.TheVariants as moved
+use Rattle.audit_run.specs.declared.phase.Moved.TheVariants as moved
 use Rattle.audit_run.specs.Advances.{Wants, WantsBy}
 use Rattle.audit_run.specs.Inside.Parts.{Slices}
 use Rattle.audit_run.proofs.Present.{same-stage, stays}
@@ -66,7 +66,7 @@ module _ (recipe : RecipeContents) (inputs : List (List ℕ)) (done : List Finis
 
   before-end : (slice : ℕ) (end : End) → first_end old slice ≡ Some (end, new) → old.steps + slice ≤ stage.steps → Before slice end
   before-end slice end is fits =
-      let there = end-place old slice (end, new) is in
+      let there = end-step old slice (end, new) is in
       let counted = after-counted old new there.0 there.2 in
       let reached = slice-on recipe inputs done stage stages ok.left old new there.0 there.2 (omega (arith, there.1)) in
       record {

@@ -11,8 +11,8 @@ use Rattle.audit_rules.specs.declared.answer.StageFault.TheVariants.{Runs}
 use Rattle.audit_rules.specs.declared.answer.Finished.{Finished}
 use Rattle.audit_rules.specs.declared.cause.RunCause.TheVariants as run
 use Rattle.audit_rules.specs.Stages.{by_end, ending}
-use Rattle.audit_run.specs.declared.standing.Moved.{Moved}
-use Rattle.audit_run.specs.declared.standing.Moved.TheVariants as moved
+use Rattle.audit_run.specs.declared.phase.Moved.{Moved}
+use Rattle.audit_run.specs.declared.phase.Moved.TheVariants as moved
 
 -- after all its steps no step is left
 pub whole-goes : (old new : GuestState) (limit slice : ℕ) → RunsBy old slice answer.Spent new → limit ≡ old.steps + slice → new.steps < limit → ⊥

@@ -1,15 +1,15 @@
 //! An advance.
 
-ghost use Rattle.audit_run.specs.Advances.{Advances, WantsWithin, said_of_answer, said_of_comparisons};
-ghost use Rattle.audit_run.specs.Inside.Parts.{IsAtRest, IsStandingAfter, IsStarted, SaysOf, seen, stands};
+ghost use Rattle.audit_run.specs.Advances.{Advances, WantsWithin, progress_of_answer, progress_of_comparisons};
+ghost use Rattle.audit_run.specs.Inside.Parts.{IsAtRest, IsPhaseAfter, IsStarted, SaysOf, seen, current};
 ghost use Rattle.std.specs.Prelude.{◌≡◌, ◌≤◌, None, OnErr, OnOk, Some};
 ghost use Rattle.audit_rules.specs.Positions.{forward_from};
 ghost use Rattle.audit_rules.specs.Valid.{IsInputs};
 
 use crate::conduct::Conduct;
 use crate::entering::enter;
+use crate::phase::{AuditPhase, Course, EndedGuest, Progress};
 use crate::stage::Done;
-use crate::standing::{AuditStanding, Course, EndedGuest, Progress};
 use crate::stretch::advance_started;
 use audit_rules::{AuditAnswer, StageFault, all_equal};
 use ddc_base::{Bytes, OutOfMemory};
@@ -26,17 +26,17 @@ pub(crate) fn advance_parts(
     most: u64,
 ) -> Progress
     requires some { 1 ≤ most }
-    requires rest { IsAtRest recipe.now inputs.now course.old.done.items course.old.standing }
-    ensures answer { Advances (record { recipe = recipe.now; inputs = inputs.now; stands = seen course.old.done.items course.old.standing }) most result
-        (seen course.new.done.items course.new.standing) }
-    ensures rest { IsAtRest recipe.now inputs.now course.new.done.items course.new.standing }
+    requires rest { IsAtRest recipe.now inputs.now course.old.done.items course.old.phase }
+    ensures answer { Advances (record { recipe = recipe.now; inputs = inputs.now; current = seen course.old.done.items course.old.phase }) most result
+        (seen course.new.done.items course.new.phase) }
+    ensures rest { IsAtRest recipe.now inputs.now course.new.done.items course.new.phase }
 {
     match begin(
         alloc,
         recipe,
         inputs,
         course.done.as_slice(),
-        &mut course.standing,
+        &mut course.phase,
     ) {
         Ok(()) => {}
         Err(OutOfMemory) => return Progress::OutOfMemory,
@@ -47,7 +47,7 @@ pub(crate) fn advance_parts(
         ended: EndedGuest::Kept,
     };
     match advance_started(alloc, &conduct, course, most) {
-        Ok(()) => said_of(&course.standing),
+        Ok(()) => progress_of(&course.phase),
         Err(OutOfMemory) => Progress::OutOfMemory,
     }
 }
@@ -60,18 +60,18 @@ pub(crate) fn take_piece(
     course: &mut Course,
     most: u64,
 ) -> Result<(), OutOfMemory>
-    requires rest { IsAtRest recipe.now inputs.now course.old.done.items course.old.standing }
-    ensures ok { OnOk result (seen course.new.done.items course.new.standing
-        ≡ Some (forward_from recipe.now inputs.now (stands recipe.now inputs.now course.old.done.items course.old.standing) most)) }
-    ensures rest { OnOk result (IsAtRest recipe.now inputs.now course.new.done.items course.new.standing) }
-    ensures err { OnErr result (WantsWithin (record { recipe = recipe.now; inputs = inputs.now; stands = seen course.old.done.items course.old.standing }) most) }
+    requires rest { IsAtRest recipe.now inputs.now course.old.done.items course.old.phase }
+    ensures ok { OnOk result (seen course.new.done.items course.new.phase
+        ≡ Some (forward_from recipe.now inputs.now (current recipe.now inputs.now course.old.done.items course.old.phase) most)) }
+    ensures rest { OnOk result (IsAtRest recipe.now inputs.now course.new.done.items course.new.phase) }
+    ensures err { OnErr result (WantsWithin (record { recipe = recipe.now; inputs = inputs.now; current = seen course.old.done.items course.old.phase }) most) }
 {
     begin(
         alloc,
         recipe,
         inputs,
         course.done.as_slice(),
-        &mut course.standing,
+        &mut course.phase,
     )?;
     let conduct = Conduct {
         recipe,
@@ -87,43 +87,43 @@ fn begin(
     recipe: &Recipe,
     inputs: &[Bytes],
     done: &[Done],
-    standing: &mut AuditStanding,
+    phase: &mut AuditPhase,
 ) -> Result<(), OutOfMemory>
     requires given { IsInputs recipe.now inputs.now }
-    requires standing { IsStandingAfter recipe.now done.now standing.old }
-    ensures ok { OnOk result (stands recipe.now inputs.now done.now standing.new ≡ stands recipe.now inputs.now done.now standing.old) }
-    ensures started { OnOk result (IsStarted standing.new) }
-    ensures stands { IsStandingAfter recipe.now done.now standing.new }
-    ensures err { OnErr result (standing.new ≡ standing.old) }
-    ensures ready { OnErr result (seen done.now standing.old ≡ None) }
+    requires phase { IsPhaseAfter recipe.now done.now phase.old }
+    ensures ok { OnOk result (current recipe.now inputs.now done.now phase.new ≡ current recipe.now inputs.now done.now phase.old) }
+    ensures started { OnOk result (IsStarted phase.new) }
+    ensures current { IsPhaseAfter recipe.now done.now phase.new }
+    ensures err { OnErr result (phase.new ≡ phase.old) }
+    ensures ready { OnErr result (seen done.now phase.old ≡ None) }
 {
-    match standing {
-        AuditStanding::Running(_) | AuditStanding::Over(_) => Ok(()),
-        AuditStanding::Ready => {
-            standing.set(enter(alloc, recipe, inputs, done)?);
+    match phase {
+        AuditPhase::Running(_) | AuditPhase::Over(_) => Ok(()),
+        AuditPhase::Ready => {
+            phase.set(enter(alloc, recipe, inputs, done)?);
             Ok(())
         }
     }
 }
 
 /// What `advance` returns for an audit that stands here.
-fn said_of(standing: &AuditStanding) -> Progress
-    requires { IsStarted standing.now }
-    ensures { SaysOf standing.now result }
+fn progress_of(phase: &AuditPhase) -> Progress
+    requires { IsStarted phase.now }
+    ensures { SaysOf phase.now result }
 {
-    match standing {
-        AuditStanding::Ready => unreachable!(),
-        AuditStanding::Running(_) => Progress::Paused,
-        AuditStanding::Over(answer) => said_of_answer(answer),
+    match phase {
+        AuditPhase::Ready => unreachable!(),
+        AuditPhase::Running(_) => Progress::Paused,
+        AuditPhase::Over(answer) => progress_of_answer(answer),
     }
 }
 
 /// What `advance` returns for an answer.
-fn said_of_answer(answer: &AuditAnswer) -> Progress
-    ensures { result ≡ said_of_answer answer.now }
+fn progress_of_answer(answer: &AuditAnswer) -> Progress
+    ensures { result ≡ progress_of_answer answer.now }
 {
     match answer {
-        AuditAnswer::Completes(report) => said_of_comparisons(report.compare.as_slice()),
+        AuditAnswer::Completes(report) => progress_of_comparisons(report.compare.as_slice()),
         AuditAnswer::Fails(stage, StageFault::Runs(cause, step)) => Progress::RunFailed {
             stage: *stage,
             cause: *cause,
@@ -137,8 +137,8 @@ fn said_of_answer(answer: &AuditAnswer) -> Progress
 }
 
 /// What `advance` returns for these comparisons.
-fn said_of_comparisons(lines: &[CompareLine]) -> Progress
-    ensures { result ≡ said_of_comparisons lines.now }
+fn progress_of_comparisons(lines: &[CompareLine]) -> Progress
+    ensures { result ≡ progress_of_comparisons lines.now }
 {
     if all_equal(lines) {
         Progress::Equal

@@ -1,13 +1,13 @@
 //! An audit, step by step.
 
 ghost use Rattle.audit_run.specs.Advances.{Advances, IsAdvanced};
-ghost use Rattle.audit_run.specs.Saved.{IsOn, IsResumed, IsResumedAt, IsSave, ResumesAudit, standing_at};
+ghost use Rattle.audit_run.specs.Saved.{IsOn, IsResumed, IsResumedAt, IsSave, ResumesAudit, phase_at};
 ghost use Rattle.audit_run.specs.Delta.Audits.{IsDeltaBetween, IsDeltaFrom, IsResumedRelative, IsResumedRelativeAt, ResumesAuditRelative};
 ghost use Rattle.audit_run.specs.Delta.Deltas.{IsBaseAt, delta_text_of};
 ghost use Rattle.audit_run.specs.Seen.{finished_answer, finished_report, place_of, present_setting};
 ghost use Rattle.audit_run.specs.Save.Saves.{save_of};
 ghost use Rattle.report.specs.Reports.{IsReport};
-ghost use Rattle.save_format.specs.Spelled.{IsTextOfSave};
+ghost use Rattle.save_format.specs.Encoded.{IsTextOfSave};
 ghost use Rattle.std.specs.Option.{option_copied};
 ghost use Rattle.std.specs.Prelude.{◌≡◌, ◌<◌, ◌≤◌, ◌+◌, length, None, Some, IsOk, IfOk, IfSome, option_map};
 ghost use Rattle.audit_rules.specs.declared.answer.AuditAnswer.{AuditAnswer as AuditAnswer};
@@ -16,10 +16,10 @@ ghost use Rattle.audit_rules.specs.Valid.{IsAuditAnswer, IsInputs, IsPosition};
 
 use crate::advance::{advance_parts, take_piece};
 use crate::delta::DeltaRefusal;
+use crate::phase::{AuditPhase, Course, Progress};
 use crate::save::{Resumed, SaveRefusal};
 use crate::setting::setting_of;
 use crate::stage::SoFar;
-use crate::standing::{AuditStanding, Course, Progress};
 use audit_rules::AuditAnswer;
 use ddc_base::{Bytes, OutOfMemory};
 use guest_run::RunBox;
@@ -48,23 +48,23 @@ impl Model for Audit {
 
     ghost coded = { audit_code };
 
-    ghost view = { λ a. record { recipe = a.recipe; inputs = a.inputs; stands = seen a.course.done.items a.course.standing } };
+    ghost view = { λ a. record { recipe = a.recipe; inputs = a.inputs; current = seen a.course.done.items a.course.phase } };
 
-    ghost invariant = { λ a. IsAtRest a.recipe a.inputs a.course.done.items a.course.standing };
+    ghost invariant = { λ a. IsAtRest a.recipe a.inputs a.course.done.items a.course.phase };
 }
 
 impl Audit {
     /// An audit whose first stage has not started. Allocates nothing.
     pub fn new(alloc: Global, recipe: Recipe, inputs: Inputs) -> Audit
         requires { IsInputs recipe inputs }
-        ensures { result ≡ record { recipe = recipe; inputs = inputs; stands = None } }
+        ensures { result ≡ record { recipe = recipe; inputs = inputs; current = None } }
     {
         Audit {
             recipe,
             inputs,
             course: Course {
                 done: Vec::new(alloc),
-                standing: AuditStanding::Ready,
+                phase: AuditPhase::Ready,
             },
             alloc,
         }
@@ -77,7 +77,7 @@ impl Audit {
     /// were done and may be advanced again. Memory runs out only if the next step allocates or the first stage had still to start.
     pub fn advance(&mut self, most: u64) -> Progress
         requires { 1 ≤ most }
-        ensures answer { Advances self.old most result self.new.stands }
+        ensures answer { Advances self.old most result self.new.current }
         ensures recipe { self.new.recipe ≡ self.old.recipe }
         ensures inputs { self.new.inputs ≡ self.old.inputs }
     {
@@ -113,49 +113,49 @@ impl Audit {
 
     /// The answer of an audit that is over; `None` before its end.
     pub fn answer(&self) -> Option<&AuditAnswer>
-        ensures answer { option_copied result ≡ finished_answer self.now.stands }
+        ensures answer { option_copied result ≡ finished_answer self.now.current }
         ensures form { IfSome (option_copied result) IsAuditAnswer }
     {
-        match &self.course.standing {
-            AuditStanding::Over(answer) => Some(answer),
-            AuditStanding::Ready | AuditStanding::Running(_) => None,
+        match &self.course.phase {
+            AuditPhase::Over(answer) => Some(answer),
+            AuditPhase::Ready | AuditPhase::Running(_) => None,
         }
     }
 
     /// The report of an audit that is over; `None` before `advance` returns `Equal` or `Differs`.
     pub fn report(&self) -> Option<&Report>
-        ensures report { option_copied result ≡ finished_report self.now.stands }
+        ensures report { option_copied result ≡ finished_report self.now.current }
         ensures form { IfSome (option_copied result) IsReport }
     {
-        match &self.course.standing {
-            AuditStanding::Over(AuditAnswer::Completes(report)) => Some(report),
+        match &self.course.phase {
+            AuditPhase::Over(AuditAnswer::Completes(report)) => Some(report),
             _ => None,
         }
     }
 
     /// The present stage's number, from 1, and the steps taken in it: (1, 0) before the first advance, (0, 0) if the audit is over.
     pub fn place(&self) -> (u32, u64)
-        ensures { result ≡ place_of self.now.stands }
+        ensures { result ≡ place_of self.now.current }
     {
-        match &self.course.standing {
-            AuditStanding::Ready => (1, 0),
-            AuditStanding::Running(guest) => (
+        match &self.course.phase {
+            AuditPhase::Ready => (1, 0),
+            AuditPhase::Running(guest) => (
                 stage_after(&self.recipe, self.course.done.len()),
                 guest.steps(),
             ),
-            AuditStanding::Over(_) => (0, 0),
+            AuditPhase::Over(_) => (0, 0),
         }
     }
 
     /// The present stage's program and a new execution context (`RunBox`); `None`, without allocating, if the audit is over. Error: out of
     /// memory.
     pub fn setting(&self, alloc: Global) -> Result<Option<(&[u8], RunBox<'_>)>, OutOfMemory>
-        ensures value { IfOk result (λ setting. option_map (λ s. (s.0.now, s.1)) setting ≡ present_setting self.now.recipe self.now.inputs self.now.stands) }
-        ensures over { (answer : AuditAnswer) → self.now.stands ≡ Some (Over answer) → IsOk result }
+        ensures value { IfOk result (λ setting. option_map (λ s. (s.0.now, s.1)) setting ≡ present_setting self.now.recipe self.now.inputs self.now.current) }
+        ensures over { (answer : AuditAnswer) → self.now.current ≡ Some (Over answer) → IsOk result }
     {
-        match &self.course.standing {
-            AuditStanding::Over(_) => Ok(None),
-            AuditStanding::Ready | AuditStanding::Running(_) => {
+        match &self.course.phase {
+            AuditPhase::Over(_) => Ok(None),
+            AuditPhase::Ready | AuditPhase::Running(_) => {
                 setting_of(
                     alloc,
                     &self.recipe,
@@ -169,16 +169,16 @@ impl Audit {
     /// The save of the position, in the second form (docs/reference/save.md). Error: out of memory. Requires a started present stage, which
     /// holds after `Paused` and after `resume`.
     pub fn save(&self) -> Result<Bytes, OutOfMemory>
-        requires { IsOn self.now.stands }
-        ensures text { IfOk result (IsSave self.now.recipe self.now.inputs self.now.stands) }
+        requires { IsOn self.now.current }
+        ensures text { IfOk result (IsSave self.now.recipe self.now.inputs self.now.current) }
         // The text may be the base of deltas.
-        ensures base { IfOk result (λ text. (p : Position) × (self.now.stands ≡ Some (On p)) × IsBaseAt self.now.recipe self.now.inputs p text) }
+        ensures base { IfOk result (λ text. (p : Position) × (self.now.current ≡ Some (On p)) × IsBaseAt self.now.recipe self.now.inputs p text) }
     {
         let alloc = self.alloc;
-        match &self.course.standing {
-            AuditStanding::Ready => unreachable!(),
-            AuditStanding::Over(_) => unreachable!(),
-            AuditStanding::Running(guest) => crate::save::write(
+        match &self.course.phase {
+            AuditPhase::Ready => unreachable!(),
+            AuditPhase::Over(_) => unreachable!(),
+            AuditPhase::Running(guest) => crate::save::write(
                 alloc,
                 &self.recipe,
                 self.inputs.as_slice(),
@@ -207,18 +207,18 @@ impl Audit {
         ensures exact { ResumesAudit recipe inputs text.now result }
     {
         let position = crate::save::read(alloc, &recipe, inputs.as_slice(), text)?;
-        Ok(Audit::standing_at(alloc, recipe, inputs, position))
+        Ok(Audit::phase_at(alloc, recipe, inputs, position))
     }
 
     /// The delta of the position against where another audit of the same recipe and inputs stands (docs/reference/delta.md). Error: out of
     /// memory. Requires a started present stage in both audits. It makes the base's text for its digest; for a base that was saved before,
     /// `save_delta_of` takes that save.
     pub fn save_delta(&self, base: &Audit) -> Result<Bytes, OutOfMemory>
-        requires on { IsOn self.now.stands }
-        requires base { IsOn base.now.stands }
+        requires on { IsOn self.now.current }
+        requires base { IsOn base.now.current }
         requires recipe { base.now.recipe ≡ self.now.recipe }
         requires inputs { base.now.inputs ≡ self.now.inputs }
-        ensures { IfOk result (IsDeltaBetween self.now.recipe self.now.inputs base.now.stands self.now.stands) }
+        ensures { IfOk result (IsDeltaBetween self.now.recipe self.now.inputs base.now.current self.now.current) }
     {
         let text = base.save()?;
         self.save_delta_of(text.as_slice())
@@ -227,16 +227,16 @@ impl Audit {
     /// The delta of the position against a save, its base, in either form. Error: out of memory. Requires a started present stage, and a
     /// base that is the save of a position of this audit's recipe and inputs.
     pub fn save_delta_of(&self, base: &[u8]) -> Result<Bytes, OutOfMemory>
-        requires on { IsOn self.now.stands }
+        requires on { IsOn self.now.current }
         requires base { (b : Position) × IsBaseAt self.now.recipe self.now.inputs b base.now }
         ensures { IfOk result (λ text. (b : Position) → IsBaseAt self.now.recipe self.now.inputs b base.now
-            → IsDeltaFrom self.now.recipe self.now.inputs b self.now.stands text) }
+            → IsDeltaFrom self.now.recipe self.now.inputs b self.now.current text) }
     {
         let alloc = self.alloc;
-        match &self.course.standing {
-            AuditStanding::Ready => unreachable!(),
-            AuditStanding::Over(_) => unreachable!(),
-            AuditStanding::Running(guest) => {
+        match &self.course.phase {
+            AuditPhase::Ready => unreachable!(),
+            AuditPhase::Over(_) => unreachable!(),
+            AuditPhase::Running(guest) => {
                 let so_far = SoFar {
                     recipe: &self.recipe,
                     inputs: self.inputs.as_slice(),
@@ -270,14 +270,14 @@ impl Audit {
         ensures exact { ResumesAuditRelative recipe inputs base.now delta.now result }
     {
         let position = crate::delta::read(alloc, &recipe, inputs.as_slice(), base, delta)?;
-        Ok(Audit::standing_at(alloc, recipe, inputs, position))
+        Ok(Audit::phase_at(alloc, recipe, inputs, position))
     }
 
     /// The audit at a position.
-    fn standing_at(alloc: Global, recipe: Recipe, inputs: Inputs, position: Resumed) -> Audit
+    fn phase_at(alloc: Global, recipe: Recipe, inputs: Inputs, position: Resumed) -> Audit
         requires given { IsInputs recipe inputs }
         requires position { IsPosition recipe position }
-        ensures { result ≡ standing_at recipe inputs position }
+        ensures { result ≡ phase_at recipe inputs position }
     {
         let (done, guest) = position.into_parts();
         Audit {
@@ -285,7 +285,7 @@ impl Audit {
             inputs,
             course: Course {
                 done,
-                standing: AuditStanding::Running(guest),
+                phase: AuditPhase::Running(guest),
             },
             alloc,
         }

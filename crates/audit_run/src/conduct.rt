@@ -2,7 +2,7 @@
 
 ghost use Rattle.audit_rules.specs.Valid.{IsInputs};
 
-use crate::standing::EndedGuest;
+use crate::phase::EndedGuest;
 use ddc_base::Bytes;
 use recipe::Recipe;
 

@@ -9,9 +9,9 @@ ghost use Rattle.audit_rules.specs.Positions.{at, todo};
 ghost use Rattle.audit_rules.specs.Stages.{by_end, stage_result};
 ghost use Rattle.audit_rules.specs.Valid.{AreDone, IsAt, IsInputs};
 
+use crate::phase::Moved;
 use crate::stage::{Done, SoFar, start_stage};
 use crate::stage_run::run_slice;
-use crate::standing::Moved;
 use audit_rules::{RunCause, StageFault};
 use ddc_base::{Bytes, ListOf, OutOfMemory};
 use guest_run::{Guest, RunRam};
@@ -88,7 +88,7 @@ fn run_out(
     guest: Guest<RunRam>,
 ) -> Result<Result<Done, StageFault>, OutOfMemory>
     requires kept { IsRecipe so_far.now.recipe.now }
-    requires stands { IsAt so_far.now.recipe.now (at so_far.now.done.now guest) stage.now (later so_far.now.recipe.now so_far.now.done.now) }
+    requires current { IsAt so_far.now.recipe.now (at so_far.now.done.now guest) stage.now (later so_far.now.recipe.now so_far.now.done.now) }
     ensures value { IfOk result (λ run. run ≡ by_end so_far.now.recipe.now so_far.now.inputs.now so_far.now.done.now stage.now
         (first_end guest (stage.now.steps - guest.steps))) }
     ensures done { IfOk result (λ run. IfOk run (λ f. AreDone so_far.now.recipe.now (so_far.now.done.now ++ f ∷ []))) }

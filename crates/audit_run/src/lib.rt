@@ -13,11 +13,11 @@ pub mod delta;
 mod earlier;
 mod entering;
 pub mod laws;
+mod phase;
 pub mod save;
 mod setting;
 pub mod stage;
 mod stage_run;
-mod standing;
 mod stretch;
 
 pub use crate::delta::DeltaRefusal;
@@ -25,4 +25,4 @@ pub use crate::save::SaveRefusal;
 pub use audit::Audit;
 pub use bench::run_bench;
 pub use earlier::{Unfinished, run_earlier};
-pub use standing::Progress;
+pub use phase::Progress;

@@ -9,8 +9,8 @@ ghost use Rattle.audit_rules.specs.Positions.{at};
 ghost use Rattle.audit_rules.specs.Stages.{by_end};
 ghost use Rattle.audit_rules.specs.Valid.{IsAt};
 
+use crate::phase::Moved;
 use crate::stage::{Exit, SoFar, exited};
-use crate::standing::Moved;
 use audit_rules::{RunCause, StageFault};
 use ddc_base::OutOfMemory;
 use guest_run::{Guest, RunEnd, RunRam};
@@ -28,7 +28,7 @@ pub(crate) fn run_slice(
     requires some { 1 ≤ most }
     requires recipe { IsRecipe so_far.now.recipe.now }
     requires stage { IsStageOf so_far.now.recipe.now stage.now }
-    requires stands { IsAt so_far.now.recipe.now (at so_far.now.done.now guest.old) stage.now (later so_far.now.recipe.now so_far.now.done.now) }
+    requires current { IsAt so_far.now.recipe.now (at so_far.now.done.now guest.old) stage.now (later so_far.now.recipe.now so_far.now.done.now) }
     ensures slices { Slices so_far.now.recipe.now so_far.now.inputs.now so_far.now.done.now (later so_far.now.recipe.now so_far.now.done.now)
         guest.old most result guest.new }
     // With at least as many steps as the stage has left, its run ends.

@@ -1,6 +1,6 @@
 //! An audit's steps.
 
-ghost use Rattle.audit_run.specs.Inside.Parts.{IsStandingAfter, IsStarted, KeepsStanding, later, Slices, stands, WantsAfter};
+ghost use Rattle.audit_run.specs.Inside.Parts.{IsPhaseAfter, IsStarted, KeepsPhase, later, Slices, current, WantsAfter};
 ghost use Rattle.recipe.specs.Kept.{IsRecipe};
 ghost use Rattle.std.specs.Prelude.{◌≡◌, ◌++◌, ◌∷◌, [], ◌≤◌, IfOk, OnErr, OnOk, Ok};
 ghost use Rattle.audit_rules.specs.Positions.{at, stage_closed, forward_from, todo};
@@ -8,21 +8,21 @@ ghost use Rattle.audit_rules.specs.Valid.{AreDone, IsPosition};
 
 use crate::conduct::Conduct;
 use crate::entering::enter;
+use crate::phase::{AuditPhase, Course, EndedGuest, Moved};
 use crate::stage::{Done, SoFar};
 use crate::stage_run::run_slice;
-use crate::standing::{AuditStanding, Course, EndedGuest, Moved};
 use audit_rules::AuditAnswer;
 use ddc_base::OutOfMemory;
 use guest_run::{Guest, RunRam};
 use std::alloc::Global;
 
 /// After a stage is done: drops its guest unless it is to be kept.
-fn leave(standing: &mut AuditStanding, ended: EndedGuest)
-    ensures { KeepsStanding ended standing.old standing.new }
+fn leave(phase: &mut AuditPhase, ended: EndedGuest)
+    ensures { KeepsPhase ended phase.old phase.new }
 {
     match ended {
         EndedGuest::Kept => {}
-        EndedGuest::GivenUp => standing.set(AuditStanding::Ready),
+        EndedGuest::GivenUp => phase.set(AuditPhase::Ready),
     }
 }
 
@@ -34,15 +34,15 @@ fn close(
     finished: Done,
 ) -> Result<(), OutOfMemory>
     requires done { AreDone conduct.now.recipe.now (course.old.done.items ++ finished ∷ []) }
-    requires left { todo conduct.now.recipe.now (course.old.done.items ++ finished ∷ []) ≡ later conduct.now.recipe.now course.old.done.items }
-    ensures ok { OnOk result (stands conduct.now.recipe.now conduct.now.inputs.now course.new.done.items course.new.standing
+    requires remaining { todo conduct.now.recipe.now (course.old.done.items ++ finished ∷ []) ≡ later conduct.now.recipe.now course.old.done.items }
+    ensures ok { OnOk result (current conduct.now.recipe.now conduct.now.inputs.now course.new.done.items course.new.phase
         ≡ stage_closed conduct.now.recipe.now conduct.now.inputs.now course.old.done.items
         (later conduct.now.recipe.now course.old.done.items) (Ok finished)) }
-    ensures started { OnOk result (IsStarted course.new.standing) }
-    ensures standing { OnErr result (KeepsStanding conduct.now.ended course.old.standing course.new.standing) }
+    ensures started { OnOk result (IsStarted course.new.phase) }
+    ensures phase { OnErr result (KeepsPhase conduct.now.ended course.old.phase course.new.phase) }
     ensures done { OnErr result (course.new.done.items ≡ course.old.done.items) }
 {
-    leave(&mut course.standing, conduct.ended);
+    leave(&mut course.phase, conduct.ended);
     course.done.push(finished)?;
     match enter(
         alloc,
@@ -51,7 +51,7 @@ fn close(
         course.done.as_slice(),
     ) {
         Ok(entered) => {
-            course.standing.set(entered);
+            course.phase.set(entered);
             Ok(())
         }
         Err(OutOfMemory) => {
@@ -69,7 +69,7 @@ fn run_present(
     most: u64,
 ) -> Result<(u64, Moved), OutOfMemory>
     requires some { 1 ≤ most }
-    requires stands { IsPosition so_far.now.recipe.now (at so_far.now.done.now guest.old) }
+    requires current { IsPosition so_far.now.recipe.now (at so_far.now.done.now guest.old) }
     ensures kept { IsRecipe so_far.now.recipe.now }
     ensures slices { Slices so_far.now.recipe.now so_far.now.inputs.now so_far.now.done.now (later so_far.now.recipe.now so_far.now.done.now)
         guest.old most result guest.new }
@@ -87,20 +87,20 @@ fn stretch(
     most: u64,
 ) -> Result<u64, OutOfMemory>
     requires some { 1 ≤ most }
-    requires stands { IsStandingAfter conduct.now.recipe.now course.old.done.items course.old.standing }
-    requires started { IsStarted course.old.standing }
-    ensures ok { IfOk result (λ taken. stands conduct.now.recipe.now conduct.now.inputs.now course.new.done.items course.new.standing
+    requires current { IsPhaseAfter conduct.now.recipe.now course.old.done.items course.old.phase }
+    requires started { IsStarted course.old.phase }
+    ensures ok { IfOk result (λ taken. current conduct.now.recipe.now conduct.now.inputs.now course.new.done.items course.new.phase
         ≡ forward_from conduct.now.recipe.now conduct.now.inputs.now
-        (stands conduct.now.recipe.now conduct.now.inputs.now course.old.done.items course.old.standing) taken) }
+        (current conduct.now.recipe.now conduct.now.inputs.now course.old.done.items course.old.phase) taken) }
     ensures some { IfOk result (λ taken. 1 ≤ taken) }
     ensures most { IfOk result (λ taken. taken ≤ most) }
-    ensures started { OnOk result (IsStarted course.new.standing) }
-    ensures stands { OnOk result (IsStandingAfter conduct.now.recipe.now course.new.done.items course.new.standing) }
+    ensures started { OnOk result (IsStarted course.new.phase) }
+    ensures current { OnOk result (IsPhaseAfter conduct.now.recipe.now course.new.done.items course.new.phase) }
     ensures err { OnErr result (WantsAfter conduct.now.ended conduct.now.recipe.now conduct.now.inputs.now
-        (stands conduct.now.recipe.now conduct.now.inputs.now course.old.done.items course.old.standing) most course.new.done.items course.new.standing) }
+        (current conduct.now.recipe.now conduct.now.inputs.now course.old.done.items course.old.phase) most course.new.done.items course.new.phase) }
 {
-    let (taken, moved) = match &mut course.standing {
-        AuditStanding::Running(guest) => {
+    let (taken, moved) = match &mut course.phase {
+        AuditPhase::Running(guest) => {
             let so_far = SoFar {
                 recipe: conduct.recipe,
                 inputs: conduct.inputs,
@@ -108,7 +108,7 @@ fn stretch(
             };
             run_present(alloc, &so_far, guest, most)?
         }
-        AuditStanding::Ready | AuditStanding::Over(_) => return Ok(most),
+        AuditPhase::Ready | AuditPhase::Over(_) => return Ok(most),
     };
     match moved {
         Moved::Goes => Ok(taken),
@@ -119,8 +119,8 @@ fn stretch(
         Moved::Ended(Err(fault)) => {
             let stage = course.done.len() as u32 + 1;
             course
-                .standing
-                .set(AuditStanding::Over(AuditAnswer::Fails(stage, fault)));
+                .phase
+                .set(AuditPhase::Over(AuditAnswer::Fails(stage, fault)));
             Ok(taken)
         }
     }
@@ -133,19 +133,19 @@ pub(crate) fn advance_started(
     course: &mut Course,
     most: u64,
 ) -> Result<(), OutOfMemory>
-    requires stands { IsStandingAfter conduct.now.recipe.now course.old.done.items course.old.standing }
-    requires started { IsStarted course.old.standing }
-    ensures ok { OnOk result (stands conduct.now.recipe.now conduct.now.inputs.now course.new.done.items course.new.standing
+    requires current { IsPhaseAfter conduct.now.recipe.now course.old.done.items course.old.phase }
+    requires started { IsStarted course.old.phase }
+    ensures ok { OnOk result (current conduct.now.recipe.now conduct.now.inputs.now course.new.done.items course.new.phase
         ≡ forward_from conduct.now.recipe.now conduct.now.inputs.now
-        (stands conduct.now.recipe.now conduct.now.inputs.now course.old.done.items course.old.standing) most) }
-    ensures started { OnOk result (IsStarted course.new.standing) }
-    ensures stands { OnOk result (IsStandingAfter conduct.now.recipe.now course.new.done.items course.new.standing) }
+        (current conduct.now.recipe.now conduct.now.inputs.now course.old.done.items course.old.phase) most) }
+    ensures started { OnOk result (IsStarted course.new.phase) }
+    ensures current { OnOk result (IsPhaseAfter conduct.now.recipe.now course.new.done.items course.new.phase) }
     ensures err { OnErr result (WantsAfter conduct.now.ended conduct.now.recipe.now conduct.now.inputs.now
-        (stands conduct.now.recipe.now conduct.now.inputs.now course.old.done.items course.old.standing) most course.new.done.items course.new.standing) }
+        (current conduct.now.recipe.now conduct.now.inputs.now course.old.done.items course.old.phase) most course.new.done.items course.new.phase) }
 {
-    let mut left = most;
-    while left > 0 {
-        left -= stretch(alloc, conduct, course, left)?;
+    let mut remaining = most;
+    while remaining > 0 {
+        remaining -= stretch(alloc, conduct, course, remaining)?;
     }
     Ok(())
 }

@@ -15,8 +15,8 @@ mod routes;
 mod semantics;
 
 /// A recipe with these stages after its other tables.
-pub fn with_stages(alloc: Global, front: &str, stages: &str) -> Result<String, OutOfMemory>
-    ensures { IfOk result (λ text. string_bytes text ≡ front.now ++ (codes "stage = [" ++ (stages.now ++ codes "]\n"))) }
+pub fn with_stages(alloc: Global, leading: &str, stages: &str) -> Result<String, OutOfMemory>
+    ensures { IfOk result (λ text. string_bytes text ≡ leading.now ++ (codes "stage = [" ++ (stages.now ++ codes "]\n"))) }
 {
-    Ok(format!(in alloc; "{front}stage = [{stages}]\n")?)
+    Ok(format!(in alloc; "{leading}stage = [{stages}]\n")?)
 }

@@ -157,7 +157,7 @@ fn whole_text(alloc: Global) -> Result<Bytes, OutOfMemory> {
 }
 
 /// Whether an audit stands after so many steps where they lead.
-fn stands_after(audit: &mut Audit, steps: u64) -> bool
+fn holds_after(audit: &mut Audit, steps: u64) -> bool
     requires { 1 ≤ steps }
 {
     let is_paused = audit.advance(steps) == Progress::Paused;
@@ -170,7 +170,7 @@ fn stands_after(audit: &mut Audit, steps: u64) -> bool
 fn goes_on(alloc: Global, audit: &mut Audit, steps: u64, text: &[u8]) -> bool
     requires { 1 ≤ steps }
 {
-    stands_after(audit, steps)
+    holds_after(audit, steps)
         && audit.advance(64) == Progress::Equal
         && audit.place() == (0, 0)
         && has_text(alloc, audit, text)
@@ -198,7 +198,7 @@ fn check_places(rt: &impl Abort, alloc: Global, text: &[u8]) {
 }
 
 #[test]
-fn an_audit_stands_where_its_steps_lead(rt: HostRuntime) {
+fn an_audit_holds_where_its_steps_lead(rt: HostRuntime) {
     let text = whole_text(rt.alloc()).expect(&rt, "a report");
     check_places(&rt, rt.alloc(), text.as_slice());
 }
@@ -221,14 +221,14 @@ fn ends_handed_on(alloc: Global, audit: Audit, text: &[u8]) -> bool {
 }
 
 /// Whether an audit that was handed on stands after so many steps where they lead.
-fn stands_at(audit: &Audit, steps: u64) -> bool {
+fn holds_at(audit: &Audit, steps: u64) -> bool {
     audit.place() == place_after(steps) && audit.answer().is_some() == (steps >= 64)
 }
 
 /// The same of one that stands there, and first is asked for its place.
 fn takes_last(alloc: Global, audit: Audit, steps: u64, text: &[u8]) -> bool {
-    let stands = stands_at(&audit, steps);
-    ends_handed_on(alloc, audit, text) && stands
+    let holds = holds_at(&audit, steps);
+    ends_handed_on(alloc, audit, text) && holds
 }
 
 /// Whether an audit that is handed on is, after so many steps, where they lead, and then ends with this report.
@@ -254,7 +254,7 @@ fn check_pieces(rt: &impl Abort, alloc: Global, text: &[u8]) {
 }
 
 #[test]
-fn an_audit_that_is_handed_on_stands_there_too(rt: HostRuntime) {
+fn an_audit_that_is_handed_on_holds_there_too(rt: HostRuntime) {
     let text = whole_text(rt.alloc()).expect(&rt, "a report");
     check_pieces(&rt, rt.alloc(), text.as_slice());
 }

@@ -134,7 +134,7 @@ fn fails_second<P: Prompt>(prompt: &mut P) -> bool {
 /// The second call would take six bytes, and takes three.
 fn fails_held(held: &mut MemPrompt) -> Result<bool, OutOfMemory> {
     held.fail_line(2)?;
-    Ok(fails_second(held) && held.left() == b"fg\nh".as_slice() && gives(held, &[2, 1]))
+    Ok(fails_second(held) && held.unread() == b"fg\nh".as_slice() && gives(held, &[2, 1]))
 }
 
 fn held_fails(alloc: Global) -> Result<bool, OutOfMemory> {

@@ -126,15 +126,15 @@ struct Slow {
     held: Vec<u8>,
     arrived: Vec<u8>,
     step: usize,
-    room: usize,
+    budget: usize,
 }
 
 impl Write for Slow {
     ghost contents = { λ slow. Some slow.held.items };
 
     fn write(&mut self, buf: &[u8]) -> io::Result<usize> {
-        let room = self.room.saturating_sub(self.held.len());
-        let count = buf.len().min(self.step).min(room);
+        let budget = self.budget.saturating_sub(self.held.len());
+        let count = buf.len().min(self.step).min(budget);
         self.held.extend_from_slice(&buf[..count])?;
         Ok(count)
     }
@@ -181,7 +181,7 @@ fn writes_whole_pieces(rt: HostRuntime) {
         held: Vec::new(rt.alloc()),
         arrived: Vec::new(rt.alloc()),
         step: 3,
-        room: 20,
+        budget: 20,
     };
     assert!(rt; writes_and_puts(&mut slow));
 }

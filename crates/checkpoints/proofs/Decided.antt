@@ -10,7 +10,7 @@ use Rattle.std.proofs.lemmas.List.Elements.{All-from_recursion, recursion_from_A
 use Rattle.paged_mem.specs.Memory.{Memory, IsFree, maps, page_up}
 use Rattle.mem_files.specs.declared.open_file.OpenFile.{OpenFile}
 use Rattle.mem_files.specs.declared.open_file.OpenFile.TheVariants.{Input, Stream1, Stream2, File}
-use Rattle.mem_files.specs.Limits.{most_content, most_descriptors, most_names, most_total}
+use Rattle.ddc_base.specs.Limits.{address_end, file_number_end, most_content, most_descriptors, most_heap, most_names, most_pages, most_pages_apart, most_total, page_number_end, stack_size}
 use Rattle.mem_files.specs.Lists.{AreInRange, FileLists, is_listed, is_used, named}
 use Rattle.mem_files.specs.Names.{bytes_cmp, is_stripped_name}
 use Rattle.mem_files.specs.Outputs.{IsContent}
@@ -18,7 +18,7 @@ use Rattle.mem_files.specs.Sound.{AreBytes, IsOpenFileAt}
 use Rattle.linux_calls.specs.declared.Heap.{Heap}
 use Rattle.linux_calls.specs.HeapOf.{IsHeapOf}
 use Rattle.rv64_machine.specs.Hart.{IsReservation}
-use Rattle.guest_run.specs.Stack.{stack_end, stack_size}
+use Rattle.guest_run.specs.Stack.{stack_end}
 use Rattle.guest_run.specs.Valid.{Fits, pages_apart}
 use Rattle.save_format.specs.declared.state_text.parts.Run.{Run}
 use Rattle.save_format.specs.StateText.Mappable.{AreMappable}
@@ -60,7 +60,7 @@ are_in_range lists =
     (both (is_at_most (length (named lists.files)) most_names)
     (both (are_all (λ e. both (is_test (is_stripped_name e.0)) (are_bytes e.0)) (named lists.files))
     (both (are_distinct (eq_by_cmp bytes_cmp) (map (λ e. e.0) (named lists.files)))
-    (both (are_all (λ file. Decides-ltb file.number 5120) lists.files)
+    (both (are_all (λ file. Decides-ltb file.number file_number_end) lists.files)
     (both (are_all (λ file. is_content file.content) lists.files)
     (both (are_all is_content lists.streams)
     (both (is_at_most (sum_by length lists.streams + sum_by (λ file. length file.content) lists.files) most_total)
@@ -78,23 +78,23 @@ unfolding test.is_heap_of
 is_heap_of m heap =
     Decides-like _ (λ h. assumption) (λ h. assumption)
     (both (Decides-eqb (heap.first % 4096) 0)
-    (both (is_at_most heap.limit (2 ^ 30))
+    (both (is_at_most heap.limit most_heap)
     (both (is_at_most heap.first heap.now)
     (both (is_at_most heap.now (heap.first + heap.limit))
-    (both (is_at_most (heap.first + heap.limit) (2 ^ 38 - 8388608))
+    (both (is_at_most (heap.first + heap.limit) (address_end - stack_size))
     (both (is_test (maps m heap.first (page_up heap.now - heap.first))) (is_free m (page_up heap.now) (page_up (heap.first + heap.limit) - page_up heap.now))))))))
 
 fits : (m : Memory) (heap : Heap) → Decides (test.is_fit m heap) (Fits m heap)
 unfolding test.is_fit
 fits m heap =
     Decides-like _ (λ h. assumption) (λ h. assumption)
-    (both (is_heap_of m heap) (both (is_test (maps m (stack_end - stack_size) stack_size)) (is_at_most (pages_apart m heap) 67584)))
+    (both (is_heap_of m heap) (both (is_test (maps m (stack_end - stack_size) stack_size)) (is_at_most (pages_apart m heap) most_pages_apart)))
 
 are_mappable : (runs : List Run) → Decides (test.are_mappable runs) (AreMappable runs)
 unfolding test.are_mappable
 are_mappable runs =
     Decides-like _ (λ h. assumption) (λ h. assumption)
-    (both (are_all (λ run. is_at_most (run.first + run.pages) (2 ^ 26)) runs) (is_at_most (sum_by (λ run. run.pages) runs) 329_728))
+    (both (are_all (λ run. is_at_most (run.first + run.pages) page_number_end) runs) (is_at_most (sum_by (λ run. run.pages) runs) most_pages))
 
 is_in_memory : (s : StateText) → Decides (test.is_in_memory s) (IsInMemory s)
 unfolding test.is_in_memory
@@ -108,7 +108,7 @@ is_reservation : (reservation : Option (ℕ × ℕ)) → Decides (test.is_reserv
 is_reservation None = (λ t. tt, λ h. refl)
 is_reservation (Some held) =
     Decides-like _ (λ h. (h.0, h.1.0, h.1.1)) (λ h. (h.0, (h.1, h.2)))
-    (both (Decides-or (held.0 == 4) (held.0 == 8) (Decides-eqb held.0 4) (Decides-eqb held.0 8)) (both (Decides-eqb (held.1 % held.0) 0) (Decides-ltb held.1 (2 ^ 38))))
+    (both (Decides-or (held.0 == 4) (held.0 == 8) (Decides-eqb held.0 4) (Decides-eqb held.0 8)) (both (Decides-eqb (held.1 % held.0) 0) (Decides-ltb held.1 address_end)))
 
 pub is_in_range : (s : StateText) → Decides (test.is_in_range s) (IsInRange s)
 unfolding test.is_in_range

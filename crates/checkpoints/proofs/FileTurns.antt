@@ -1,5 +1,6 @@
 -- The files and descriptors of files that keep their rules have a text.
 use Rattle.std.proofs.Common.{◌≡◌, ℕ, zero, suc, ◌+◌, ◌^◌, ◌<◌, ◌≤◌, Bool, true, false, eqb, eqb-true, List, [], ◌∷◌, length, map, All, Option, None, Some, IsTrue, refl, sym, ap, ◌∙◌, arith}
+use Rattle.ddc_base.specs.Limits.{file_number_end}
 use Rattle.std.specs.Prelude.{◌&&◌, ◌||◌, nat_le, not}
 use Rattle.std.specs.List.{list_any}
 use Rattle.std.specs.Ordering.{is_lt, nat_cmp}
@@ -18,7 +19,7 @@ use Rattle.mem_files.specs.Names.{begins_with_dot_slash, is_file_name, is_stripp
 use Rattle.mem_files.specs.Outputs.{IsContent}
 use Rattle.mem_files.specs.Sound.{IsOpenFileAt}
 use Rattle.save_format.specs.StateText.StateText.{after_descriptor, after_file}
-use Rattle.save_format.specs.StateText.Spelled.{IsDescriptor, IsFile, IsNameText, IsOpenFile}
+use Rattle.save_format.specs.StateText.Encoded.{IsDescriptor, IsFile, IsNameText, IsOpenFile}
 
 first_two : (a b : Bool) → (a && b) ≡ true → (a ≡ true) × (b ≡ true)
 first_two true b e = (refl, e)
@@ -57,36 +58,36 @@ name_here : (name : Option (List ℕ)) (number : ℕ) (others : List (List ℕ �
 name_here None number others all = (tt, all)
 name_here (Some name) number others all = let short = short_name name (All-head Named (name, number) others all).0 in let most = short.1 in ((short.0, omega arith), All-tail Named (name, number) others all)
 
-file_turn : (files : List ListedFile) (least : ℕ) → finite.is_sorted nat_cmp (numbered_contents files) ≡ true → All (λ f. least ≤ f.number) files → All (λ f. f.number < 5120) files → All (λ f. IsContent f.content) files → All Named (named files)
+file_turn : (files : List ListedFile) (least : ℕ) → finite.is_sorted nat_cmp (numbered_contents files) ≡ true → All (λ f. least ≤ f.number) files → All (λ f. f.number < file_number_end) files → All (λ f. IsContent f.content) files → All Named (named files)
     → InTurn IsFile after_file least files
 file_turn [] least sorted from low good names = tt
 file_turn (f ∷ files) least sorted from low good names =
     let parts = first_two (below_all nat_cmp f.number (numbered_contents files)) (finite.is_sorted nat_cmp (numbered_contents files)) sorted in
     let name = name_here f.name f.number (named files) names in
-    let number = All-head (λ (f : ListedFile). f.number < 5120) f files low in
+    let number = All-head (λ (f : ListedFile). f.number < file_number_end) f files low in
     let size = (All-head (λ (f : ListedFile). IsContent f.content) f files good).small in (
       record { from = All-head (λ (f : ListedFile). least ≤ f.number) f files from; number = omega arith; name = name.0; content = record { short = omega arith } },
       file_turn files (f.number + 1) parts.1 (above (λ (f : ListedFile). f.number) (λ f. f.content) f.number files parts.0)
-          (All-tail (λ (f : ListedFile). f.number < 5120) f files low) (All-tail (λ (f : ListedFile). IsContent f.content) f files good) name.1,
+          (All-tail (λ (f : ListedFile). f.number < file_number_end) f files low) (All-tail (λ (f : ListedFile). IsContent f.content) f files good) name.1,
     )
 
-file_count : (files : List ListedFile) (least : ℕ) → InTurn IsFile after_file least files → All (λ f. f.number < 5120) files → least ≤ 5120 → least + length files ≤ 5120
+file_count : (files : List ListedFile) (least : ℕ) → InTurn IsFile after_file least files → All (λ f. f.number < file_number_end) files → least ≤ file_number_end → least + length files ≤ file_number_end
 file_count [] least turn low le = omega arith
 file_count (f ∷ files) least turn low le =
     let from = turn.0.from in
-    let number = All-head (λ (f : ListedFile). f.number < 5120) f files low in
-    let rest = file_count files (f.number + 1) turn.1 (All-tail (λ (f : ListedFile). f.number < 5120) f files low) (omega arith) in
+    let number = All-head (λ (f : ListedFile). f.number < file_number_end) f files low in
+    let rest = file_count files (f.number + 1) turn.1 (All-tail (λ (f : ListedFile). f.number < file_number_end) f files low) (omega arith) in
     omega arith
 
-any_low : (number : ℕ) (files : List ListedFile) → list_any (λ file. eqb file.number number) files ≡ true → All (λ f. f.number < 5120) files → number < 5120
+any_low : (number : ℕ) (files : List ListedFile) → list_any (λ file. eqb file.number number) files ≡ true → All (λ f. f.number < file_number_end) files → number < file_number_end
 any_low number [] e low = absurd cc
-any_low number (f ∷ files) e low = by (eqb f.number number) refl e (λ later. any_low number files later (All-tail (λ (f : ListedFile). f.number < 5120) f files low))
+any_low number (f ∷ files) e low = by (eqb f.number number) refl e (λ later. any_low number files later (All-tail (λ (f : ListedFile). f.number < file_number_end) f files low))
   where
-    by : (b : Bool) → eqb f.number number ≡ b → (b || list_any (λ file. eqb file.number number) files) ≡ true → (list_any (λ file. eqb file.number number) files ≡ true → number < 5120) → number < 5120
-    by true is found rest = let same : f.number ≡ number = eqb-true f.number number is in let here = All-head (λ (f : ListedFile). f.number < 5120) f files low in omega arith
+    by : (b : Bool) → eqb f.number number ≡ b → (b || list_any (λ file. eqb file.number number) files) ≡ true → (list_any (λ file. eqb file.number number) files ≡ true → number < file_number_end) → number < file_number_end
+    by true is found rest = let same : f.number ≡ number = eqb-true f.number number is in let here = All-head (λ (f : ListedFile). f.number < file_number_end) f files low in omega arith
     by false is found rest = rest found
 
-open_file_fits : (files : List ListedFile) (fd : ℕ) (open_file : OpenFile) → IsOpenFileAt fd open_file → is_listed files open_file ≡ true → All (λ f. f.number < 5120) files → IsOpenFile open_file
+open_file_fits : (files : List ListedFile) (fd : ℕ) (open_file : OpenFile) → IsOpenFileAt fd open_file → is_listed files open_file ≡ true → All (λ f. f.number < file_number_end) files → IsOpenFile open_file
 open_file_fits files fd Input good listed low = tt
 open_file_fits files fd Stream1 good listed low = tt
 open_file_fits files fd Stream2 good listed low = tt
@@ -96,7 +97,7 @@ pub paired : (xs : List (ℕ × OpenFile)) → map (λ e. (e.0, e.1)) xs ≡ xs
 paired [] = refl
 paired (x ∷ xs) = ap (λ ys. x ∷ ys) (paired xs)
 
-open_file_turn : (files : List ListedFile) (open_files : List (ℕ × OpenFile)) (least : ℕ) → finite.is_sorted nat_cmp open_files ≡ true → All (λ e. least ≤ e.0) open_files → All (λ e. e.0 < 1024) open_files → All (λ e. IsOpenFileAt e.0 e.1) open_files → All (λ e. IsTrue (is_listed files e.1)) open_files → All (λ f. f.number < 5120) files
+open_file_turn : (files : List ListedFile) (open_files : List (ℕ × OpenFile)) (least : ℕ) → finite.is_sorted nat_cmp open_files ≡ true → All (λ e. least ≤ e.0) open_files → All (λ e. e.0 < 1024) open_files → All (λ e. IsOpenFileAt e.0 e.1) open_files → All (λ e. IsTrue (is_listed files e.1)) open_files → All (λ f. f.number < file_number_end) files
     → InTurn IsDescriptor after_descriptor least open_files
 open_file_turn files [] least sorted from low good joined numbers = tt
 open_file_turn files (e ∷ open_files) least sorted from low good joined numbers =
@@ -120,7 +121,7 @@ open_file_count (e ∷ open_files) least turn low le =
 
 -- files and descriptors in turn, few enough for a count
 pub record HaveText (l : FileLists) : Type 0 where
-  pub few_files : length l.files ≤ 5120
+  pub few_files : length l.files ≤ file_number_end
   pub few_open_files : length l.open_files ≤ 1024
   pub files : (length l.files < 2 ^ 32) × InTurn IsFile after_file 0 l.files
   pub open_files : (length l.open_files < 2 ^ 32) × InTurn IsDescriptor after_descriptor 0 l.open_files

@@ -3,6 +3,7 @@ use Rattle.std.proofs.Common.{◌≡◌, ℕ, suc, ◌+◌, ◌*◌, ◌^◌, �
 use Rattle.std.specs.List.{AllByRecursion}
 use Rattle.std.specs.FinMap as finite
 use Rattle.std.proofs.lemmas.List.Elements.{All-from_recursion, All-head, All-tail}
+use Rattle.ddc_base.specs.Limits.{address_end, page_number_end}
 use Rattle.save_format.specs.ByteFields.Spelling.{InTurn}
 use Rattle.paged_mem.specs.Memory.{IsWhole, Memory, bytes_at, maps, prepended}
 use Rattle.checkpoints.specs.MemoryParts.Canonical.{AreShown, ArePlaced, with_pages}
@@ -10,12 +11,12 @@ use Rattle.checkpoints.proofs.MemoryPartsLemmas.Filling.{any_order, filled_on}
 use Rattle.save_format.specs.declared.state_text.parts.Page.{Page}
 use Rattle.save_format.specs.declared.state_text.parts.Run.{Run}
 use Rattle.save_format.specs.StateText.StateText.{PageText, StateText, after_page, after_run}
-use Rattle.save_format.specs.StateText.Spelled.{IsPage, IsSavedRun, IsStateText}
+use Rattle.save_format.specs.StateText.Encoded.{IsPage, IsSavedRun, IsStateText}
 use Rattle.save_format.specs.StateText.Seen.{page_view}
 use Rattle.checkpoints.specs.Checkpoint.{mapped_of, memory_of}
 
 abbrev pub EndsWithin : Run → Type 0
-EndsWithin run = run.first + run.pages ≤ 2 ^ 26
+EndsWithin run = run.first + run.pages ≤ page_number_end
 
 abbrev pub IsMappedIn : Memory → PageText → Type 0
 IsMappedIn m page = IsTrue (maps m (4096 * page.number) 4096)
@@ -49,10 +50,10 @@ unfolding bytes_at
 first_byte m at count e = first_there (finite.get m at) (bytes_at m (suc at) count) e
 
 -- a page that is mapped is in memory
-low_page : (m : Memory) (number : ℕ) → IsWhole m → IsTrue (maps m (4096 * number) 4096) → number < 2 ^ 26
+low_page : (m : Memory) (number : ℕ) → IsWhole m → IsTrue (maps m (4096 * number) 4096) → number < page_number_end
 low_page m number whole mapped =
     let there = first_byte m (4096 * number) 4095 mapped in
-    let low : 4096 * number < 2 ^ 38 = whole.low (4096 * number) there.0 there.1 in
+    let low : 4096 * number < address_end = whole.low (4096 * number) there.0 there.1 in
     omega arith
 
 pub shown : (m : Memory) (pages : List PageText) (least : ℕ) → IsWhole m → InTurn IsPage after_page least pages → All (IsMappedIn m) pages → AreShown least pages

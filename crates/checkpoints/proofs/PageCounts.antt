@@ -4,6 +4,7 @@ use Rattle.std.specs.Prelude.{count_by, sum_by, ◌&&◌, ◌||◌, nat_lt, nat_
 use Rattle.std.specs.FinMap as finite
 use Rattle.std.proofs.lemmas.List.Sums.{sum_by-cons}
 use Rattle.std.proofs.lemmas.Bool.{leb-false, ltb-false}
+use Rattle.ddc_base.specs.Limits.{most_pages, page_number_end}
 use Rattle.paged_mem.specs.Memory.{Memory, bytes_at, page_up, prepended}
 use Rattle.linux_calls.specs.declared.Heap.{Heap}
 use Rattle.linux_calls.specs.HeapOf.{is_apart_from_heap}
@@ -81,18 +82,18 @@ in_heap_pages : (heap : Heap) (page : ℕ) → not (is_apart_from_heap heap (409
 in_heap_pages heap page e = in_heap heap.first (page_up (heap.first + heap.limit)) (4096 * page) (nat_lt (4096 * page) heap.first) (nat_le (page_up (heap.first + heap.limit)) (4096 * page)) refl refl e
 
 -- a guest has at most 67,584 pages apart from its heap and 262,144 of its heap
-pub few_pages : (m : Memory) (heap : Heap) → Fits m heap → pages_in (runs_of m) ≤ 329_728
+pub few_pages : (m : Memory) (heap : Heap) → Fits m heap → pages_in (runs_of m) ≤ most_pages
 unfolding pages_apart
 few_pages m heap fits =
     let relative : ℕ → Bool = λ page. is_apart_from_heap heap (4096 * page) in
-    let counted = pages-counted (is_mapped m) 0 (2 ^ 26) in
-    let split = split_count (is_mapped m) relative (pages_from 0 (2 ^ 26)) in
+    let counted = pages-counted (is_mapped m) 0 page_number_end in
+    let split = split_count (is_mapped m) relative (pages_from 0 page_number_end) in
     let low : ℕ = heap.first / 4096 in
     let high : ℕ = page_up (heap.first + heap.limit) / 4096 in
     let aligned = fits.heap_of.aligned in
     let small = fits.heap_of.small in
     let inside : (n : ℕ) → not (relative n) ≡ true → (low ≤ n) × (n < high) = λ n e. let lies = in_heap_pages heap n e in let a = lies.0 in let b = lies.1 in (omega arith, omega arith) in
-    let of_heap = between (λ n. not (relative n)) low high inside 0 (2 ^ 26) in
+    let of_heap = between (λ n. not (relative n)) low high inside 0 page_number_end in
     let few = fits.few in
     omega arith
 

@@ -3,6 +3,7 @@ use Rattle.std.proofs.Common.{◌≡◌, ℕ, zero, suc, ◌+◌, ◌^◌, ◌<�
 use Rattle.std.proofs.Common.{Result, Ok, Err}
 use Rattle.std.specs.Prelude.{IfOk}
 use Rattle.ddc_base.specs.declared.byte_list.OutOfMemory.{OutOfMemory}
+use Rattle.ddc_base.specs.Limits.{page_number_end}
 use Rattle.save_format.specs.StateText.Seen.{state_view}
 use Rattle.save_format.specs.declared.state_text.parts.StateParts.{StateParts}
 use Rattle.std.specs.FinMap as finite
@@ -11,20 +12,20 @@ use Rattle.save_format.specs.ByteFields.Spelling.{InTurn}
 use Rattle.guest_run.specs.State.{GuestState}
 use Rattle.checkpoints.specs.MemoryParts.Canonical.{AreShown, pages_of}
 use Rattle.save_format.specs.StateText.StateText.{PageText, StateText, after_page}
-use Rattle.save_format.specs.StateText.Spelled.{IsPage, IsStateText}
+use Rattle.save_format.specs.StateText.Encoded.{IsPage, IsStateText}
 use Rattle.checkpoints.specs.Checkpoint.{IsInRange, mapped_of, state_of}
 use Rattle.checkpoints.proofs.Memories.{placed, shown}
 use Rattle.checkpoints.proofs.SameText.{no_memory, whole_runs}
 use Rattle.checkpoints.proofs.Turns.{pages_shown}
 use Rattle.save_format.specs.PatchText.Numbered.{items_from, with_item}
 use Rattle.save_format.specs.PatchText.PatchText.{PageChange, page_in, page_of, equal_contents}
-use Rattle.save_format.specs.PatchText.Spelled.{IsPatched, page_change_of, page_changes}
+use Rattle.save_format.specs.PatchText.Encoded.{IsPatched, page_change_of, page_changes}
 use Rattle.save_format.proofs.PatchTextLemmas.Pages.{page_again, page_number, pages_rise, page_whole}
 use Rattle.save_format.proofs.PatchTextLemmas.Rising.{has_number, items_again}
 
 -- ---- pages that are in memory are few
 
-shown_few : (least : ℕ) (pages : List PageText) → AreShown least pages → least ≤ 2 ^ 26 → length pages + least ≤ 2 ^ 26
+shown_few : (least : ℕ) (pages : List PageText) → AreShown least pages → least ≤ page_number_end → length pages + least ≤ page_number_end
 shown_few least [] turn le = omega (arith, le)
 shown_few least (page ∷ pages) turn le = let rest = shown_few (page.number + 1) pages turn.1 (omega (arith, turn.0.low)) in omega (arith, rest, turn.0.from)
 
@@ -105,16 +106,16 @@ pub changes_few : (base pages : List PageText) → InTurn IsPage after_page 0 ba
 unfolding page_changes
 changes_few base pages b p = omega (arith, changes_from base pages (2 ^ 32) 0, ap length (listed_again base b), ap length (listed_again pages p))
 
-pub few_of : (g : GuestState) → length (state_of g).pages ≤ 2 ^ 26
+pub few_of : (g : GuestState) → length (state_of g).pages ≤ page_number_end
 unfolding state_of
 few_of g = omega (arith, shown_few 0 (pages_of g.hart.memory) (pages_shown g.hart.memory) (omega arith))
 
-pub few_seen : (g : GuestState) (result : Result StateParts OutOfMemory) → IfOk result (λ parts. state_view parts ≡ state_of g) → IfOk result (λ parts. length (state_view parts).pages ≤ 2 ^ 26)
+pub few_seen : (g : GuestState) (result : Result StateParts OutOfMemory) → IfOk result (λ parts. state_view parts ≡ state_of g) → IfOk result (λ parts. length (state_view parts).pages ≤ page_number_end)
 few_seen g (Ok parts) seen = omega (arith, few_of g, ap (λ (s : StateText). length s.pages) seen)
 few_seen g (Err e) seen = tt
 
 -- the state of a guest has a patch against each that lists few pages
-pub has_patch : (base : StateText) (g : GuestState) → IsStateText base → length base.pages ≤ 2 ^ 26 → IsStateText (state_of g) → IsPatched base (state_of g)
+pub has_patch : (base : StateText) (g : GuestState) → IsStateText base → length base.pages ≤ page_number_end → IsStateText (state_of g) → IsPatched base (state_of g)
 has_patch base g b few t = record {
   steps = t.steps;
   pc = t.pc;

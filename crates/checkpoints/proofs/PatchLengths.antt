@@ -8,11 +8,11 @@ use Rattle.guest_run.specs.Valid.{IsValid}
 use Rattle.mem_files.specs.Lists.{ListedFile, named}
 use Rattle.save_format.specs.ByteFields.Spelling.{InTurn, blob_text, number_text}
 use Rattle.save_format.specs.StateText.StateText.{PageText, StateText, after_page}
-use Rattle.save_format.specs.StateText.Spelled.{IsPage, descriptor_text, name_bytes, run_text}
+use Rattle.save_format.specs.StateText.Encoded.{IsPage, descriptor_text, name_bytes, run_text}
 use Rattle.save_format.specs.declared.byte_fields.form.TextForm.TheVariants.{Second}
 use Rattle.save_format.specs.PatchText.Numbered.{items_from, with_item}
 use Rattle.save_format.specs.PatchText.PatchText.{PageChange, equal_contents, page_in, page_of, patch_magic}
-use Rattle.save_format.specs.PatchText.Spelled.{change_text, content_relative_text, marks_of, page_change_of, page_changes, patch_body_text, patched_file_text, register_text, text_of_patch, values_text}
+use Rattle.save_format.specs.PatchText.Encoded.{change_text, content_relative_text, marks_of, page_change_of, page_changes, patch_body_text, patched_file_text, register_text, text_of_patch, values_text}
 use Rattle.save_format.proofs.PatchTextLemmas.Pages.{known_whole}
 use Rattle.checkpoints.specs.Checkpoint.{state_of}
 use Rattle.checkpoints.proofs.FileTurns.{Named}

@@ -25,8 +25,8 @@ by_files s FileRef aligned reserved memory fits makes = (record { aligned = alig
 by_files s OutOfMemory aligned reserved memory fits makes = record { aligned = aligned; reserved = reserved; runs = memory.runs }
 
 -- what is judged first of what is in range
-pub front_made : (s : StateText) → IsInRange s → MayBeMade s
-front_made s range = record { aligned = range.aligned; reserved = range.reserved; runs = range.memory.runs }
+pub header_made : (s : StateText) → IsInRange s → MayBeMade s
+header_made s range = record { aligned = range.aligned; reserved = range.reserved; runs = range.memory.runs }
 
 -- what is read
 pub wanted : (read : Result StateText ℕ) → IsOk read → (s : StateText) × (read ≡ Ok s)

@@ -34,7 +34,7 @@ one_set registers i long lt =
     let more : take (i + 1) registers ≡ take i registers ++ v ∷ [] = rw add-one (take-suc registers i 0 (omega arith)) in
     ap (λ n. slice_set (take i registers ++ replicate n 0) i v) count
     ∙ seam (take i registers) (replicate (31 - (i + 1)) 0) 0 v i (length-take-le i registers (omega arith))
-    ∙ sym (ap (λ front. front ++ replicate (31 - (i + 1)) 0) more ∙ append_assoc (take i registers) (v ∷ []) (replicate (31 - (i + 1)) 0))
+    ∙ sym (ap (λ prefix. prefix ++ replicate (31 - (i + 1)) 0) more ∙ append_assoc (take i registers) (v ∷ []) (replicate (31 - (i + 1)) 0))
 
 set_at : (xs : List ℕ) (pc : ℕ) (memory : Memory) (held : Option (ℕ × ℕ)) (i v : ℕ)
     → with_register (record { registers = 0 ∷ xs; pc = pc; memory = memory; reservation = held }) (suc i) v ≡ record { registers = 0 ∷ slice_set xs i v; pc = pc; memory = memory; reservation = held }

@@ -8,6 +8,7 @@ use Rattle.std.specs.Cmp.{nat_cmp_is}
 use Rattle.std.specs.declared.cmp.Ordering.TheVariants.{Less}
 use Rattle.std.proofs.lemmas.List.Elements.{All-head, All-replicate, All-tail}
 use Rattle.std.proofs.lemmas.Option.{none-some}
+use Rattle.ddc_base.specs.Limits.{most_pages, page_number_end}
 use Rattle.save_format.specs.ByteFields.Spelling.{InTurn}
 use Rattle.paged_mem.specs.Memory.{IsWhole, Memory, maps, with_bytes, zeros}
 use Rattle.paged_mem.proofs.Mapped.{length-zeros}
@@ -20,7 +21,7 @@ use Rattle.checkpoints.proofs.MemoryPartsLemmas.PagesAgain.{IsZeroed, pages_agai
 use Rattle.checkpoints.proofs.MemoryPartsLemmas.RunsAgain.{get-mapped_runs, in_runs, same_runs_again}
 use Rattle.save_format.specs.declared.state_text.parts.Run.{Run}
 use Rattle.save_format.specs.StateText.StateText.{PageText, StateText, after_page, after_run}
-use Rattle.save_format.specs.StateText.Spelled.{IsDescriptor, IsFile, IsPage, IsStateText}
+use Rattle.save_format.specs.StateText.Encoded.{IsDescriptor, IsFile, IsPage, IsStateText}
 use Rattle.checkpoints.specs.Checkpoint.{IsInRange, guest_of, lists_in, mapped_of, memory_of, state_of}
 use Rattle.checkpoints.proofs.FileTurns.{paired}
 use Rattle.checkpoints.proofs.MemoryPartsLemmas.Filled.{Alike, maps-alike}
@@ -41,7 +42,7 @@ filled_alike Fits full m (page ∷ pages) least turn mapped q =
     same_after_write (with_pages m pages) (4096 * page.number) page.bytes here q ∙ rest q
 
 pub runs_same : (m n : Memory) → Alike m n → runs_of m ≡ runs_of n
-runs_same m n same = ap (λ (mapped : ℕ → Bool). runs_from mapped 0 (2 ^ 26)) (λ i page. same (4096 * page) i)
+runs_same m n same = ap (λ (mapped : ℕ → Bool). runs_from mapped 0 page_number_end) (λ i page. same (4096 * page) i)
 
 -- ---- files
 
@@ -76,7 +77,7 @@ zeroed runs a = both (in_runs runs (a / 4096)) (finite.get (mapped_runs finite.e
     both false o e = inl e
 
 same_pages_again : (runs : List Run) (pages : List PageText) → AreShown 0 pages → pages_of (with_pages (mapped_runs finite.empty runs) pages) ≡ pages
-same_pages_again runs pages shown = pages_again (mapped_runs finite.empty runs) pages 0 0 (2 ^ 26) (zeroed runs) shown (omega arith) refl
+same_pages_again runs pages shown = pages_again (mapped_runs finite.empty runs) pages 0 0 page_number_end (zeroed runs) shown (omega arith) refl
 
 pub no_memory : IsWhole finite.empty
 no_memory = record {
@@ -99,8 +100,8 @@ whole_runs m (run ∷ runs) least whole turn =
     (whole-mapped m (4096 * run.first) (zeros (4096 * run.pages)) whole (omega arith) (omega arith) (omega arith) (zero_bytes (4096 * run.pages))) turn.1
 
 -- the runs are those of the memory that the text says
-said_runs : (s : StateText) → IsStateText s → All EndsWithin s.runs → All (IsMappedIn (mapped_of s)) s.pages → runs_of (memory_of s) ≡ s.runs
-said_runs s text within listed =
+parsed_runs : (s : StateText) → IsStateText s → All EndsWithin s.runs → All (IsMappedIn (mapped_of s)) s.pages → runs_of (memory_of s) ≡ s.runs
+parsed_runs s text within listed =
     runs_same (memory_of s) (mapped_of s) (filled_alike IsPage (λ least page is. is.full) (mapped_of s) s.pages 0 text.pages.1 listed) ∙ same_runs_again s.runs (placed s.runs 0 text.runs.1 within)
 
 pub same_text : (s : StateText) → IsStateText s → IsInRange s → state_of (guest_of s) ≡ s
@@ -108,7 +109,7 @@ unfolding state_of guest_of
 same_text s text range =
     let turn = placed s.runs 0 text.runs.1 range.memory.runs.within in
     let whole = whole_runs finite.empty s.runs 0 no_memory turn in
-    let runs : runs_of (memory_of s) ≡ s.runs = said_runs s text range.memory.runs.within range.memory.listed in
+    let runs : runs_of (memory_of s) ≡ s.runs = parsed_runs s text range.memory.runs.within range.memory.listed in
     let pages : pages_of (memory_of s) ≡ s.pages = same_pages_again s.runs s.pages (shown (mapped_of s) s.pages 0 whole text.pages.1 range.memory.listed) in
     let files : lists_of (world_of (lists_in s)) ≡ lists_in s = same_lists (lists_in s) (ordered s text) range.files in
     λ i. record {
@@ -125,6 +126,6 @@ same_text s text range =
       stream2 = s.stream2;
     }
 
-pub few_in_text : (s : StateText) → IsStateText s → All EndsWithin s.runs → All (IsMappedIn (mapped_of s)) s.pages → Fits (memory_of s) s.heap → sum_by (λ (run : Run). run.pages) s.runs ≤ 329_728
+pub few_in_text : (s : StateText) → IsStateText s → All EndsWithin s.runs → All (IsMappedIn (mapped_of s)) s.pages → Fits (memory_of s) s.heap → sum_by (λ (run : Run). run.pages) s.runs ≤ most_pages
 few_in_text s text within listed fits =
-    subst (λ (runs : List Run). sum_by (λ (run : Run). run.pages) runs ≤ 329_728) (said_runs s text within listed) (few_pages (memory_of s) s.heap fits)
+    subst (λ (runs : List Run). sum_by (λ (run : Run). run.pages) runs ≤ most_pages) (parsed_runs s text within listed) (few_pages (memory_of s) s.heap fits)

@@ -4,6 +4,7 @@ use Rattle.std.specs.Prelude.{sum_by}
 use Rattle.std.specs.Int.{w64}
 use Rattle.std.proofs.lemmas.List.{length-drop}
 use Rattle.std.proofs.lemmas.List.Elements.{All-cons, All-head, All-nil, All-tail}
+use Rattle.ddc_base.specs.Limits.{file_number_end, most_pages, most_total, page_number_end}
 use Rattle.save_format.specs.ByteFields.Spelling.{number_text}
 use Rattle.mem_files.specs.Lists.{ListedFile, lists_of, named, with_name}
 use Rattle.mem_files.specs.declared.open_file.OpenFile.{OpenFile}
@@ -17,7 +18,7 @@ use Rattle.save_format.specs.declared.byte_fields.form.TextForm.{TextForm}
 use Rattle.save_format.specs.declared.byte_fields.form.TextForm.TheVariants.{First, Second}
 use Rattle.save_format.specs.declared.state_text.parts.Run.{Run}
 use Rattle.save_format.specs.StateText.StateText.{PageText, StateText, after_page, state_magic}
-use Rattle.save_format.specs.StateText.Spelled.{IsTextOfState, body_text, descriptor_text, file_text, flags_of, heap_text, name_bytes, page_text, reservation_text, run_text, open_file_text, state_text_in}
+use Rattle.save_format.specs.StateText.Encoded.{IsTextOfState, body_text, descriptor_text, file_text, flags_of, heap_text, name_bytes, page_text, reservation_text, run_text, open_file_text, state_text_in}
 use Rattle.checkpoints.specs.Checkpoint.{state_of}
 use Rattle.checkpoints.proofs.FileTurns.{Named, have_text, short_name}
 use Rattle.checkpoints.proofs.PageCounts.{few_pages, pages_few, runs_few}
@@ -70,13 +71,13 @@ files_most (file ∷ files) all =
 -- what a text says has few parts
 pub record IsSmall (s : StateText) : Type 0 where
   pub registers : length s.registers ≡ 31
-  pub runs : length s.runs ≤ 329_728
-  pub pages : length s.pages ≤ 329_728
+  pub runs : length s.runs ≤ most_pages
+  pub pages : length s.pages ≤ most_pages
   pub shown : AreShown 0 s.pages
-  pub files : length s.files ≤ 5_120
+  pub files : length s.files ≤ file_number_end
   pub names : All Named (named s.files)
   pub descriptors : length s.descriptors ≤ 1_024
-  pub contents : length s.stream1 + length s.stream2 + sum_by (λ file. length file.content) s.files ≤ 536_870_912
+  pub contents : length s.stream1 + length s.stream2 + sum_by (λ file. length file.content) s.files ≤ most_total
 
 body_most : (form : TextForm) (s : StateText) → IsSmall s → HasAtMost 1_892_769_089 (body_text form s)
 unfolding body_text
@@ -105,9 +106,9 @@ is_small g valid =
     let text = have_text l (good_order g.world valid.files) range (good_join g.world valid.files) in
     let mapped = few_pages m g.heap valid.fits in
     let runs = runs_few 0 (runs_of m) (runs_placed m) in
-    let pages = pages_few m 0 (2 ^ 26) in
+    let pages = pages_few m 0 page_number_end in
     let count = valid.hart.count in
-    let contents : 0 + length g.world.stream1 + length g.world.stream2 + sum_by (λ (file : ListedFile). length file.content) l.files ≤ 536_870_912 = range.small_total in
+    let contents : 0 + length g.world.stream1 + length g.world.stream2 + sum_by (λ (file : ListedFile). length file.content) l.files ≤ most_total = range.small_total in
     record {
       registers = omega (arith, length-drop 1 g.hart.registers);
       runs = omega arith;

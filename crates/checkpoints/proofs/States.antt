@@ -17,7 +17,7 @@ use Rattle.checkpoints.proofs.MemoryPartsLemmas.Again.{same_again}
 use Rattle.checkpoints.proofs.MemoryPartsLemmas.RunsAgain.{zero_runs_mapped}
 use Rattle.save_format.specs.declared.state_text.parts.Run.{Run}
 use Rattle.save_format.specs.StateText.StateText.{PageText, StateText, after_page, after_run}
-use Rattle.save_format.specs.StateText.Spelled.{IsPage, IsReserved, IsSavedRun, IsStateText}
+use Rattle.save_format.specs.StateText.Encoded.{IsPage, IsReserved, IsSavedRun, IsStateText}
 use Rattle.checkpoints.specs.Checkpoint.{IsInRange, IsJoined, guest_of, state_of}
 use Rattle.checkpoints.proofs.FileTurns.{have_text}
 use Rattle.checkpoints.proofs.MemoryPartsLemmas.Filled.{maps-alike}
@@ -77,8 +77,8 @@ is_text g valid steps =
       stream2 = record { short = omega arith };
     }
 
-said_memory : (m : Memory) → IsWhole m → with_pages (mapped_runs finite.empty (runs_of m)) (pages_of m) ≡ m
-said_memory m whole = ap (λ z. with_pages z (pages_of m)) (sym (zero_runs_mapped (runs_of m))) ∙ same_again m whole
+parsed_memory : (m : Memory) → IsWhole m → with_pages (mapped_runs finite.empty (runs_of m)) (pages_of m) ≡ m
+parsed_memory m whole = ap (λ z. with_pages z (pages_of m)) (sym (zero_runs_mapped (runs_of m))) ∙ same_again m whole
 
 listed_in : (m n : Memory) (pages : List PageText) → ((page : PageText) → IsMappedIn m page → IsMappedIn n page) → All (IsMappedIn m) pages → All (IsMappedIn n) pages
 listed_in m n [] same all = All-nil (IsMappedIn n)
@@ -96,7 +96,7 @@ in_range g valid =
         runs = record { within = ends_within 0 (runs_of m) (runs_placed m); few = few_pages m g.heap valid.fits };
         listed = listed_in m (mapped_runs finite.empty (runs_of m)) (pages_of m) (λ page mapped. maps-alike (mapped_runs finite.empty (runs_of m)) m (runs_alike m whole) _ _ ∙ mapped) (pages_mapped m);
       };
-      fits = subst (λ (n : Memory). Fits n g.heap) (sym (said_memory m whole)) valid.fits;
+      fits = subst (λ (n : Memory). Fits n g.heap) (sym (parsed_memory m whole)) valid.fits;
       files = good_range g.world valid.files;
     }
 
@@ -112,15 +112,15 @@ pub same_guest : (g : GuestState) → IsValid g → guest_of (state_of g) ≡ g
 unfolding guest_of state_of
 same_guest g valid =
     λ i. record {
-      hart = record { registers = registers_again g.hart.registers valid.hart.count valid.hart.zero i; pc = g.hart.pc; memory = said_memory g.hart.memory valid.hart.whole i; reservation = g.hart.reservation };
+      hart = record { registers = registers_again g.hart.registers valid.hart.count valid.hart.zero i; pc = g.hart.pc; memory = parsed_memory g.hart.memory valid.hart.whole i; reservation = g.hart.reservation };
       world = same_world g.world valid.files i;
       heap = g.heap;
       steps = g.steps;
     }
 
 -- a text says a guest's state where each of its fields does
-pub said : (g : GuestState) (s : StateText) → s.steps ≡ g.steps → s.pc ≡ g.hart.pc → s.registers ≡ drop 1 g.hart.registers → s.reservation ≡ g.hart.reservation → s.heap ≡ g.heap → s.runs ≡ runs_of g.hart.memory → s.pages ≡ pages_of g.hart.memory
+pub parsed : (g : GuestState) (s : StateText) → s.steps ≡ g.steps → s.pc ≡ g.hart.pc → s.registers ≡ drop 1 g.hart.registers → s.reservation ≡ g.hart.reservation → s.heap ≡ g.heap → s.runs ≡ runs_of g.hart.memory → s.pages ≡ pages_of g.hart.memory
     → s.files ≡ (lists_of g.world).files → s.descriptors ≡ (lists_of g.world).open_files → s.stream1 ≡ g.world.stream1 → s.stream2 ≡ g.world.stream2 → s ≡ state_of g
 unfolding state_of
-said g s steps pc registers reservation heap runs pages files descriptors stream1 stream2 =
+parsed g s steps pc registers reservation heap runs pages files descriptors stream1 stream2 =
     λ i. record { steps = steps i; pc = pc i; registers = registers i; reservation = reservation i; heap = heap i; runs = runs i; pages = pages i; files = files i; descriptors = descriptors i; stream1 = stream1 i; stream2 = stream2 i }

@@ -18,5 +18,5 @@ pub use patching::{
     apply_patch, guest_relative, known_of, patched_guest_of, put_patch_of, write_patch,
 };
 pub use reading::{StateRefusal, read_state};
-pub use restoring::{front_in, guest_of, may_be_made};
+pub use restoring::{guest_of, header_in, may_be_made};
 pub use writing::{put_state, write_state};

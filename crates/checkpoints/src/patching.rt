@@ -1,12 +1,13 @@
 //! A guest's state as a patch relative to a base, and back.
 
 ghost use Rattle.std.specs.Prelude.{◌≡◌, ◌<◌, ◌≤◌, ◌^◌, ◌↔◌, ◌++◌, Err, IfOk, IsOk, IsTrue, OnErr, OnOk, length};
+ghost use Rattle.ddc_base.specs.Limits.{page_number_end};
 ghost use Rattle.guest_run.specs.State.{GuestState};
 ghost use Rattle.guest_run.specs.Valid.{IsValid};
 ghost use Rattle.save_format.specs.PatchText.PatchText.{parsed_patch};
-ghost use Rattle.save_format.specs.PatchText.Spelled.{IsPatched, text_of_patch};
+ghost use Rattle.save_format.specs.PatchText.Encoded.{IsPatched, text_of_patch};
 ghost use Rattle.save_format.specs.StateText.Seen.{state_view};
-ghost use Rattle.save_format.specs.StateText.Spelled.{IsStateText};
+ghost use Rattle.save_format.specs.StateText.Encoded.{IsStateText};
 ghost use Rattle.save_format.specs.StateText.StateText.{StateText};
 ghost use Rattle.checkpoints.specs.Checkpoint.{Becomes, IsReadAs, state_of};
 ghost use Rattle.checkpoints.specs.Patching.{AppliesPatch, AppliesPatchTo};
@@ -18,7 +19,7 @@ use crate::writing::parts_of;
 use ddc_base::{Bytes, OutOfMemory};
 use guest_run::Guest;
 use paged_mem::Ram;
-use save_format::patch_text::{front_of, put_patch, read};
+use save_format::patch_text::{header_of, put_patch, read};
 use save_format::state_text::{StateParts, TextRefusal};
 use std::alloc::Global;
 
@@ -40,7 +41,7 @@ pub fn write_patch<R: Ram>(
 pub fn known_of<R: Ram>(alloc: Global, base: &Guest<R>) -> Result<StateParts<'_>, OutOfMemory>
     ensures seen { IfOk result (λ parts. state_view parts ≡ state_of base.now) }
     ensures text { IfOk result (λ parts. IsStateText (state_view parts)) }
-    ensures few { IfOk result (λ parts. length (state_view parts).pages ≤ 2 ^ 26) }
+    ensures few { IfOk result (λ parts. length (state_view parts).pages ≤ page_number_end) }
 {
     parts_of(alloc, base)
 }
@@ -53,7 +54,7 @@ pub fn put_patch_of<R: Ram>(
     guest: &Guest<R>,
 ) -> Result<(), OutOfMemory>
     requires base { IsStateText (state_view base.now) }
-    requires few { length (state_view base.now).pages ≤ 2 ^ 26 }
+    requires few { length (state_view base.now).pages ≤ page_number_end }
     ensures ok { OnOk result (out.new ≡ out.old ++ text_of_patch (state_view base.now) (state_of guest.now)) }
     ensures err { OnErr result (out.new ≡ out.old) }
 {
@@ -87,7 +88,7 @@ pub fn guest_relative<'a, R: Ram>(
     text: &'a [u8],
 ) -> Result<Guest<R>, StateRefusal>
     requires base { IsStateText (state_view base.now) }
-    requires few { length (state_view base.now).pages ≤ 2 ^ 26 }
+    requires few { length (state_view base.now).pages ≤ page_number_end }
     // The result has this patch against the base.
     ensures found { IfOk result (λ guest. text.now ≡ text_of_patch (state_view base.now) (state_of guest)) }
     // The patch of a valid state is read as the guest in that state, unless memory runs out.
@@ -124,8 +125,8 @@ fn wanting(base: &StateParts<'_>, text: &[u8]) -> StateRefusal
     requires { IsOk (parsed_patch (state_view base.now) text.now) }
     ensures { AppliesPatch (state_view base.now) text.now (Err result) }
 {
-    let front = front_of(base, text);
-    if may_be_made(&front) {
+    let header = header_of(base, text);
+    if may_be_made(&header) {
         StateRefusal::OutOfMemory
     } else {
         StateRefusal::Range

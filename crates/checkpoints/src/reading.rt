@@ -3,7 +3,7 @@
 ghost use Rattle.std.specs.Prelude.{◌≡◌, ◌<◌, ◌^◌, Err, IfOk, IsOk};
 ghost use Rattle.guest_run.specs.State.{GuestState};
 ghost use Rattle.guest_run.specs.Valid.{IsValid};
-ghost use Rattle.save_format.specs.StateText.Spelled.{IsTextOfState};
+ghost use Rattle.save_format.specs.StateText.Encoded.{IsTextOfState};
 ghost use Rattle.save_format.specs.StateText.StateText.{parsed_state};
 ghost use Rattle.checkpoints.specs.Checkpoint.{IsReadAs, ReadsState, state_of, state_refusal_number};
 
@@ -11,7 +11,7 @@ use crate::file_parts::RestoreRefusal;
 use crate::restoring::{guest_of, may_be_made};
 use guest_run::Guest;
 use paged_mem::Ram;
-use save_format::state_text::{TextRefusal, front_of, read};
+use save_format::state_text::{TextRefusal, header_of, read};
 use std::alloc::Global;
 
 /// Why a text is not a guest. Its form is checked first, then counts and ranges, then references.
@@ -57,8 +57,8 @@ fn wanting(text: &[u8]) -> StateRefusal
     requires { IsOk (parsed_state text.now) }
     ensures { ReadsState text.now (Err result) }
 {
-    let front = front_of(text);
-    if may_be_made(&front) {
+    let header = header_of(text);
+    if may_be_made(&header) {
         StateRefusal::OutOfMemory
     } else {
         StateRefusal::Range

@@ -3,8 +3,8 @@
 ghost use Rattle.std.specs.Prelude.{◌≡◌, ◌∷◌, [], ◌%◌, ◌↔◌, IsTrue, MatchResult, OnOk, map, option_map};
 ghost use Rattle.save_format.specs.ByteFields.Spelling.{InTurn};
 ghost use Rattle.save_format.specs.StateText.StateText.{StateText, after_descriptor, after_file};
-ghost use Rattle.save_format.specs.StateText.Mappable.{IsFrontOf};
-ghost use Rattle.save_format.specs.StateText.Spelled.{IsDescriptor, IsFile, IsReserved, IsStateText};
+ghost use Rattle.save_format.specs.StateText.Mappable.{IsHeaderOf};
+ghost use Rattle.save_format.specs.StateText.Encoded.{IsDescriptor, IsFile, IsReserved, IsStateText};
 ghost use Rattle.save_format.specs.StateText.Seen.{descriptor_view, file_view, reserved_view, state_view};
 ghost use Rattle.rv64_machine.specs.Hart.{IsReservation, reserved_bytes};
 ghost use Rattle.checkpoints.specs.Checkpoint.{Becomes, MayBeMade, lists_in};
@@ -13,11 +13,12 @@ ghost use Rattle.checkpoints.specs.Inside.Parts.{MakesFiles, RefusesReservation}
 use crate::file_parts::{FileParts, RestoreRefusal, restore};
 use crate::memory::{are_mappable, memory_of};
 use ddc_base::OutOfMemory;
+use ddc_base::limits::ADDRESS_END;
 use guest_run::{Guest, fit_together};
 use mem_files::Files;
 use paged_mem::Ram;
 use rv64_machine::{Hart, Reservation};
-use save_format::state_text::{File, NumberedDescriptor, Reserved, StateFront, StateParts};
+use save_format::state_text::{File, NumberedDescriptor, Reserved, StateHeader, StateParts};
 use std::alloc::Global;
 
 /// The guest of a parsed text. Errors: `Range` for a count or a range, only then `FileRef` for a reference, and out of memory.
@@ -39,17 +40,17 @@ pub fn guest_of<R: Ram>(alloc: Global, parts: &StateParts<'_>) -> Result<Guest<R
 }
 
 /// Whether memory is taken for a state with these front fields.
-pub fn may_be_made(front: &StateFront) -> bool
-    ensures { (s : StateText) → IsFrontOf front.now s → IsTrue result ↔ MayBeMade s }
+pub fn may_be_made(header: &StateHeader) -> bool
+    ensures { (s : StateText) → IsHeaderOf header.now s → IsTrue result ↔ MayBeMade s }
 {
-    front.pc % 4 == 0 && is_held(front.reservation) && front.mappable
+    header.pc % 4 == 0 && is_held(header.reservation) && header.mappable
 }
 
 /// The front fields of a parsed text, before its pages.
-pub fn front_in(parts: &StateParts<'_>) -> StateFront
-    ensures { IsFrontOf result (state_view parts.now) }
+pub fn header_in(parts: &StateParts<'_>) -> StateHeader
+    ensures { IsHeaderOf result (state_view parts.now) }
 {
-    StateFront {
+    StateHeader {
         steps: parts.steps,
         pc: parts.pc,
         reservation: parts.reservation,
@@ -66,7 +67,7 @@ fn is_held(reserved: Option<Reserved>) -> bool
         None => true,
         Some(Reserved { width, at }) => {
             let count = width.count();
-            (count == 4 || count == 8) && at % count == 0 && at < 1 << 38
+            (count == 4 || count == 8) && at % count == 0 && at < ADDRESS_END
         }
     }
 }
@@ -81,7 +82,7 @@ fn reservation_of(reserved: Option<Reserved>) -> Result<Option<Reservation>, Res
     match reserved {
         None => Ok(None),
         Some(Reserved { width, at }) => {
-            if at % width.count() != 0 || at >= 1 << 38 {
+            if at % width.count() != 0 || at >= ADDRESS_END {
                 return Err(RestoreRefusal::Range);
             }
             Ok(Some(Reservation { wide: width, at }))

@@ -1,7 +1,7 @@
 //! Writes the text of a guest.
 
 ghost use Rattle.std.specs.Prelude.{◌≡◌, ◌++◌, IfOk, OnErr, OnOk, drop, option_map};
-ghost use Rattle.save_format.specs.StateText.Spelled.{IsStateText, text_of_state};
+ghost use Rattle.save_format.specs.StateText.Encoded.{IsStateText, text_of_state};
 ghost use Rattle.save_format.specs.StateText.Seen.{reserved_view, state_view};
 ghost use Rattle.checkpoints.specs.Checkpoint.{state_of};
 

@@ -121,9 +121,9 @@ module _ {A : Type 0} (form : List A → List ℕ → Option A) (most : ℕ) (P 
   after-last true earlier items holds is = subst P (same-items earlier items is) holds
   after-last false earlier items holds is = absurd cc
 
-  after-line : (room : Bool) (found : Option A) (earlier items : List A) (line : List ℕ) (rest : A → Result (List A) ℕ) → P earlier → form earlier line ≡ found
+  after-line : (budget : Bool) (found : Option A) (earlier items : List A) (line : List ℕ) (rest : A → Result (List A) ℕ) → P earlier → form earlier line ≡ found
       → ((item : A) → P (earlier ++ item ∷ []) → rest item ≡ Ok items → P items)
-      → cond room (with_line_item found (length earlier + 1) rest) (Err (length earlier + 1)) ≡ Ok items → P items
+      → cond budget (with_line_item found (length earlier + 1) rest) (Err (length earlier + 1)) ≡ Ok items → P items
   after-line true (Some item) earlier items line rest holds found later is = later item (more earlier line item holds found) is
   after-line true None earlier items line rest holds found later is = absurd cc
   after-line false found earlier items line rest holds was later is = absurd cc

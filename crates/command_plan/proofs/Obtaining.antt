@@ -92,8 +92,8 @@ module _ {A B E : Type 0} (meant : Result A E) (refuse : E → Plan) (view : A �
 
   pub refuses : (why : E) (answer : Answer) → meant ≡ Err why → refuse why ≡ answers answer.status answer.text
       → Obtains (λ next. unless_refused meant refuse (λ v. next (view v))) shelf shelf (Err (stop.Answered answer))
-  refuses why answer is said = answers_at_once (λ next. unless_refused meant refuse (λ v. next (view v))) shelf answer
-      (λ next. ap (λ m. unless_refused m refuse (λ v. next (view v))) is ∙ said)
+  refuses why answer is answer_is = answers_at_once (λ next. unless_refused meant refuse (λ v. next (view v))) shelf answer
+      (λ next. ap (λ m. unless_refused m refuse (λ v. next (view v))) is ∙ answer_is)
 
 -- ---- steps that make up one
 

@@ -123,10 +123,10 @@ spoken plan shelf talk is =
     subst P (sym is) (record { shelf = completed_at_once (talks talk) shelf refl refl tt; status = λ _. refl; talk = λ _. refl })
 
 pub says : (plan : Plan) (shelf : ShelfState) (result : Result Answer Stop) → Says plan result → Performs plan shelf shelf result
-says plan shelf (Ok answer) said = record { by_result = answered plan shelf answer said.by_result }
-says plan shelf (Err ending) said =
+says plan shelf (Ok answer) answer_is = record { by_result = answered plan shelf answer answer_is.by_result }
+says plan shelf (Err ending) answer_is =
     let P : Stop → Type 0 = λ ended. Performs plan shelf shelf (Err ended) in
-    subst P (sym said.by_result) (wants_memory plan shelf)
+    subst P (sym answer_is.by_result) (wants_memory plan shelf)
 
 -- one that ends the command
 pub ends_answered : (plan : Plan) (shelf : ShelfState) (answer : Answer) → plan ≡ answers answer.status answer.text → Performs plan shelf shelf (Err (stop.Answered answer))
@@ -298,9 +298,9 @@ speaks_on plan old next mid new talk l s = record {
       l.talk told ∙ s.talk (settled_by_telling next mid.tells (l.tells ∙ told));
 }
 
-front_on : (plan : Plan) (old : ShelfState) (next : Plan) (mid new : ShelfState) (count : ℕ) → Leads plan old next mid → IsTrue old.tells → new.calls ≡ mid.calls ++ take count (asked next mid.files)
+prefix_on : (plan : Plan) (old : ShelfState) (next : Plan) (mid new : ShelfState) (count : ℕ) → Leads plan old next mid → IsTrue old.tells → new.calls ≡ mid.calls ++ take count (asked next mid.files)
     → new.calls ≡ old.calls ++ take (suc count) (asked plan old.files)
-front_on plan old next mid new count l told is =
+prefix_on plan old next mid new count l told is =
     let on = calls_on plan old next mid new.calls (take count (asked next mid.files)) l told is in
     on.1 ∙ ap (λ calls. old.calls ++ take (suc count) calls) (sym on.2)
 
@@ -313,7 +313,7 @@ stops_on plan old next mid new l s = record {
       let at = where_told mid.tells (l.tells ∙ told) s.place in (
         suc at.0,
         record {
-          calls = front_on plan old next mid new at.0 l told at.1.calls;
+          calls = prefix_on plan old next mid new at.0 l told at.1.calls;
           files = at.1.files ∙ sym (l.files told at.0);
         },
       ));
@@ -328,7 +328,7 @@ fails_on plan old next mid new call l f = record {
       let at = where_told mid.tells (l.tells ∙ told) f.place in (
         suc at.0,
         record {
-          calls = front_on plan old next mid new at.0 l told at.1.calls;
+          calls = prefix_on plan old next mid new at.0 l told at.1.calls;
           next = ap (λ calls. option_map failure_of (slice_get calls (suc at.0))) (l.calls told).2 ∙ at.1.next;
           files = rw (l.files told at.0) at.1.files;
         },

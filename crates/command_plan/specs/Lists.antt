@@ -1,6 +1,7 @@
 -- Files that are lists, one item a line. docs/reference/command-line.md says the same for people.
 use Rattle.std.specs.Prelude.{◌≡◌, ℕ, ◌+◌, ◌==◌, ◌&&◌, Bool, List, [], ◌∷◌, ◌++◌, length, nat_le, nat_lt, Option, None, Some, Result, Ok, Err, if◌then◌else◌}
 use Rattle.std.specs.List.{list_all, slice_split}
+use Rattle.ddc_base.specs.Limits.{most_list}
 use Rattle.command_plan.specs.declared.status.Status.TheVariants.{ListRefused}
 use Rattle.command_plan.specs.Plan.{Plan, answers, needs, unless_refused}
 use Rattle.command_plan.specs.Texts.{list_line}
@@ -47,4 +48,4 @@ IsListed form most items = (text : List ℕ) × (list_of form most text ≡ Ok i
 -- the plan needs a list of at most 1,048,576 bytes, and reads it
 abbrev pub needs_list : {A : Type 0} → (List A → List ℕ → Option A) → ℕ → List ℕ → (List A → Plan) → Plan
 needs_list form most file next =
-    needs file 1_048_576 (λ text. unless_refused (list_of form most text) (λ number. answers ListRefused (list_line number)) next)
+    needs file most_list (λ text. unless_refused (list_of form most text) (λ number. answers ListRefused (list_line number)) next)

@@ -20,12 +20,12 @@ pub data Plan : Type 0 where
   needs : List ℕ → ℕ → (List ℕ → Plan) → Plan
   sets : List ℕ → List ℕ → Plan → Plan
 
--- the plan needs the contents of these names in order, each of at most `most` bytes and all of at most `room` together, and continues with
+-- the plan needs the contents of these names in order, each of at most `most` bytes and all of at most `budget` together, and continues with
 -- them
 abbrev pub needs_all : ℕ → ℕ → List (List ℕ) → (List (List ℕ) → Plan) → Plan
-needs_all most room [] next = next []
-needs_all most room (name ∷ names) next =
-    needs name (min most room) (λ content. needs_all most (room - length content) names (λ contents. next (content ∷ contents)))
+needs_all most budget [] next = next []
+needs_all most budget (name ∷ names) next =
+    needs name (min most budget) (λ content. needs_all most (budget - length content) names (λ contents. next (content ∷ contents)))
 
 -- a value continues the plan, and a refusal is answered
 abbrev pub unless_refused : {A E : Type 0} → Result A E → (E → Plan) → (A → Plan) → Plan

@@ -1,7 +1,8 @@
 //! Typed words: the name of a file, names of distinct files, and a number of steps.
 
-ghost use Rattle.std.specs.Prelude.{◌≡◌, ◌≤◌, ◌^◌, IsTrue};
+ghost use Rattle.std.specs.Prelude.{◌≡◌, ◌≤◌, IsTrue};
 ghost use Rattle.ddc_base.specs.Outside.{IsFileName};
+ghost use Rattle.ddc_base.specs.Limits.{most_steps};
 ghost use Rattle.command_plan.specs.Words.{as_file_name, as_four_files, as_steps, as_three_files, as_two_files, is_file_word};
 
 use crate::words::{are_four_files, are_three_files, are_two_files, is_file_word, steps_of};
@@ -113,13 +114,14 @@ pub struct StepCount {
 }
 
 impl Model for StepCount {
-    ghost use Rattle.std.specs.Prelude.{ℕ, ◌≤◌, ◌^◌};
+    ghost use Rattle.std.specs.Prelude.{ℕ, ◌≤◌};
+    ghost use Rattle.ddc_base.specs.Limits.{most_steps};
 
     ghost Value = { ℕ };
 
     ghost view = { λ steps. steps.count };
 
-    ghost invariant = { λ steps. (1 ≤ steps.count) × (steps.count ≤ 2 ^ 48) };
+    ghost invariant = { λ steps. (1 ≤ steps.count) × (steps.count ≤ most_steps) };
 
     ghost inverse = { λ count. record { count = count } };
 }
@@ -137,7 +139,7 @@ impl StepCount {
     pub fn count(self) -> u64
         ensures value { result ≡ self }
         ensures some { 1 ≤ self }
-        ensures most { self ≤ 2 ^ 48 }
+        ensures most { self ≤ most_steps }
     {
         self.count
     }

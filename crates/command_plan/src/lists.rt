@@ -17,11 +17,9 @@ use crate::file_name::FileName;
 use crate::status::Status;
 use crate::stop::Stop;
 use crate::texts;
+use ddc_base::limits::MOST_LIST;
 use ddc_base::{Bytes, ListOf, OutOfMemory, Shelf};
 use std::alloc::Global;
-
-/// The most bytes of a list that is loaded.
-const LIST_LIMIT: u64 = 1_048_576;
 
 /// An item of a list, read from a line.
 pub trait Listed: Sized + Drop {
@@ -44,7 +42,7 @@ pub fn fetch_list<T: Listed, S: Shelf>(
     ensures few { IfOk result (λ items. length items ≤ most) }
     ensures listed { IfOk result (IsListed T.form most) }
 {
-    let text = fetch(alloc, shelf, file, LIST_LIMIT)?;
+    let text = fetch(alloc, shelf, file, MOST_LIST)?;
     read(alloc, text, most)
 }
 

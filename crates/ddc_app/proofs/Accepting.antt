@@ -3,6 +3,7 @@ use Rattle.std.proofs.Common.{◌≡◌, ℕ, Bool, true, false, cond, IsTrue, S
 use Rattle.std.specs.FinMap as finite
 use Rattle.ddc_base.specs.declared.outside.Loaded.TheVariants.{Bytes}
 use Rattle.ddc_base.specs.Outside.{NamedFiles, loaded}
+use Rattle.ddc_base.specs.Limits.{most_recipe, most_report}
 use Rattle.recipe.specs.Reading.{recipe_of}
 use Rattle.recipe.specs.declared.contents.RecipeContents.{RecipeContents}
 use Rattle.report.specs.declared.types.Report.{Report}
@@ -38,12 +39,12 @@ use Rattle.ddc_app.proofs.Walks.{IsRefusal, both_need_apart, both_need_inputs, b
 -- ---- an audit that comes to a comparison
 
 record Went (recipe report : List ℕ) (files : NamedFiles) (answer : Outcome) : Type 0 where
-  said : RecipeContents
+  parsed : RecipeContents
   inputs : List (List ℕ)
-  holds : Holds recipe said inputs files
-  apart : is_input said report ≡ false
+  holds : Holds recipe parsed inputs files
+  apart : is_input parsed report ≡ false
   made : Report
-  comes : bench said inputs ≡ Completes made
+  comes : bench parsed inputs ≡ Completes made
   leads : answer ≡ outcome (completed report made) files
 
 module _ (recipe report : List ℕ) (files : NamedFiles) where
@@ -53,28 +54,28 @@ module _ (recipe report : List ℕ) (files : NamedFiles) where
   refused : (status : Status) (text : List ℕ) → IsRefusal status → Goes (told files status text) (told files status text)
   refused status text refusal compared = let both : false ≡ true = sym refusal.1 ∙ compared in absurd cc
 
-  by_answer : (said : RecipeContents) (inputs : List (List ℕ)) → Holds recipe said inputs files → is_input said report ≡ false → (answer : AuditAnswer) → bench said inputs ≡ answer
-      → Goes (outcome (audited said report answer) files) (outcome (audited said report answer) files)
-  by_answer said inputs holds apart (Completes made) comes compared =
-      record { said = said; inputs = inputs; holds = holds; apart = apart; made = made; comes = comes; leads = refl }
-  by_answer said inputs holds apart (Fails number (Runs cause step)) comes compared = absurd cc
-  by_answer said inputs holds apart (Fails number (Checks cause)) comes compared = absurd cc
+  by_answer : (parsed : RecipeContents) (inputs : List (List ℕ)) → Holds recipe parsed inputs files → is_input parsed report ≡ false → (answer : AuditAnswer) → bench parsed inputs ≡ answer
+      → Goes (outcome (audited parsed report answer) files) (outcome (audited parsed report answer) files)
+  by_answer parsed inputs holds apart (Completes made) comes compared =
+      record { parsed = parsed; inputs = inputs; holds = holds; apart = apart; made = made; comes = comes; leads = refl }
+  by_answer parsed inputs holds apart (Fails number (Runs cause step)) comes compared = absurd cc
+  by_answer parsed inputs holds apart (Fails number (Checks cause)) comes compared = absurd cc
 
-  by_recipe : (bytes : List ℕ) (said : RecipeContents) → loaded files recipe 1_048_576 ≡ Bytes bytes → recipe_of bytes ≡ Ok said
-      → Goes (outcome (needs_apart said report (λ _. needs_inputs said (λ inputs. audited said report (bench said inputs)))) files)
-      (outcome (needs_apart said report (λ _. needs_inputs said (λ inputs. audited said report (bench said inputs)))) files)
-  by_recipe bytes said held reads =
-      let last : List (List ℕ) → Plan = λ inputs. audited said report (bench said inputs) in
-      let then : Unit {0} → Plan = λ _. needs_inputs said last in
-      both_need_apart Goes files refused said report then then (λ apart. both_need_inputs Goes files refused said last last (λ inputs inputs_held.
-      by_answer said inputs (record { bytes = bytes; recipe_held = held; reads = reads; inputs_held = inputs_held }) apart (bench said inputs) refl))
+  by_recipe : (bytes : List ℕ) (parsed : RecipeContents) → loaded files recipe most_recipe ≡ Bytes bytes → recipe_of bytes ≡ Ok parsed
+      → Goes (outcome (needs_apart parsed report (λ _. needs_inputs parsed (λ inputs. audited parsed report (bench parsed inputs)))) files)
+      (outcome (needs_apart parsed report (λ _. needs_inputs parsed (λ inputs. audited parsed report (bench parsed inputs)))) files)
+  by_recipe bytes parsed held reads =
+      let last : List (List ℕ) → Plan = λ inputs. audited parsed report (bench parsed inputs) in
+      let then : Unit {0} → Plan = λ _. needs_inputs parsed last in
+      both_need_apart Goes files refused parsed report then then (λ apart. both_need_inputs Goes files refused parsed last last (λ inputs inputs_held.
+      by_answer parsed inputs (record { bytes = bytes; recipe_held = held; reads = reads; inputs_held = inputs_held }) apart (bench parsed inputs) refl))
 
   went : (two : Bool) → IsTrue (is_compared (outcome (cond two (audit_files recipe report) usage) files).status)
       → (two ≡ true) × Went recipe report files (outcome (cond two (audit_files recipe report) usage) files)
   unfolding audit_files
   went false compared = absurd cc
   went true compared =
-      let next : RecipeContents → Plan = λ said. needs_apart said report (λ _. needs_inputs said (λ inputs. audited said report (bench said inputs))) in
+      let next : RecipeContents → Plan = λ parsed. needs_apart parsed report (λ _. needs_inputs parsed (λ inputs. audited parsed report (bench parsed inputs))) in
       (refl, both_need_recipe Goes files refused recipe next next by_recipe compared)
 
 -- ---- a replay of its report
@@ -82,34 +83,34 @@ module _ (recipe report : List ℕ) (files : NamedFiles) where
 -- files that hold a recipe, its inputs and the bench's report
 pub record Replays (recipe report : List ℕ) (files : NamedFiles) : Type 0 where
   pub two : are_two_files recipe report ≡ true
-  pub said : RecipeContents
+  pub parsed : RecipeContents
   pub inputs : List (List ℕ)
-  pub holds : Holds recipe said inputs files
-  pub apart : is_input said report ≡ false
-  pub given : IsInputs said inputs
+  pub holds : Holds recipe parsed inputs files
+  pub apart : is_input parsed report ≡ false
+  pub given : IsInputs parsed inputs
   pub made : Report
-  pub comes : bench said inputs ≡ Completes made
+  pub comes : bench parsed inputs ≡ Completes made
   pub report_held : finite.get files report ≡ Some (report_text made)
 
 module _ (recipe report : List ℕ) (files : NamedFiles) (r : Replays recipe report files) where
   is_report : IsReport r.made
-  is_report = bench-report r.said r.inputs r.made (rules r.said (is_recipe recipe r.said r.inputs files r.holds)) r.given r.comes
+  is_report = bench-report r.parsed r.inputs r.made (rules r.parsed (is_recipe recipe r.parsed r.inputs files r.holds)) r.given r.comes
 
   -- the same loads lead to its verdict
-  pub judges : verify recipe report files ≡ outcome (judged_report r.said r.made.compare None) files
+  pub judges : verify recipe report files ≡ outcome (judged_report r.parsed r.made.compare None) files
   unfolding judge_files
   judges =
-      let last : Report → Plan = λ made. needs_inputs r.said (λ inputs. verified r.said inputs made) in
+      let last : Report → Plan = λ made. needs_inputs r.parsed (λ inputs. verified r.parsed inputs made) in
       let refuse : ℕ → Plan = λ number. answers ReportRefused (report_line number) in
       ap (λ two. outcome (cond two (verify_files recipe report) usage) files) r.two
-      ∙ recipe_opens recipe r.said r.inputs files r.holds
-      (λ said. needs_apart said report (λ _. needs_report report (λ made. needs_inputs said (λ inputs. verified said inputs made))))
-      ∙ apart_opens r.said report (λ _. needs_report report last) files false r.apart
-      ∙ follows report 1_073_741_824 (λ text. unless_refused (report_of text) refuse last) files (report_text r.made)
-      (is_loaded files report (report_text r.made) 1_073_741_824 r.report_held (short r.made is_report))
+      ∙ recipe_opens recipe r.parsed r.inputs files r.holds
+      (λ parsed. needs_apart parsed report (λ _. needs_report report (λ made. needs_inputs parsed (λ inputs. verified parsed inputs made))))
+      ∙ apart_opens r.parsed report (λ _. needs_report report last) files false r.apart
+      ∙ follows report most_report (λ text. unless_refused (report_of text) refuse last) files (report_text r.made)
+      (is_loaded files report (report_text r.made) most_report r.report_held (short r.made is_report))
       ∙ ap (λ reading. outcome (unless_refused reading refuse last) files) (read_its_text report_rules (report_text r.made) r.made is_report refl)
-      ∙ inputs_open recipe r.said r.inputs files r.holds (λ inputs. verified r.said inputs r.made)
-      ∙ ap (λ fault. outcome (judged_report r.said r.made.compare fault) files) (none-fault r.said r.inputs r.made r.given.count r.comes)
+      ∙ inputs_open recipe r.parsed r.inputs files r.holds (λ inputs. verified r.parsed inputs r.made)
+      ∙ ap (λ fault. outcome (judged_report r.parsed r.made.compare fault) files) (none-fault r.parsed r.inputs r.made r.given.count r.comes)
 
 pub accepts : (recipe report : List ℕ) (files : NamedFiles) → LoadsBytes (plan_of (codes "audit" ∷ recipe ∷ report ∷ [])) files
     → IsTrue (is_compared (audit recipe report files).status) → (verify recipe report (audit recipe report files).files).status ≡ (audit recipe report files).status
@@ -120,11 +121,11 @@ accepts recipe report files bytes compared =
     let after : NamedFiles = finite.insert files report text in
     let r : Replays recipe report after = record {
       two = two;
-      said = w.said;
+      parsed = w.parsed;
       inputs = w.inputs;
-      holds = holds_again recipe w.said w.inputs files w.holds report text (two_apart recipe report two) w.apart;
+      holds = holds_again recipe w.parsed w.inputs files w.holds report text (two_apart recipe report two) w.apart;
       apart = w.apart;
-      given = audit_loaded recipe report w.said w.inputs files two w.holds w.apart bytes;
+      given = audit_loaded recipe report w.parsed w.inputs files two w.holds w.apart bytes;
       made = w.made;
       comes = w.comes;
       report_held = set_held files report text;

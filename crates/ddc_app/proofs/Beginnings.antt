@@ -3,6 +3,7 @@ use Rattle.std.proofs.Common.{◌≡◌, ℕ, Bool, true, false, cond, IsTrue, �
 use Rattle.std.proofs.lemmas.Bool.{and_parts}
 use Rattle.ddc_base.specs.declared.outside.Loaded.TheVariants.{Bytes}
 use Rattle.ddc_base.specs.Outside.{NamedFiles, loaded}
+use Rattle.ddc_base.specs.Limits.{most_recipe}
 use Rattle.recipe.proofs.Keeps.{reads_keep}
 use Rattle.recipe.specs.Kept.{IsRecipe}
 use Rattle.recipe.specs.Reading.{recipe_of}
@@ -83,14 +84,14 @@ with_words good steps next files is count =
 -- ---- what is loaded
 
 -- the inputs are bytes where the loads of `audit` find bytes
-pub audit_loaded : (recipe report : List ℕ) (said : RecipeContents) (inputs : List (List ℕ)) (files : NamedFiles) → are_two_files recipe report ≡ true → Holds recipe said inputs files
-    → is_input said report ≡ false → LoadsBytes (plan_of (codes "audit" ∷ recipe ∷ report ∷ [])) files → IsInputs said inputs
+pub audit_loaded : (recipe report : List ℕ) (parsed : RecipeContents) (inputs : List (List ℕ)) (files : NamedFiles) → are_two_files recipe report ≡ true → Holds recipe parsed inputs files
+    → is_input parsed report ≡ false → LoadsBytes (plan_of (codes "audit" ∷ recipe ∷ report ∷ [])) files → IsInputs parsed inputs
 unfolding audit_files
-audit_loaded recipe report said inputs files two h apart bytes =
-    let last : List (List ℕ) → Plan = λ contents. audited said report (bench said contents) in
-    are_loaded recipe said inputs files h last
-    (apart_loads said report (λ _. needs_inputs said last) files apart
-    (recipe_loads recipe said inputs files h (λ s. needs_apart s report (λ _. needs_inputs s (λ contents. audited s report (bench s contents))))
+audit_loaded recipe report parsed inputs files two h apart bytes =
+    let last : List (List ℕ) → Plan = λ contents. audited parsed report (bench parsed contents) in
+    are_loaded recipe parsed inputs files h last
+    (apart_loads parsed report (λ _. needs_inputs parsed last) files apart
+    (recipe_loads recipe parsed inputs files h (λ s. needs_apart s report (λ _. needs_inputs s (λ contents. audited s report (bench s contents))))
     (subst (λ good. LoadsBytes (cond good (audit_files recipe report) usage) files) two bytes)))
 
 -- ---- the first piece
@@ -98,11 +99,11 @@ audit_loaded recipe report said inputs files two h apart bytes =
 -- the audit of a recipe and its inputs, by words that name three files of which neither the save nor the report is an input
 pub record Case (recipe save report : List ℕ) : Type 0 where
   pub words : Apart recipe save report
-  pub said : RecipeContents
+  pub parsed : RecipeContents
   pub inputs : List (List ℕ)
-  pub is : IsRecipe said
-  pub no_report : is_input said report ≡ false
-  pub no_save : is_input said save ≡ false
+  pub is : IsRecipe parsed
+  pub no_report : is_input parsed report ≡ false
+  pub no_save : is_input parsed save ≡ false
 
 pub record Refused (piece whole : Outcome) : Type 0 where
   pub same : piece ≡ whole
@@ -110,9 +111,9 @@ pub record Refused (piece whole : Outcome) : Type 0 where
 
 pub record Begun (recipe save report : List ℕ) (files : NamedFiles) (steps : ℕ) (piece whole : Outcome) : Type 0 where
   pub c : Case recipe save report
-  pub holds : Holds recipe c.said c.inputs files
-  pub comes : piece ≡ outcome (came_to c.said (whole_save c.said c.inputs) save report (position c.said c.inputs steps)) files
-  pub answers : whole ≡ outcome (audited c.said report (bench c.said c.inputs)) files
+  pub holds : Holds recipe c.parsed c.inputs files
+  pub comes : piece ≡ outcome (came_to c.parsed (whole_save c.parsed c.inputs) save report (position c.parsed c.inputs steps)) files
+  pub answers : whole ≡ outcome (audited c.parsed report (bench c.parsed c.inputs)) files
 
 module _ (recipe save report : List ℕ) (steps : ℕ) (files : NamedFiles) where
   abbrev pub Begins : Outcome → Outcome → Type 0
@@ -122,20 +123,20 @@ module _ (recipe save report : List ℕ) (steps : ℕ) (files : NamedFiles) wher
   refused status text refusal = inl (record { same = refl; refusal = refusal })
 
   piece_from : RecipeContents → List (List ℕ) → Plan
-  piece_from said inputs = came_to said (whole_save said inputs) save report (position said inputs steps)
+  piece_from parsed inputs = came_to parsed (whole_save parsed inputs) save report (position parsed inputs steps)
 
   whole_from : RecipeContents → List (List ℕ) → Plan
-  whole_from said inputs = audited said report (bench said inputs)
+  whole_from parsed inputs = audited parsed report (bench parsed inputs)
 
-  begins_apart : AreWords recipe save report files → (bytes : List ℕ) (said : RecipeContents) → loaded files recipe 1_048_576 ≡ Bytes bytes → recipe_of bytes ≡ Ok said → is_input said report ≡ false
-      → Begins (outcome (needs_apart said save (λ _. needs_inputs said (piece_from said))) files) (outcome (needs_inputs said (whole_from said)) files)
+  begins_apart : AreWords recipe save report files → (bytes : List ℕ) (parsed : RecipeContents) → loaded files recipe most_recipe ≡ Bytes bytes → recipe_of bytes ≡ Ok parsed → is_input parsed report ≡ false
+      → Begins (outcome (needs_apart parsed save (λ _. needs_inputs parsed (piece_from parsed))) files) (outcome (needs_inputs parsed (whole_from parsed)) files)
   unfolding piece_from whole_from
-  begins_apart words bytes said held reads no_report =
-      let no_save : is_input said save ≡ false = words.apart bytes said held reads in
-      subst (λ (piece : Outcome). Begins piece (outcome (needs_inputs said (whole_from said)) files))
-      (sym (apart_opens said save (λ _. needs_inputs said (piece_from said)) files false no_save))
-      (both_need_inputs Begins files refused said (piece_from said) (whole_from said) (λ inputs inputs_held. inr (record {
-        c = record { words = three_apart recipe save report words.three; said = said; inputs = inputs; is = reads_keep bytes said reads; no_report = no_report; no_save = no_save };
+  begins_apart words bytes parsed held reads no_report =
+      let no_save : is_input parsed save ≡ false = words.apart bytes parsed held reads in
+      subst (λ (piece : Outcome). Begins piece (outcome (needs_inputs parsed (whole_from parsed)) files))
+      (sym (apart_opens parsed save (λ _. needs_inputs parsed (piece_from parsed)) files false no_save))
+      (both_need_inputs Begins files refused parsed (piece_from parsed) (whole_from parsed) (λ inputs inputs_held. inr (record {
+        c = record { words = three_apart recipe save report words.three; parsed = parsed; inputs = inputs; is = reads_keep bytes parsed reads; no_report = no_report; no_save = no_save };
         holds = record { bytes = bytes; recipe_held = held; reads = reads; inputs_held = inputs_held };
         comes = refl;
         answers = refl;
@@ -144,10 +145,10 @@ module _ (recipe save report : List ℕ) (steps : ℕ) (files : NamedFiles) wher
   begins_files : AreWords recipe save report files → Begins (outcome (part_files recipe save report steps) files) (outcome (audit_files recipe report) files)
   unfolding part_files audit_files piece_from whole_from
   begins_files words =
-      both_need_recipe Begins files refused recipe (λ said. needs_apart said report (λ _. needs_apart said save (λ _. needs_inputs said (piece_from said))))
-      (λ said. needs_apart said report (λ _. needs_inputs said (whole_from said)))
-      (λ bytes said held reads. both_need_apart Begins files refused said report (λ _. needs_apart said save (λ _. needs_inputs said (piece_from said)))
-      (λ _. needs_inputs said (whole_from said)) (λ no_report. begins_apart words bytes said held reads no_report))
+      both_need_recipe Begins files refused recipe (λ parsed. needs_apart parsed report (λ _. needs_apart parsed save (λ _. needs_inputs parsed (piece_from parsed))))
+      (λ parsed. needs_apart parsed report (λ _. needs_inputs parsed (whole_from parsed)))
+      (λ bytes parsed held reads. both_need_apart Begins files refused parsed report (λ _. needs_apart parsed save (λ _. needs_inputs parsed (piece_from parsed)))
+      (λ _. needs_inputs parsed (whole_from parsed)) (λ no_report. begins_apart words bytes parsed held reads no_report))
 
   pub begins : AreWords recipe save report files → IsStepCount steps → Begins (part recipe save report steps files) (audit recipe report files)
   begins words count =
@@ -158,16 +159,16 @@ module _ (recipe save report : List ℕ) (steps : ℕ) (files : NamedFiles) wher
 
 -- the inputs are bytes where its loads find bytes
 pub part_loaded : (recipe save report : List ℕ) (steps : ℕ) (files : NamedFiles) (piece whole : Outcome) → IsStepCount steps → (b : Begun recipe save report files steps piece whole)
-    → LoadsBytes (plan_of (codes "part" ∷ recipe ∷ save ∷ report ∷ decimal steps ∷ [])) files → IsInputs b.c.said b.c.inputs
+    → LoadsBytes (plan_of (codes "part" ∷ recipe ∷ save ∷ report ∷ decimal steps ∷ [])) files → IsInputs b.c.parsed b.c.inputs
 unfolding part_files
 part_loaded recipe save report steps files piece whole counted b bytes =
     let three : IsTrue (are_three_files recipe save report) = b.c.words.three in
-    let said : RecipeContents = b.c.said in
-    let last : List (List ℕ) → Plan = λ inputs. came_to said (whole_save said inputs) save report (position said inputs steps) in
-    are_loaded recipe said b.c.inputs files b.holds last
-    (apart_loads said save (λ _. needs_inputs said last) files b.c.no_save
-    (apart_loads said report (λ _. needs_apart said save (λ _. needs_inputs said last)) files b.c.no_report
-    (recipe_loads recipe said b.c.inputs files b.holds (λ s. needs_apart s report (λ _. needs_apart s save (λ _. needs_inputs s (λ inputs.
+    let parsed : RecipeContents = b.c.parsed in
+    let last : List (List ℕ) → Plan = λ inputs. came_to parsed (whole_save parsed inputs) save report (position parsed inputs steps) in
+    are_loaded recipe parsed b.c.inputs files b.holds last
+    (apart_loads parsed save (λ _. needs_inputs parsed last) files b.c.no_save
+    (apart_loads parsed report (λ _. needs_apart parsed save (λ _. needs_inputs parsed last)) files b.c.no_report
+    (recipe_loads recipe parsed b.c.inputs files b.holds (λ s. needs_apart s report (λ _. needs_apart s save (λ _. needs_inputs s (λ inputs.
     came_to s (whole_save s inputs) save report (position s inputs steps)))))
     (subst (λ good. LoadsBytes (cond good (part_files recipe save report steps) usage) files) three
     (subst (λ n. LoadsBytes (or_usage n (λ count. cond (are_three_files recipe save report) (part_files recipe save report count) usage)) files) (count-again steps counted) bytes)))))

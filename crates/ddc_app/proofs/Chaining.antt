@@ -9,6 +9,7 @@ use Rattle.std.proofs.lemmas.List.Sums.{sum_by-cons}
 use Rattle.ddc_base.specs.declared.outside.Loaded.{Loaded}
 use Rattle.ddc_base.specs.declared.outside.Loaded.TheVariants.{Bytes, Absent, TooLong}
 use Rattle.ddc_base.specs.Outside.{NamedFiles, loaded}
+use Rattle.ddc_base.specs.Limits.{most_audits, most_content, most_inputs, most_list, most_recipe, most_report}
 use Rattle.mem_files.specs.Outputs.{IsContent}
 use Rattle.recipe.specs.declared.contents.RecipeContents.{RecipeContents}
 use Rattle.recipe.specs.declared.parts.Input.{Input}
@@ -33,7 +34,7 @@ use Rattle.recipe_plan.specs.Recipes.{is_input, needs_apart, needs_inputs_within
 use Rattle.recipe_plan.specs.Reports.{needs_report_after}
 use Rattle.recipe_plan.specs.Texts.{compared_lines, recipe_line}
 use Rattle.verify_commands.specs.declared.pair.Pair.{Pair}
-use Rattle.verify_commands.specs.Chain.{chain_files, chained, chained_lines, needs_audit, needs_true, needs_two_files, pair_of, room_after}
+use Rattle.verify_commands.specs.Chain.{chain_files, chained, chained_lines, needs_audit, needs_true, needs_two_files, pair_of, budget_after}
 use Rattle.verify_commands.specs.ChainTexts.{audit_line, chain_text}
 use Rattle.ddc_app.specs.Chained.{Chained, HoldsAudit, bytes_of_inputs, chain}
 use Rattle.ddc_app.specs.Commands.{plan_of}
@@ -59,27 +60,27 @@ module _ (files : NamedFiles) (P : Outcome → Type 0) where
     by TooLong is bytes ends = absurd cc
 
   -- what inputs are, once they were found
-  pub record Found (room : ℕ) (names contents : List (List ℕ)) : Type 0 where
+  pub record Found (budget : ℕ) (names contents : List (List ℕ)) : Type 0 where
     pub held : AllZip (λ path content. finite.get files path ≡ Some content) names contents
     pub count : length contents ≡ length names
     pub each : All IsContent contents
-    pub small : sum_by length contents ≤ room
+    pub small : sum_by length contents ≤ budget
 
-  inputs-go : (room : ℕ) (names : List (List ℕ)) (next : List (List ℕ) → Plan) → ((contents : List (List ℕ)) → Found room names contents → Goes (next contents))
-      → Goes (needs_all 268_435_456 room names next)
-  inputs-go room [] next goes = goes [] (record { held = tt; count = refl; each = All-nil IsContent; small = omega arith })
-  inputs-go room (name ∷ names) next goes =
-      need-goes name (min 268_435_456 room) (λ c. needs_all 268_435_456 (room - length c) names (λ contents. next (c ∷ contents)))
+  inputs-go : (budget : ℕ) (names : List (List ℕ)) (next : List (List ℕ) → Plan) → ((contents : List (List ℕ)) → Found budget names contents → Goes (next contents))
+      → Goes (needs_all most_content budget names next)
+  inputs-go budget [] next goes = goes [] (record { held = tt; count = refl; each = All-nil IsContent; small = omega arith })
+  inputs-go budget (name ∷ names) next goes =
+      need-goes name (min most_content budget) (λ c. needs_all most_content (budget - length c) names (λ contents. next (c ∷ contents)))
       (λ content is bytes.
-      inputs-go (room - length content) names (λ contents. next (content ∷ contents))
+      inputs-go (budget - length content) names (λ contents. next (content ∷ contents))
       (λ contents found.
-      let one = within (min 268_435_456 room) (finite.get files name) content is in
+      let one = within (min most_content budget) (finite.get files name) content is in
       goes (content ∷ contents) (record {
         held = (one.0, found.held);
         count = ap suc found.count;
-        each = All-cons IsContent content contents (record { bytes = bytes; small = omega (arith, one.1, min-le_left 268_435_456 room) }) found.each;
-        small = more (length content) (sum_by length contents) room (sum_by length (content ∷ contents)) (sum_by-cons length content contents) found.small
-            (omega (arith, one.1, min-le_right 268_435_456 room));
+        each = All-cons IsContent content contents (record { bytes = bytes; small = omega (arith, one.1, min-le_left most_content budget) }) found.each;
+        small = more (length content) (sum_by length contents) budget (sum_by length (content ∷ contents)) (sum_by-cons length content contents) found.small
+            (omega (arith, one.1, min-le_right most_content budget));
       })))
     where
       more : (a b c sum : ℕ) → sum ≡ a + b → b ≤ c - a → a ≤ c → sum ≤ c
@@ -94,9 +95,9 @@ module _ (files : NamedFiles) (P : Outcome → Type 0) where
   test-goes true next goes = λ bytes ends. absurd cc
   test-goes false next goes = goes refl
 
-  apart-goes : (said : RecipeContents) (file : List ℕ) (next : Unit {0} → Plan) → Goes (next tt) → Goes (needs_apart said file next)
+  apart-goes : (parsed : RecipeContents) (file : List ℕ) (next : Unit {0} → Plan) → Goes (next tt) → Goes (needs_apart parsed file next)
   unfolding needs_apart
-  apart-goes said file next goes = test-goes (is_input said file) (next tt) (λ _. goes)
+  apart-goes parsed file next goes = test-goes (is_input parsed file) (next tt) (λ _. goes)
 
   two-go : (pair : Pair) (next : Unit {0} → Plan) → Goes (next tt) → Goes (needs_two_files pair next)
   unfolding needs_two_files
@@ -111,38 +112,38 @@ module _ (files : NamedFiles) (P : Outcome → Type 0) where
     by false equal = λ bytes ends. absurd cc
   true-goes number lines (Some (part, place)) next goes = λ bytes ends. absurd cc
 
-  audit-goes : (number room : ℕ) (pair : Pair) (next : Link → Plan) → ((link : Link) → HoldsAudit files pair link → sum_by length link.inputs ≤ room → Goes (next link))
-      → Goes (needs_audit number room pair next)
+  audit-goes : (number budget : ℕ) (pair : Pair) (next : Link → Plan) → ((link : Link) → HoldsAudit files pair link → sum_by length link.inputs ≤ budget → Goes (next link))
+      → Goes (needs_audit number budget pair next)
   unfolding needs_audit
-  audit-goes number room pair next goes =
-      let link_of : RecipeContents → List (List ℕ) → Link = λ said inputs. record { recipe = said; inputs = inputs } in
-      let last : RecipeContents → Report → List (List ℕ) → Plan = λ said made inputs. needs_true (audit_line number) made.compare (first_fault said inputs made) (λ _. next (link_of said inputs)) in
-      let loads : RecipeContents → Report → Plan = λ said made. needs_inputs_within room said (last said made) in
-      let reports : RecipeContents → Plan = λ said. needs_report_after (audit_line number) pair.report (loads said) in
-      let recipes : RecipeContents → Plan = λ said. needs_apart said pair.report (λ _. reports said) in
-      two-go pair (λ _. needs pair.recipe 1_048_576 (λ bytes. unless_refused (recipe_of bytes) (λ refusal. answers status.RecipeRefused (audit_line number ++ recipe_line refusal)) recipes))
-      (need-goes pair.recipe 1_048_576 (λ bytes. unless_refused (recipe_of bytes) (λ refusal. answers status.RecipeRefused (audit_line number ++ recipe_line refusal)) recipes)
+  audit-goes number budget pair next goes =
+      let link_of : RecipeContents → List (List ℕ) → Link = λ parsed inputs. record { recipe = parsed; inputs = inputs } in
+      let last : RecipeContents → Report → List (List ℕ) → Plan = λ parsed made inputs. needs_true (audit_line number) made.compare (first_fault parsed inputs made) (λ _. next (link_of parsed inputs)) in
+      let loads : RecipeContents → Report → Plan = λ parsed made. needs_inputs_within budget parsed (last parsed made) in
+      let reports : RecipeContents → Plan = λ parsed. needs_report_after (audit_line number) pair.report (loads parsed) in
+      let recipes : RecipeContents → Plan = λ parsed. needs_apart parsed pair.report (λ _. reports parsed) in
+      two-go pair (λ _. needs pair.recipe most_recipe (λ bytes. unless_refused (recipe_of bytes) (λ refusal. answers status.RecipeRefused (audit_line number ++ recipe_line refusal)) recipes))
+      (need-goes pair.recipe most_recipe (λ bytes. unless_refused (recipe_of bytes) (λ refusal. answers status.RecipeRefused (audit_line number ++ recipe_line refusal)) recipes)
       (λ bytes held _.
       read-goes (recipe_of bytes) status.RecipeRefused (λ refusal. audit_line number ++ recipe_line refusal) recipes (λ ends. cc)
-      (λ said reads.
-      apart-goes said pair.report (λ _. reports said)
-      (need-goes pair.report 1_073_741_824 (λ text. unless_refused (report_of text) (λ line. answers status.ReportRefused (audit_line number ++ report_line line)) (loads said))
+      (λ parsed reads.
+      apart-goes parsed pair.report (λ _. reports parsed)
+      (need-goes pair.report most_report (λ text. unless_refused (report_of text) (λ line. answers status.ReportRefused (audit_line number ++ report_line line)) (loads parsed))
       (λ text text_held _.
-      read-goes (report_of text) status.ReportRefused (λ line. audit_line number ++ report_line line) (loads said) (λ ends. cc)
+      read-goes (report_of text) status.ReportRefused (λ line. audit_line number ++ report_line line) (loads parsed) (λ ends. cc)
       (λ made text_reads.
-      inputs-go room (paths said) (last said made)
+      inputs-go budget (paths parsed) (last parsed made)
       (λ inputs found.
-      true-goes number made.compare (first_fault said inputs made) (λ _. next (link_of said inputs))
+      true-goes number made.compare (first_fault parsed inputs made) (λ _. next (link_of parsed inputs))
       (λ none equal.
-      goes (link_of said inputs) (record {
+      goes (link_of parsed inputs) (record {
         recipe_bytes = bytes;
-        recipe_held = (within 1_048_576 (finite.get files pair.recipe) bytes held).0;
+        recipe_held = (within most_recipe (finite.get files pair.recipe) bytes held).0;
         recipe_reads = reads;
-        rules = reads_keep bytes said reads;
+        rules = reads_keep bytes parsed reads;
         inputs_held = found.held;
-        limits = record { count = found.count ∙ length-map said.inputs (λ (input : Input). input.path); each = found.each };
+        limits = record { count = found.count ∙ length-map parsed.inputs (λ (input : Input). input.path); each = found.each };
         report_bytes = text;
-        report_held = (within 1_073_741_824 (finite.get files pair.report) text text_held).0;
+        report_held = (within most_report (finite.get files pair.report) text text_held).0;
         made = made;
         report_reads = text_reads;
         true_report = none;
@@ -152,18 +153,18 @@ module _ (files : NamedFiles) (P : Outcome → Type 0) where
 -- ---- all audits
 
 -- the audits of these lines after others, and that the text is of all of them
-record After (files : NamedFiles) (links : List Link) (room : ℕ) (pairs : List Pair) (answer : Outcome) : Type 0 where
+record After (files : NamedFiles) (links : List Link) (budget : ℕ) (pairs : List Pair) (answer : Outcome) : Type 0 where
   more : List Link
   audits : AllZip (HoldsAudit files) pairs more
-  small : bytes_of_inputs more ≤ room
+  small : bytes_of_inputs more ≤ budget
   text : answer.text ≡ chain_text (links ++ more)
 
-one-following : (files : NamedFiles) (links : List Link) (room : ℕ) (pair : Pair) (pairs : List Pair) (link : Link) (answer : Outcome) → HoldsAudit files pair link
-    → sum_by length link.inputs ≤ room → After files (links ++ link ∷ []) (room_after room link.inputs) pairs answer → After files links room (pair ∷ pairs) answer
-one-following files links room pair pairs link answer held fits b = record {
+one-following : (files : NamedFiles) (links : List Link) (budget : ℕ) (pair : Pair) (pairs : List Pair) (link : Link) (answer : Outcome) → HoldsAudit files pair link
+    → sum_by length link.inputs ≤ budget → After files (links ++ link ∷ []) (budget_after budget link.inputs) pairs answer → After files links budget (pair ∷ pairs) answer
+one-following files links budget pair pairs link answer held fits b = record {
   more = link ∷ b.more;
   audits = (held, b.audits);
-  small = more (sum_by length link.inputs) (bytes_of_inputs b.more) room (bytes_of_inputs (link ∷ b.more))
+  small = more (sum_by length link.inputs) (bytes_of_inputs b.more) budget (bytes_of_inputs (link ∷ b.more))
       (sum_by-cons (λ (l : Link). sum_by length l.inputs) link b.more) b.small fits;
   text = b.text ∙ ap chain_text (append_assoc links (link ∷ []) b.more);
 }
@@ -171,37 +172,37 @@ one-following files links room pair pairs link answer held fits b = record {
     more : (a c r sum : ℕ) → sum ≡ a + c → c ≤ r - a → a ≤ r → sum ≤ r
     more a c r sum is rest first = omega (arith, is, rest, first)
 
-chained-goes : (files : NamedFiles) (pairs : List Pair) (links : List Link) (room : ℕ) → Goes files (After files links room pairs) (chained links room pairs)
-chained-goes files [] links room bytes ends = record { more = []; audits = tt; small = omega arith; text = ap chain_text (sym (append-nil links)) }
-chained-goes files (pair ∷ pairs) links room bytes ends =
-    audit-goes files (After files links room (pair ∷ pairs)) (length links + 1) room pair (λ link. chained (links ++ link ∷ []) (room_after room link.inputs) pairs)
+chained-goes : (files : NamedFiles) (pairs : List Pair) (links : List Link) (budget : ℕ) → Goes files (After files links budget pairs) (chained links budget pairs)
+chained-goes files [] links budget bytes ends = record { more = []; audits = tt; small = omega arith; text = ap chain_text (sym (append-nil links)) }
+chained-goes files (pair ∷ pairs) links budget bytes ends =
+    audit-goes files (After files links budget (pair ∷ pairs)) (length links + 1) budget pair (λ link. chained (links ++ link ∷ []) (budget_after budget link.inputs) pairs)
     (λ link held fits later done.
-    one-following files links room pair pairs link (outcome (chained (links ++ link ∷ []) (room_after room link.inputs) pairs) files) held fits
-    (chained-goes files pairs (links ++ link ∷ []) (room_after room link.inputs) later done)) bytes ends
+    one-following files links budget pair pairs link (outcome (chained (links ++ link ∷ []) (budget_after budget link.inputs) pairs) files) held fits
+    (chained-goes files pairs (links ++ link ∷ []) (budget_after budget link.inputs) later done)) bytes ends
 
-lines-go : (files : NamedFiles) (pairs : List Pair) → Goes files (After files [] 1_073_741_824 pairs) (chained_lines pairs)
+lines-go : (files : NamedFiles) (pairs : List Pair) → Goes files (After files [] most_inputs pairs) (chained_lines pairs)
 unfolding chained_lines
 lines-go files [] = λ bytes ends. absurd cc
-lines-go files (pair ∷ pairs) = chained-goes files (pair ∷ pairs) [] 1_073_741_824
+lines-go files (pair ∷ pairs) = chained-goes files (pair ∷ pairs) [] most_inputs
 
 -- a list that reads, and its audits
 record Listed (list : List ℕ) (files : NamedFiles) (answer : Outcome) : Type 0 where
   content : List ℕ
   held : finite.get files list ≡ Some content
   lines : List Pair
-  reads : list_of pair_of 64 content ≡ Ok lines
-  following : After files [] 1_073_741_824 lines answer
+  reads : list_of pair_of most_audits content ≡ Ok lines
+  following : After files [] most_inputs lines answer
 
 list-goes : (list : List ℕ) (files : NamedFiles) (named : Bool) → Goes files (Listed list files) (cond named (chain_files list) usage)
 unfolding chain_files
 list-goes list files false = λ bytes ends. absurd cc
 list-goes list files true =
-    need-goes files (Listed list files) list 1_048_576 (λ text. unless_refused (list_of pair_of 64 text) (λ number. answers status.ListRefused (list_line number)) chained_lines)
+    need-goes files (Listed list files) list most_list (λ text. unless_refused (list_of pair_of most_audits text) (λ number. answers status.ListRefused (list_line number)) chained_lines)
     (λ content held _.
-    read-goes files (Listed list files) (list_of pair_of 64 content) status.ListRefused list_line chained_lines (λ ends. cc)
+    read-goes files (Listed list files) (list_of pair_of most_audits content) status.ListRefused list_line chained_lines (λ ends. cc)
     (λ lines reads bytes ends. record {
       content = content;
-      held = (within 1_048_576 (finite.get files list) content held).0;
+      held = (within most_list (finite.get files list) content held).0;
       lines = lines;
       reads = reads;
       following = lines-go files lines bytes ends;
@@ -229,7 +230,7 @@ chains prescribes compiles composed list files bytes ends =
       list_reads = l.reads;
       links = l.following.more;
       audits = l.following.audits;
-      room = l.following.small;
+      budget = l.following.small;
       text = l.following.text;
       shown = composed l.following.more (true-each files l.lines l.following.more l.following.audits);
     }

@@ -31,7 +31,7 @@ use Rattle.audit_rules.specs.declared.answer.AuditAnswer.TheVariants.{Completes}
 use Rattle.audit_rules.proofs.Closing.{bench-report}
 use Rattle.audit_rules.proofs.Continues.{fresh}
 use Rattle.audit_rules.proofs.Rules.{rules}
-use Rattle.audit_rules.proofs.Slices.{end-place}
+use Rattle.audit_rules.proofs.Slices.{end-step}
 use Rattle.verifier.specs.Faults.{first_fault, with_artefact}
 use Rattle.verifier.specs.TrueReport.{AreTrueInputs, AreTrueStages, IsTrueFile, IsTrueStage, TrueReport}
 use Rattle.command_plan.specs.Plan.{Outcome, outcome}
@@ -54,10 +54,10 @@ as-replayed recipe before stage printed made p =
     let begun = run.start.begun in
     let starts : start_of (program_of recipe before stage) (box_of recipe before stage) ≡ Ok begun =
     (λ i. start_of (sym p.same.program i) (sym p.same.context i)) ∙ run.start.starts in
-    let place = end-place begun run.start.named.steps (Exited 0, run.last) run.exits in
-    let counted = after-counted begun run.last place.0 place.2 in
+    let at_step = end-step begun run.start.named.steps (Exited 0, run.last) run.exits in
+    let counted = after-counted begun run.last at_step.0 at_step.2 in
     let zero_steps = fresh _ _ begun starts in
-    let number : run.last.steps + 1 ≡ suc place.0 = omega (arith, counted, zero_steps) in
+    let number : run.last.steps + 1 ≡ suc at_step.0 = omega (arith, counted, zero_steps) in
     record {
       steps = run.last.steps + 1;
       world = run.last.world;
@@ -65,10 +65,10 @@ as-replayed recipe before stage printed made p =
         start = begun;
         last = run.last;
         starts = starts;
-        ends = ap (end_at begun) number ∙ end_at-next begun run.last place.0 place.2 ∙ ap (end_of run.last) place.3;
+        ends = ap (end_at begun) number ∙ end_at-next begun run.last at_step.0 at_step.2 ∙ ap (end_of run.last) at_step.3;
         leaves = refl;
       };
-      within = omega (arith, place.1, number, p.same.limit);
+      within = omega (arith, at_step.1, number, p.same.limit);
       artefact = ap (λ output. out run.last.world (output_of output)) (sym p.same.output) ∙ run.left ∙ ap Some (sym p.artefact);
       text = p.text ∙ ap (λ (o : Outcome). o.text) p.checked.reported
           ∙ (λ i. run_record (p.same.called i) (finished (run.last.steps + 1) run.last.world (sym p.artefact i)));
@@ -126,13 +126,13 @@ block-text : (recipe : RecipeContents) (stage : Stage) (steps : ℕ) (world : Wo
     ≡ run_record stage.name (finished steps world made) ++ line (line_words (entry.Checked (check_language recipe stage)))
 unfolding run_record finished
 block-text recipe stage steps world made =
-    let front : List ReportLine =
+    let leading : List ReportLine =
     entry.Stage stage.name steps ∷ entry.Stream1 (mark_of world.stream1) ∷ entry.Stream2 (mark_of world.stream2) ∷ map entry.Left (map marked_left (left world)) in
     let checked : ReportLine = entry.Checked (check_language recipe stage) in
     let made_row : ReportLine = entry.Made (mark_of made) in
-    ap lines_text (sym (append_assoc front (made_row ∷ []) (checked ∷ [])))
-    ∙ joined (front ++ made_row ∷ []) (checked ∷ [])
-    ∙ ap (λ text. lines_text (front ++ made_row ∷ []) ++ text) (append-nil (line (line_words checked)))
+    ap lines_text (sym (append_assoc leading (made_row ∷ []) (checked ∷ [])))
+    ∙ joined (leading ++ made_row ∷ []) (checked ∷ [])
+    ∙ ap (λ text. lines_text (leading ++ made_row ∷ []) ++ text) (append-nil (line (line_words checked)))
 
 -- ---- all stages
 
@@ -205,41 +205,41 @@ report-of recipe inputs seen counted =
 -- ---- over files
 
 module _ (recipe report : List ℕ) (files : NamedFiles) (h : Collected recipe report files)
-    (keeps : (bytes : List ℕ) (said : RecipeContents) → recipe_of bytes ≡ Ok said → IsRecipe said)
-    (clauses : (said : RecipeContents) (inputs : List (List ℕ)) (made : Report) → IsRecipe said → length inputs ≡ length said.inputs
-    → TrueReport said inputs made ↔ (first_fault said inputs made ≡ None))
-    (one : (said : RecipeContents) (inputs : List (List ℕ)) (made : Report) → IsRecipe said → IsInputs said inputs
-    → (first_fault said inputs made ≡ None) ↔ (bench said inputs ≡ Completes made)) where
-  is_kept : IsRecipe h.said
-  is_kept = keeps h.recipe_bytes h.said h.recipe_reads
+    (keeps : (bytes : List ℕ) (parsed : RecipeContents) → recipe_of bytes ≡ Ok parsed → IsRecipe parsed)
+    (clauses : (parsed : RecipeContents) (inputs : List (List ℕ)) (made : Report) → IsRecipe parsed → length inputs ≡ length parsed.inputs
+    → TrueReport parsed inputs made ↔ (first_fault parsed inputs made ≡ None))
+    (one : (parsed : RecipeContents) (inputs : List (List ℕ)) (made : Report) → IsRecipe parsed → IsInputs parsed inputs
+    → (first_fault parsed inputs made ≡ None) ↔ (bench parsed inputs ≡ Completes made)) where
+  is_kept : IsRecipe h.parsed
+  is_kept = keeps h.recipe_bytes h.parsed h.recipe_reads
 
-  abbrev it : Report-of h.said h.inputs h.seen
-  it = report-of h.said h.inputs h.seen h.given.count
+  abbrev it : Report-of h.parsed h.inputs h.seen
+  it = report-of h.parsed h.inputs h.seen h.given.count
 
-  none : first_fault h.said h.inputs it.report ≡ None
-  none = (clauses h.said h.inputs it.report is_kept h.given.count).0 it.is_true
+  none : first_fault h.parsed h.inputs it.report ≡ None
+  none = (clauses h.parsed h.inputs it.report is_kept h.given.count).0 it.is_true
 
   is_report : IsReport it.report
-  is_report = bench-report h.said h.inputs it.report (rules h.said is_kept) h.given ((one h.said h.inputs it.report is_kept h.given).0 none)
+  is_report = bench-report h.parsed h.inputs it.report (rules h.parsed is_kept) h.given ((one h.parsed h.inputs it.report is_kept h.given).0 none)
 
-  abbrev held : HoldsReport recipe report files h.said h.inputs it.report
+  abbrev held : HoldsReport recipe report files h.parsed h.inputs it.report
   held = record {
     two = h.two;
     recipe_bytes = h.recipe_bytes;
     recipe_held = h.recipe_held;
     recipe_reads = h.recipe_reads;
     apart = h.apart;
-    report_bytes = collected_text h.said h.inputs h.seen.printed h.seen.lines;
+    report_bytes = collected_text h.parsed h.inputs h.seen.printed h.seen.lines;
     report_held = h.report_held;
-    report_reads = read_its_text report_rules (collected_text h.said h.inputs h.seen.printed h.seen.lines) it.report is_report it.text;
+    report_reads = read_its_text report_rules (collected_text h.parsed h.inputs h.seen.printed h.seen.lines) it.report is_report it.text;
     inputs_held = h.inputs_held;
   }
 
   pub collected-true : HoldsTrueReport recipe report files
-  collected-true = record { said = h.said; inputs = h.inputs; made = it.report; held = held; is_true = it.is_true }
+  collected-true = record { parsed = h.parsed; inputs = h.inputs; made = it.report; held = held; is_true = it.is_true }
 
   pub collected-told : verify recipe report files
-      ≡ record { status = compared_status h.seen.lines; text = true_text h.said h.seen.lines; files = files }
+      ≡ record { status = compared_status h.seen.lines; text = true_text h.parsed h.seen.lines; files = files }
   collected-told =
-      judgement recipe report files h.said h.inputs it.report held
-      ∙ (λ i. outcome (judged_report h.said (it.compares i) (none i)) files)
+      judgement recipe report files h.parsed h.inputs it.report held
+      ∙ (λ i. outcome (judged_report h.parsed (it.compares i) (none i)) files)

@@ -32,10 +32,10 @@ module _ (recipe base patch report : List ℕ) (b : After recipe base patch repo
   goes_on total piece (inl p, held) = inr (
     p.status,
     λ steps counted.
-        let comes = resumes_at recipe base patch report b piece.files p.holds held steps counted total p.place p.stands p.kept_held in (
+        let comes = resumes_at recipe base patch report b piece.files p.holds held steps counted total p.reached p.current p.kept_held in (
           subst (Settles recipe patch report b.c (kept_relative recipe base patch report b) first (total + steps)) (sym comes)
               (settles recipe patch report b.c first piece.files p.holds p.same_report (kept_relative recipe base patch report b) (total + steps)
-              (position b.c.said b.c.inputs (total + steps)) refl),
+              (position b.c.parsed b.c.inputs (total + steps)) refl),
           resume_leaves_base recipe base patch report b steps piece.files held,
         ),
   )
@@ -54,70 +54,70 @@ module _ (recipe base patch report : List ℕ) (steps : ℕ) (files : NamedFiles
   record Finished (last : Outcome) : Type 0 where
     name : List ℕ
     c : Case recipe name report
-    given : IsInputs c.said c.inputs
-    answers : whole ≡ outcome (audited c.said report (bench c.said c.inputs)) files
-    ends : Ends recipe name report c files (bench c.said c.inputs) last
+    given : IsInputs c.parsed c.inputs
+    answers : whole ≡ outcome (audited c.parsed report (bench c.parsed c.inputs)) files
+    ends : Ends recipe name report c files (bench c.parsed c.inputs) last
 
-  abbrev Stands : List ℕ → Outcome → Type 0
-  Stands counts last = ((last.status ≡ Paused) × AreKept recipe base patch last.files steps counts) ⊎ Finished last
+  abbrev Current : List ℕ → Outcome → Type 0
+  Current counts last = ((last.status ≡ Paused) × AreKept recipe base patch last.files steps counts) ⊎ Finished last
 
   abbrev Begins : Type 0
   Begins = Begun recipe base report files steps piece whole
 
-  abbrev given : (b : Begins) → IsInputs b.c.said b.c.inputs
+  abbrev given : (b : Begins) → IsInputs b.c.parsed b.c.inputs
   given b = part_loaded recipe base report steps files piece whole counted b bytes
 
-  finished : (b : Begins) (last : Outcome) → Ends recipe base report b.c files (bench b.c.said b.c.inputs) last → Finished last
+  finished : (b : Begins) (last : Outcome) → Ends recipe base report b.c files (bench b.c.parsed b.c.inputs) last → Finished last
   finished b last e = record { name = base; c = b.c; given = given b; answers = b.answers; ends = e }
 
-  abbrev following : (b : Begins) (place : Position) → position b.c.said b.c.inputs steps ≡ On place → After recipe base patch report
-  following b place stands = record {
+  abbrev following : (b : Begins) (reached : Position) → position b.c.parsed b.c.inputs steps ≡ On reached → After recipe base patch report
+  following b reached current = record {
     four = four_of recipe base patch report words.with_base.three words.with_patch.three words.apart;
     c = record {
       words = three_apart recipe patch report words.with_patch.three;
-      said = b.c.said;
+      parsed = b.c.parsed;
       inputs = b.c.inputs;
       is = b.c.is;
       no_report = b.c.no_report;
-      no_save = words.with_patch.apart b.holds.bytes b.c.said b.holds.recipe_held b.holds.reads;
+      no_save = words.with_patch.apart b.holds.bytes b.c.parsed b.holds.recipe_held b.holds.reads;
     };
     no_base = b.c.no_save;
     given = given b;
     first = steps;
-    place = place;
-    stands = stands;
+    reached = reached;
+    current = current;
   }
 
   -- what was settled by differences
-  told : (b : Begins) (place : Position) (stands : position b.c.said b.c.inputs steps ≡ On place) (second : ℕ) (counts : List ℕ) (last : Outcome)
-      → Stood recipe base patch report (following b place stands) files (fold (λ a x. a + x) (steps + second) counts) last → Stands (second ∷ counts) last
-  told b place stands second counts last (inl p, held) =
+  told : (b : Begins) (reached : Position) (current : position b.c.parsed b.c.inputs steps ≡ On reached) (second : ℕ) (counts : List ℕ) (last : Outcome)
+      → Stood recipe base patch report (following b reached current) files (fold (λ a x. a + x) (steps + second) counts) last → Current (second ∷ counts) last
+  told b reached current second counts last (inl p, held) =
       let none : steps ≡ 0 + steps = omega arith in
-      inl (p.status, subst (λ n. AreKeptAfter n) none (kept_of recipe base patch report (following b place stands) files (fold (λ a x. a + x) (steps + second) counts) last held p)) where
+      inl (p.status, subst (λ n. AreKeptAfter n) none (kept_of recipe base patch report (following b reached current) files (fold (λ a x. a + x) (steps + second) counts) last held p)) where
         AreKeptAfter : ℕ → Type 0
         AreKeptAfter n = IsSavedRelative recipe base patch last.files steps (fold (λ a x. a + x) (n + second) counts)
-  told b place stands second counts last (inr e, held) =
-      inr (record { name = patch; c = (following b place stands).c; given = (following b place stands).given; answers = b.answers; ends = e })
+  told b reached current second counts last (inr e, held) =
+      inr (record { name = patch; c = (following b reached current).c; given = (following b reached current).given; answers = b.answers; ends = e })
 
-  by_pieces : (b : Begins) (counts : List ℕ) → All IsStepCount counts → Settles recipe base report b.c (whole_save b.c.said b.c.inputs) files steps piece
-      → Stands counts (after_save recipe base patch report piece counts)
+  by_pieces : (b : Begins) (counts : List ℕ) → All IsStepCount counts → Settles recipe base report b.c (whole_save b.c.parsed b.c.inputs) files steps piece
+      → Current counts (after_save recipe base patch report piece counts)
   by_pieces b [] are (inl p) = inl (p.status, saved_of recipe base report b.c files steps piece p)
   by_pieces b [] are (inr e) = inr (finished b piece e)
   by_pieces b (second ∷ counts) are (inr e) =
-      subst (λ paused. Stands (second ∷ counts) (cond paused (in_turn (delta_resume recipe base patch report) (delta_start recipe base patch report second piece.files) counts) piece))
+      subst (λ paused. Current (second ∷ counts) (cond paused (in_turn (delta_resume recipe base patch report) (delta_start recipe base patch report second piece.files) counts) piece))
       (sym e.not_paused) (inr (finished b piece e))
   by_pieces b (second ∷ counts) are (inl p) =
-      let from : After recipe base patch report = following b p.place p.stands in
+      let from : After recipe base patch report = following b p.reached p.current in
       let next : Outcome = delta_start recipe base patch report second piece.files in
       let comes = starts_at recipe base patch report from piece.files p.holds p.kept_held second (All-head IsStepCount second counts are) in
       let settled : Settles recipe patch report from.c (kept_relative recipe base patch report from) files (steps + second) next =
       subst (Settles recipe patch report from.c (kept_relative recipe base patch report from) files (steps + second)) (sym comes)
       (settles recipe patch report from.c files piece.files p.holds p.same_report (kept_relative recipe base patch report from) (steps + second)
-      (position b.c.said b.c.inputs (steps + second)) refl) in
+      (position b.c.parsed b.c.inputs (steps + second)) refl) in
       let stood = further (delta_resume recipe base patch report) (Stood recipe base patch report from files) (goes_on recipe base patch report from files) counts (All-tail IsStepCount second counts are) (steps + second) next
       (settled, start_leaves_base recipe base patch report from second piece.files p.kept_held) in
-      subst (λ (s : Status). Stands (second ∷ counts) (cond (is_paused s) (in_turn (delta_resume recipe base patch report) next counts) piece)) (sym p.status)
-      (told b p.place p.stands second counts (in_turn (delta_resume recipe base patch report) next counts) stood)
+      subst (λ (s : Status). Current (second ∷ counts) (cond (is_paused s) (in_turn (delta_resume recipe base patch report) next counts) piece)) (sym p.status)
+      (told b p.reached p.current second counts (in_turn (delta_resume recipe base patch report) next counts) stood)
 
   -- a piece that is refused is not followed
   refused_stays : (counts : List ℕ) → is_paused piece.status ≡ false → after_save recipe base patch report piece counts ≡ piece
@@ -129,14 +129,14 @@ module _ (recipe base patch report : List ℕ) (steps : ℕ) (files : NamedFiles
   abbrev Refuses : Outcome → Type 0
   Refuses last = (last ≡ whole) × (is_compared whole.status ≡ false)
 
-  stands : (counts : List ℕ) → All IsStepCount (steps ∷ counts) → Refused piece whole ⊎ Begins
-      → Refuses (after_save recipe base patch report piece counts) ⊎ Stands counts (after_save recipe base patch report piece counts)
-  stands counts are (inl r) = inl (refused_stays counts r.refusal.0 ∙ r.same, ap (λ (o : Outcome). is_compared o.status) (sym r.same) ∙ r.refusal.1)
-  stands counts are (inr b) = inr (by_pieces b counts (All-tail IsStepCount steps counts are) (first_settles recipe base report steps files piece whole b))
+  current : (counts : List ℕ) → All IsStepCount (steps ∷ counts) → Refused piece whole ⊎ Begins
+      → Refuses (after_save recipe base patch report piece counts) ⊎ Current counts (after_save recipe base patch report piece counts)
+  current counts are (inl r) = inl (refused_stays counts r.refusal.0 ∙ r.same, ap (λ (o : Outcome). is_compared o.status) (sym r.same) ∙ r.refusal.1)
+  current counts are (inr b) = inr (by_pieces b counts (All-tail IsStepCount steps counts are) (first_settles recipe base report steps files piece whole b))
 
   came : (counts : List ℕ) → All IsStepCount (steps ∷ counts)
-      → Refuses (after_save recipe base patch report piece counts) ⊎ Stands counts (after_save recipe base patch report piece counts)
-  came counts are = stands counts are (begins recipe base report steps files words.with_base counted)
+      → Refuses (after_save recipe base patch report piece counts) ⊎ Current counts (after_save recipe base patch report piece counts)
+  came counts are = current counts are (begins recipe base report steps files words.with_base counted)
 
   pub same : (counts : List ℕ) → All IsStepCount (steps ∷ counts)
       → Differences recipe base patch report files steps counts (in_differences recipe base patch report steps counts files)
@@ -144,7 +144,7 @@ module _ (recipe base patch report : List ℕ) (steps : ℕ) (files : NamedFiles
     last : Outcome
     last = after_save recipe base patch report piece counts
 
-    by : Refuses last ⊎ Stands counts last → Differences recipe base patch report files steps counts last
+    by : Refuses last ⊎ Current counts last → Differences recipe base patch report files steps counts last
     by (inl is) = inr (alike report last whole is.0)
     by (inr (inl kept)) = inl kept
     by (inr (inr f)) = inr (subst (AreSame report last) (sym f.answers) f.ends.same)
@@ -156,7 +156,7 @@ module _ (recipe base patch report : List ℕ) (steps : ℕ) (files : NamedFiles
     last : Outcome
     last = after_save recipe base patch report piece counts
 
-    by : Refuses last ⊎ Stands counts last → (verify recipe report last.files).status ≡ last.status
+    by : Refuses last ⊎ Current counts last → (verify recipe report last.files).status ≡ last.status
     by (inl is) = let never = sym is.1 ∙ ap (λ (o : Outcome). is_compared o.status) (sym is.0) ∙ over in absurd cc
     by (inr (inl kept)) = let never = sym (ap is_compared kept.0) ∙ over in absurd cc
     by (inr (inr f)) = compared recipe f.name report f.c files last f.given f.ends over

@@ -66,36 +66,36 @@ other answer result status is claimed differs = clash answer.status answer.answe
 
 -- a fault or want of memory is no answer
 none : {A : Type 0} (result status : Status) → is_answer result ≡ true → result ≡ status → is_answer status ≡ false → A
-none result status said is differs = clash result said (ap is_answer is ∙ differs)
+none result status parsed is differs = clash result parsed (ap is_answer is ∙ differs)
 
 module _ (plan : Plan) (old new : ShelfState) (before after : SinkState) (result : Status) where
   pub status_of : Ends plan old new before after result → IsSettled plan old.tells → IsTrue (is_answer result) → result ≡ (outcome plan old.files).status
-  status_of (says answer a is put) settled said = is ∙ a.status settled
-  status_of (names text f is put) settled said = none result ShelfFault said is refl
-  status_of (loses_answer answer a is put) settled said = none result OutFault said is refl
-  status_of (loses_fault text f is put) settled said = none result OutFault said is refl
-  status_of (wants w is same) settled said = none result OutOfMemory said is refl
+  status_of (says answer a is put) settled parsed = is ∙ a.status settled
+  status_of (names text f is put) settled parsed = none result ShelfFault parsed is refl
+  status_of (loses_answer answer a is put) settled parsed = none result OutFault parsed is refl
+  status_of (loses_fault text f is put) settled parsed = none result OutFault parsed is refl
+  status_of (wants w is same) settled parsed = none result OutOfMemory parsed is refl
 
   pub text_of : Ends plan old new before after result → IsSettled plan old.tells → IsTrue (is_answer result) → after ≡ after_piece (outcome plan old.files).text before
-  text_of (says answer a is put) settled said = put ∙ ap (λ text. after_piece text before) (a.text settled)
-  text_of (names text f is put) settled said = none result ShelfFault said is refl
-  text_of (loses_answer answer a is put) settled said = none result OutFault said is refl
-  text_of (loses_fault text f is put) settled said = none result OutFault said is refl
-  text_of (wants w is same) settled said = none result OutOfMemory said is refl
+  text_of (says answer a is put) settled parsed = put ∙ ap (λ text. after_piece text before) (a.text settled)
+  text_of (names text f is put) settled parsed = none result ShelfFault parsed is refl
+  text_of (loses_answer answer a is put) settled parsed = none result OutFault parsed is refl
+  text_of (loses_fault text f is put) settled parsed = none result OutFault parsed is refl
+  text_of (wants w is same) settled parsed = none result OutOfMemory parsed is refl
 
   pub calls_of : Ends plan old new before after result → IsTrue (is_answer result) → Completes plan old new
-  calls_of (says answer a is put) said = a.shelf
-  calls_of (names text f is put) said = none result ShelfFault said is refl
-  calls_of (loses_answer answer a is put) said = none result OutFault said is refl
-  calls_of (loses_fault text f is put) said = none result OutFault said is refl
-  calls_of (wants w is same) said = none result OutOfMemory said is refl
+  calls_of (says answer a is put) parsed = a.shelf
+  calls_of (names text f is put) parsed = none result ShelfFault parsed is refl
+  calls_of (loses_answer answer a is put) parsed = none result OutFault parsed is refl
+  calls_of (loses_fault text f is put) parsed = none result OutFault parsed is refl
+  calls_of (wants w is same) parsed = none result OutOfMemory parsed is refl
 
   pub put_of : Ends plan old new before after result → IsTrue (is_answer result) → TakesOne before after
-  put_of (says answer a is put) said = (answer.text, put)
-  put_of (names text f is put) said = none result ShelfFault said is refl
-  put_of (loses_answer answer a is put) said = none result OutFault said is refl
-  put_of (loses_fault text f is put) said = none result OutFault said is refl
-  put_of (wants w is same) said = none result OutOfMemory said is refl
+  put_of (says answer a is put) parsed = (answer.text, put)
+  put_of (names text f is put) parsed = none result ShelfFault parsed is refl
+  put_of (loses_answer answer a is put) parsed = none result OutFault parsed is refl
+  put_of (loses_fault text f is put) parsed = none result OutFault parsed is refl
+  put_of (wants w is same) parsed = none result OutOfMemory parsed is refl
 
   pub shelf_fault_of : Ends plan old new before after result → result ≡ ShelfFault → NamesFault plan old new before after
   shelf_fault_of (says answer a is put) claimed = other answer result ShelfFault is claimed refl

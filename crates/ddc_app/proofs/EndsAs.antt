@@ -4,6 +4,7 @@ use Rattle.std.specs.FinMap as finite
 use Rattle.ddc_base.specs.declared.outside.Loaded.{Loaded}
 use Rattle.ddc_base.specs.declared.outside.Loaded.TheVariants.{Bytes, Absent, TooLong}
 use Rattle.ddc_base.specs.Outside.{NamedFiles, loaded}
+use Rattle.ddc_base.specs.Limits.{most_content, most_inputs, most_list, most_recipe, most_report}
 use Rattle.prompt.specs.Talks.{Talk}
 use Rattle.recipe.specs.Reading.{recipe_of}
 use Rattle.recipe.specs.declared.contents.RecipeContents.{RecipeContents}
@@ -61,7 +62,7 @@ module _ (ok : Status → Bool) where
     pub misused : EndsAs ok usage
     misused = says Usage usage_line usage_fits
 
-    pub worded : {A : Type 0} (said : Option A) (next : A → Plan) → ((value : A) → EndsAs ok (next value)) → EndsAs ok (or_usage said next)
+    pub worded : {A : Type 0} (parsed : Option A) (next : A → Plan) → ((value : A) → EndsAs ok (next value)) → EndsAs ok (or_usage parsed next)
     worded None next after = misused
     worded (Some value) next after = after value
 
@@ -76,50 +77,50 @@ module _ (ok : Status → Bool) where
       by files Absent = absent_fits
       by files TooLong = absent_fits
 
-    pub loads_all : (most room : ℕ) (names : List (List ℕ)) (next : List (List ℕ) → Plan) → ((contents : List (List ℕ)) → EndsAs ok (next contents))
-        → EndsAs ok (needs_all most room names next)
-    loads_all most room [] next after = after []
-    loads_all most room (name ∷ names) next after =
-        loads name (min most room) (λ content. needs_all most (room - length content) names (λ contents. next (content ∷ contents)))
-        (λ content. loads_all most (room - length content) names (λ contents. next (content ∷ contents)) (λ contents. after (content ∷ contents)))
+    pub loads_all : (most budget : ℕ) (names : List (List ℕ)) (next : List (List ℕ) → Plan) → ((contents : List (List ℕ)) → EndsAs ok (next contents))
+        → EndsAs ok (needs_all most budget names next)
+    loads_all most budget [] next after = after []
+    loads_all most budget (name ∷ names) next after =
+        loads name (min most budget) (λ content. needs_all most (budget - length content) names (λ contents. next (content ∷ contents)))
+        (λ content. loads_all most (budget - length content) names (λ contents. next (content ∷ contents)) (λ contents. after (content ∷ contents)))
 
     -- ---- what the commands of a recipe begin with
 
-    pub loads_recipe : (file : List ℕ) (next : RecipeContents → Plan) → IsTrue (ok RecipeRefused) → ((said : RecipeContents) → EndsAs ok (next said)) → EndsAs ok (needs_recipe file next)
+    pub loads_recipe : (file : List ℕ) (next : RecipeContents → Plan) → IsTrue (ok RecipeRefused) → ((parsed : RecipeContents) → EndsAs ok (next parsed)) → EndsAs ok (needs_recipe file next)
     loads_recipe file next refused after =
-        loads file 1_048_576 (λ bytes. reads_recipe bytes next) (λ bytes.
+        loads file most_recipe (λ bytes. reads_recipe bytes next) (λ bytes.
         reads (recipe_of bytes) (λ refusal. answers RecipeRefused (recipe_line refusal)) next (λ refusal. says RecipeRefused (recipe_line refusal) refused) after)
 
-    pub loads_recipe_after : (front file : List ℕ) (next : RecipeContents → Plan) → IsTrue (ok RecipeRefused) → ((said : RecipeContents) → EndsAs ok (next said))
-        → EndsAs ok (needs_recipe_after front file next)
-    loads_recipe_after front file next refused after =
-        loads file 1_048_576 (λ bytes. reads_recipe_after front bytes next) (λ bytes.
-        reads (recipe_of bytes) (λ refusal. answers RecipeRefused (front ++ recipe_line refusal)) next (λ refusal. says RecipeRefused (front ++ recipe_line refusal) refused) after)
+    pub loads_recipe_after : (leading file : List ℕ) (next : RecipeContents → Plan) → IsTrue (ok RecipeRefused) → ((parsed : RecipeContents) → EndsAs ok (next parsed))
+        → EndsAs ok (needs_recipe_after leading file next)
+    loads_recipe_after leading file next refused after =
+        loads file most_recipe (λ bytes. reads_recipe_after leading bytes next) (λ bytes.
+        reads (recipe_of bytes) (λ refusal. answers RecipeRefused (leading ++ recipe_line refusal)) next (λ refusal. says RecipeRefused (leading ++ recipe_line refusal) refused) after)
 
     pub apart : (recipe : RecipeContents) (file : List ℕ) (next : Unit {0} → Plan) → EndsAs ok (next tt) → EndsAs ok (needs_apart recipe file next)
     unfolding needs_apart
     apart recipe file next after = either (is_input recipe file) usage (next tt) misused after
 
-    pub loads_inputs_within : (room : ℕ) (recipe : RecipeContents) (next : List (List ℕ) → Plan) → ((inputs : List (List ℕ)) → EndsAs ok (next inputs))
-        → EndsAs ok (needs_inputs_within room recipe next)
-    loads_inputs_within room recipe next after = loads_all 268_435_456 room (paths recipe) next after
+    pub loads_inputs_within : (budget : ℕ) (recipe : RecipeContents) (next : List (List ℕ) → Plan) → ((inputs : List (List ℕ)) → EndsAs ok (next inputs))
+        → EndsAs ok (needs_inputs_within budget recipe next)
+    loads_inputs_within budget recipe next after = loads_all most_content budget (paths recipe) next after
 
     pub loads_inputs : (recipe : RecipeContents) (next : List (List ℕ) → Plan) → ((inputs : List (List ℕ)) → EndsAs ok (next inputs)) → EndsAs ok (needs_inputs recipe next)
-    loads_inputs recipe next after = loads_inputs_within 1_073_741_824 recipe next after
+    loads_inputs recipe next after = loads_inputs_within most_inputs recipe next after
 
     pub loads_report : (file : List ℕ) (next : Report → Plan) → IsTrue (ok ReportRefused) → ((made : Report) → EndsAs ok (next made)) → EndsAs ok (needs_report file next)
     loads_report file next refused after =
-        loads file 1_073_741_824 (λ bytes. unless_refused (report_of bytes) (λ number. answers ReportRefused (report_line number)) next) (λ bytes.
+        loads file most_report (λ bytes. unless_refused (report_of bytes) (λ number. answers ReportRefused (report_line number)) next) (λ bytes.
         reads (report_of bytes) (λ number. answers ReportRefused (report_line number)) next (λ number. says ReportRefused (report_line number) refused) after)
 
-    pub loads_report_after : (front file : List ℕ) (next : Report → Plan) → IsTrue (ok ReportRefused) → ((made : Report) → EndsAs ok (next made))
-        → EndsAs ok (needs_report_after front file next)
-    loads_report_after front file next refused after =
-        loads file 1_073_741_824 (λ bytes. unless_refused (report_of bytes) (λ number. answers ReportRefused (front ++ report_line number)) next) (λ bytes.
-        reads (report_of bytes) (λ number. answers ReportRefused (front ++ report_line number)) next (λ number. says ReportRefused (front ++ report_line number) refused) after)
+    pub loads_report_after : (leading file : List ℕ) (next : Report → Plan) → IsTrue (ok ReportRefused) → ((made : Report) → EndsAs ok (next made))
+        → EndsAs ok (needs_report_after leading file next)
+    loads_report_after leading file next refused after =
+        loads file most_report (λ bytes. unless_refused (report_of bytes) (λ number. answers ReportRefused (leading ++ report_line number)) next) (λ bytes.
+        reads (report_of bytes) (λ number. answers ReportRefused (leading ++ report_line number)) next (λ number. says ReportRefused (leading ++ report_line number) refused) after)
 
     pub loads_list : {A : Type 0} (form : List A → List ℕ → Option A) (most : ℕ) (file : List ℕ) (next : List A → Plan) → IsTrue (ok ListRefused)
         → ((items : List A) → EndsAs ok (next items)) → EndsAs ok (needs_list form most file next)
     loads_list form most file next refused after =
-        loads file 1_048_576 (λ text. unless_refused (list_of form most text) (λ number. answers ListRefused (list_line number)) next) (λ text.
+        loads file most_list (λ text. unless_refused (list_of form most text) (λ number. answers ListRefused (list_line number)) next) (λ text.
         reads (list_of form most text) (λ number. answers ListRefused (list_line number)) next (λ number. says ListRefused (list_line number) refused) after)

@@ -6,6 +6,7 @@ use Rattle.ddc_base.specs.Difference.{first_difference}
 use Rattle.ddc_base.specs.Languages.Words.{language_named}
 use Rattle.ddc_base.specs.declared.languages.Language.{Language}
 use Rattle.ddc_base.specs.declared.languages.Language.TheVariants.{Hex0, Hex1, Hex2, M1}
+use Rattle.ddc_base.specs.Limits.{most_audits, most_content, most_files, most_inputs, most_lines, most_listed, most_report, most_save, most_script, most_state, most_states, most_total}
 use Rattle.prompt.specs.Talks.{talk}
 use Rattle.hex_langs.specs.Hex0.{hex0_of}
 use Rattle.hex_langs.specs.Items.Refusals.{hex_refusal_number, hex_refusal_place}
@@ -37,7 +38,7 @@ use Rattle.report.specs.Script.Reports.{script_report_text}
 use Rattle.report.specs.declared.script.types.ScriptReport.{ScriptReport}
 use Rattle.report.specs.declared.types.CompareLine.{CompareLine}
 use Rattle.audit_rules.specs.Bench.{all_equal, bench}
-use Rattle.audit_rules.specs.Positions.{Position, Standing, On, Over, forward, position}
+use Rattle.audit_rules.specs.Positions.{Position, Phase, On, Over, forward, position}
 use Rattle.audit_rules.specs.Stages.{contents, start_cause, start_stage}
 use Rattle.audit_rules.specs.declared.answer.AuditAnswer.{AuditAnswer}
 use Rattle.audit_rules.specs.declared.answer.AuditAnswer.TheVariants.{Completes, Fails}
@@ -75,7 +76,7 @@ use Rattle.stage_commands.specs.Left.{RunLeft, absent_status, are_left_words, en
 use Rattle.stage_commands.specs.Names.{are_stage_words, as_states, each_name, needs_other, piece_name}
 use Rattle.stage_commands.specs.Ready.{needs_ready}
 use Rattle.stage_commands.specs.Segment.{piece_reported, segment_files, segment_plan}
-use Rattle.stage_commands.specs.States.{end_after, piece_of, state_after, state_said}
+use Rattle.stage_commands.specs.States.{end_after, piece_of, state_after, state_parsed}
 use Rattle.stage_commands.specs.Step.{are_step_words, needs_session, session_of, step_plan, step_stage}
 use Rattle.stage_commands.specs.Texts.{too_many_line}
 use Rattle.tool_commands.specs.Asm.{as_base, asm_files, asm_plan, made_line, needs_made, refused_line}
@@ -89,8 +90,8 @@ use Rattle.tool_commands.specs.RunProgram.{are_run_words, end_plan, exited_text,
 use Rattle.tool_commands.specs.Scripts.{and_files, file_line, needs_files, needs_script, needs_script_and_list, needs_unlisted, script_of}
 use Rattle.tool_commands.specs.ScriptTexts.{done_line}
 use Rattle.tool_commands.specs.Where.{located, no_place_line, spot_line, where_file, where_plan, where_words}
-use Rattle.tool_commands.specs.Places.{front_word, spot_after}
-use Rattle.verify_commands.specs.Chain.{chain_files, chain_plan, chained, chained_lines, needs_audit, needs_true, needs_two_files, pair_of, room_after}
+use Rattle.tool_commands.specs.Offsets.{leading_word, spot_after}
+use Rattle.verify_commands.specs.Chain.{chain_files, chain_plan, chained, chained_lines, needs_audit, needs_true, needs_two_files, pair_of, budget_after}
 use Rattle.verify_commands.specs.ChainTexts.{audit_line, chain_text}
 use Rattle.verify_commands.specs.Rests.{rested, rests_files, rests_plan, rests_text}
 use Rattle.verify_commands.specs.Verify.{explained, judge_files, judge_plan, judged_with}
@@ -126,7 +127,7 @@ module _ (ok : Status → Bool) (usage_is : IsTrue (ok Usage)) (absent_is : IsTr
   unfolding hex0_files
   hex0_ends differs (source ∷ binary ∷ []) =
       fits ok usage_is absent_is (is_file_word source && is_file_word binary) (hex0_files source binary)
-      (loads ok usage_is absent_is source 268_435_456 _ (λ text. loads ok usage_is absent_is binary 268_435_456 _ (λ bytes.
+      (loads ok usage_is absent_is source most_content _ (λ text. loads ok usage_is absent_is binary most_content _ (λ bytes.
       compared (hex0_of text) bytes differs (first_difference (hex0_of text) bytes))))
   hex0_ends differs [] = wrong
   hex0_ends differs (a ∷ []) = wrong
@@ -146,7 +147,7 @@ module _ (ok : Status → Bool) (usage_is : IsTrue (ok Usage)) (absent_is : IsTr
   asm_ends refused (language ∷ base ∷ source ∷ out ∷ []) =
       worded ok usage_is absent_is (language_named language) _ (λ named. worded ok usage_is absent_is (as_base base) _ (λ address.
       fits ok usage_is absent_is (are_two_files source out) (asm_files named address source out)
-      (loads ok usage_is absent_is source 268_435_456 _ (λ text. made refused named address text (λ bytes. sets out bytes (answers Yes (made_line (length bytes)))) (λ bytes.
+      (loads ok usage_is absent_is source most_content _ (λ text. made refused named address text (λ bytes. sets out bytes (answers Yes (made_line (length bytes)))) (λ bytes.
       saves ok out bytes _ (says ok Yes (made_line (length bytes)) yes_is))))))
   asm_ends refused [] = wrong
   asm_ends refused (a ∷ []) = wrong
@@ -154,21 +155,21 @@ module _ (ok : Status → Bool) (usage_is : IsTrue (ok Usage)) (absent_is : IsTr
   asm_ends refused (a ∷ b ∷ c ∷ []) = wrong
   asm_ends refused (a ∷ b ∷ c ∷ d ∷ e ∷ more) = wrong
 
-  found : IsTrue (ok Refuted) → (text : List ℕ) (place : Option ℕ) → Ends (located text place)
+  found : IsTrue (ok Refuted) → (text : List ℕ) (offset : Option ℕ) → Ends (located text offset)
   found nowhere text None = says ok Refuted no_place_line nowhere
   found nowhere text (Some at) =
-      either ok (nat_lt at (length text)) (answers Yes (spot_line (spot_after (take at text)) (front_word (drop at text)))) (answers Refuted no_place_line)
+      either ok (nat_lt at (length text)) (answers Yes (spot_line (spot_after (take at text)) (leading_word (drop at text)))) (answers Refuted no_place_line)
       (says ok Yes _ yes_is) (says ok Refuted no_place_line nowhere)
 
   pub where_ends : IsTrue (ok Refuted) → (words : List (List ℕ)) → Ends (where_plan words)
   where_ends nowhere words =
       worded ok usage_is absent_is (where_words words) where_file (λ read.
-      loads ok usage_is absent_is _ 268_435_456 _ (λ text. found nowhere text _))
+      loads ok usage_is absent_is _ most_content _ (λ text. found nowhere text _))
 
   pub list_ends : (words : List (List ℕ)) → Ends (list_plan words)
   unfolding list_file
   list_ends (binary ∷ []) =
-      fits ok usage_is absent_is (is_file_word binary) (list_file binary) (loads ok usage_is absent_is binary 16_777_216 _ (λ bytes. says ok Yes (listing 0 bytes) yes_is))
+      fits ok usage_is absent_is (is_file_word binary) (list_file binary) (loads ok usage_is absent_is binary most_listed _ (λ bytes. says ok Yes (listing 0 bytes) yes_is))
   list_ends [] = wrong
   list_ends (a ∷ b ∷ more) = wrong
 
@@ -193,7 +194,7 @@ module _ (ok : Status → Bool) (usage_is : IsTrue (ok Usage)) (absent_is : IsTr
     unfolding run_file
     run_ends (program ∷ steps ∷ args) =
         worded ok usage_is absent_is (as_steps steps) _ (λ most. fits ok usage_is absent_is (are_run_words program args) (run_file program args most)
-        (loads ok usage_is absent_is program 268_435_456 _ (λ bytes. started (start_of bytes (setting_of (program ∷ args))) most)))
+        (loads ok usage_is absent_is program most_content _ (λ bytes. started (start_of bytes (setting_of (program ∷ args))) most)))
     run_ends [] = wrong
     run_ends (a ∷ []) = wrong
 
@@ -209,14 +210,14 @@ module _ (ok : Status → Bool) (usage_is : IsTrue (ok Usage)) (absent_is : IsTr
     unfolding audit_files
     audit_ends (recipe ∷ report ∷ []) =
         fits ok usage_is absent_is (are_two_files recipe report) (audit_files recipe report)
-        (loads_recipe ok usage_is absent_is recipe _ refused (λ said. apart ok usage_is absent_is said report _
-        (loads_inputs ok usage_is absent_is said _ (λ inputs. audit_is said report (bench said inputs)))))
+        (loads_recipe ok usage_is absent_is recipe _ refused (λ parsed. apart ok usage_is absent_is parsed report _
+        (loads_inputs ok usage_is absent_is parsed _ (λ inputs. audit_is parsed report (bench parsed inputs)))))
     audit_ends [] = wrong
     audit_ends (a ∷ []) = wrong
     audit_ends (a ∷ b ∷ c ∷ more) = wrong
 
     module _ (pauses : IsTrue (ok Paused)) where
-      came : (recipe : RecipeContents) (kept : Position → List ℕ) (name report : List ℕ) (stands : Standing) → Ends (came_to recipe kept name report stands)
+      came : (recipe : RecipeContents) (kept : Position → List ℕ) (name report : List ℕ) (current : Phase) → Ends (came_to recipe kept name report current)
       unfolding paused
       came recipe kept name report (Over answer) = audit_is recipe report answer
       came recipe kept name report (On p) = saves ok name (kept p) _ (says ok Paused _ pauses)
@@ -225,8 +226,8 @@ module _ (ok : Status → Bool) (usage_is : IsTrue (ok Usage)) (absent_is : IsTr
       unfolding part_files
       part_ends (recipe ∷ save ∷ report ∷ steps ∷ []) =
           worded ok usage_is absent_is (as_steps steps) _ (λ count. fits ok usage_is absent_is (are_three_files recipe save report) (part_files recipe save report count)
-          (loads_recipe ok usage_is absent_is recipe _ refused (λ said. apart ok usage_is absent_is said report _ (apart ok usage_is absent_is said save _
-          (loads_inputs ok usage_is absent_is said _ (λ inputs. came said (whole_save said inputs) save report (position said inputs count)))))))
+          (loads_recipe ok usage_is absent_is recipe _ refused (λ parsed. apart ok usage_is absent_is parsed report _ (apart ok usage_is absent_is parsed save _
+          (loads_inputs ok usage_is absent_is parsed _ (λ inputs. came parsed (whole_save parsed inputs) save report (position parsed inputs count)))))))
       part_ends [] = wrong
       part_ends (a ∷ []) = wrong
       part_ends (a ∷ b ∷ []) = wrong
@@ -246,9 +247,9 @@ module _ (ok : Status → Bool) (usage_is : IsTrue (ok Usage)) (absent_is : IsTr
         unfolding resume_files
         resume_ends (recipe ∷ save ∷ report ∷ steps ∷ []) =
             worded ok usage_is absent_is (as_steps steps) _ (λ count. fits ok usage_is absent_is (are_three_files recipe save report) (resume_files recipe save report count)
-            (loads_recipe ok usage_is absent_is recipe _ refused (λ said. apart ok usage_is absent_is said report _ (apart ok usage_is absent_is said save _
-            (loads ok usage_is absent_is save 4_294_967_296 _ (λ text. loads_inputs ok usage_is absent_is said _ (λ inputs.
-            positioned said inputs text _ (λ p. came said (whole_save said inputs) save report (forward said inputs p count)))))))))
+            (loads_recipe ok usage_is absent_is recipe _ refused (λ parsed. apart ok usage_is absent_is parsed report _ (apart ok usage_is absent_is parsed save _
+            (loads ok usage_is absent_is save most_save _ (λ text. loads_inputs ok usage_is absent_is parsed _ (λ inputs.
+            positioned parsed inputs text _ (λ p. came parsed (whole_save parsed inputs) save report (forward parsed inputs p count)))))))))
         resume_ends [] = wrong
         resume_ends (a ∷ []) = wrong
         resume_ends (a ∷ b ∷ []) = wrong
@@ -259,9 +260,9 @@ module _ (ok : Status → Bool) (usage_is : IsTrue (ok Usage)) (absent_is : IsTr
         unfolding delta_start_files
         delta_start_ends (recipe ∷ base ∷ patch ∷ report ∷ steps ∷ []) =
             worded ok usage_is absent_is (as_steps steps) _ (λ count. fits ok usage_is absent_is (are_four_files recipe base patch report) (delta_start_files recipe base patch report count)
-            (loads_recipe ok usage_is absent_is recipe _ refused (λ said. apart ok usage_is absent_is said report _ (apart ok usage_is absent_is said base _ (apart ok usage_is absent_is said patch _
-            (loads ok usage_is absent_is base 4_294_967_296 _ (λ text. loads_inputs ok usage_is absent_is said _ (λ inputs.
-            positioned said inputs text _ (λ b. came said (delta_text_of said inputs b) patch report (forward said inputs b count))))))))))
+            (loads_recipe ok usage_is absent_is recipe _ refused (λ parsed. apart ok usage_is absent_is parsed report _ (apart ok usage_is absent_is parsed base _ (apart ok usage_is absent_is parsed patch _
+            (loads ok usage_is absent_is base most_save _ (λ text. loads_inputs ok usage_is absent_is parsed _ (λ inputs.
+            positioned parsed inputs text _ (λ b. came parsed (delta_text_of parsed inputs b) patch report (forward parsed inputs b count))))))))))
         delta_start_ends [] = wrong
         delta_start_ends (a ∷ []) = wrong
         delta_start_ends (a ∷ b ∷ []) = wrong
@@ -273,9 +274,9 @@ module _ (ok : Status → Bool) (usage_is : IsTrue (ok Usage)) (absent_is : IsTr
         unfolding delta_resume_files
         delta_resume_ends (recipe ∷ base ∷ patch ∷ report ∷ steps ∷ []) =
             worded ok usage_is absent_is (as_steps steps) _ (λ count. fits ok usage_is absent_is (are_four_files recipe base patch report) (delta_resume_files recipe base patch report count)
-            (loads_recipe ok usage_is absent_is recipe _ refused (λ said. apart ok usage_is absent_is said report _ (apart ok usage_is absent_is said base _ (apart ok usage_is absent_is said patch _
-            (loads ok usage_is absent_is base 4_294_967_296 _ (λ text. loads ok usage_is absent_is patch 4_294_967_296 _ (λ delta. loads_inputs ok usage_is absent_is said _ (λ inputs.
-            positioned said inputs text _ (λ b. relative said inputs b delta _ (λ p. came said (delta_text_of said inputs b) patch report (forward said inputs p count))))))))))))
+            (loads_recipe ok usage_is absent_is recipe _ refused (λ parsed. apart ok usage_is absent_is parsed report _ (apart ok usage_is absent_is parsed base _ (apart ok usage_is absent_is parsed patch _
+            (loads ok usage_is absent_is base most_save _ (λ text. loads ok usage_is absent_is patch most_save _ (λ delta. loads_inputs ok usage_is absent_is parsed _ (λ inputs.
+            positioned parsed inputs text _ (λ b. relative parsed inputs b delta _ (λ p. came parsed (delta_text_of parsed inputs b) patch report (forward parsed inputs p count))))))))))))
         delta_resume_ends [] = wrong
         delta_resume_ends (a ∷ []) = wrong
         delta_resume_ends (a ∷ b ∷ []) = wrong
@@ -299,8 +300,8 @@ module _ (ok : Status → Bool) (usage_is : IsTrue (ok Usage)) (absent_is : IsTr
     unfolding demo_files
     demo_ends (size ∷ []) =
         worded ok usage_is absent_is (as_demo_size size) demo_files (λ count.
-        loads ok usage_is absent_is (codes "copy.elf") 268_435_456 _ (λ program. loads ok usage_is absent_is (codes "copy.hex0") 268_435_456 _ (λ source.
-        demo_reads (λ said. demonstrated count said (bench said (demo_inputs said program source (generated_bytes count))))
+        loads ok usage_is absent_is (codes "copy.elf") most_content _ (λ program. loads ok usage_is absent_is (codes "copy.hex0") most_content _ (λ source.
+        demo_reads (λ parsed. demonstrated count parsed (bench parsed (demo_inputs parsed program source (generated_bytes count))))
         (demo_is count (bench given (demo_inputs given program source (generated_bytes count)))))))
     demo_ends [] = wrong
     demo_ends (a ∷ b ∷ more) = wrong
@@ -317,50 +318,50 @@ module _ (ok : Status → Bool) (usage_is : IsTrue (ok Usage)) (absent_is : IsTr
   module _ (refuted : IsTrue (ok Refuted)) (differs : IsTrue (ok Differs)) (no_recipe : IsTrue (ok RecipeRefused)) (no_report : IsTrue (ok ReportRefused)) where
     judged_is : (text : List ℕ) (lines : List CompareLine) (fault : Option (Part × ℕ)) → Ends (judged_with text lines fault)
     judged_is text lines None = compares ok lines text yes_is differs
-    judged_is text lines (Some (part, place)) = says ok Refuted _ refuted
+    judged_is text lines (Some (part, offset)) = says ok Refuted _ refuted
 
     pub judge_ends : (explanation : Explanation) (words : List (List ℕ)) → Ends (judge_plan explanation words)
     unfolding judge_files
     judge_ends explanation (recipe ∷ report ∷ []) =
         fits ok usage_is absent_is (are_two_files recipe report) (judge_files explanation recipe report)
-        (loads_recipe ok usage_is absent_is recipe _ no_recipe (λ said. apart ok usage_is absent_is said report _
-        (loads_report ok usage_is absent_is report _ no_report (λ read. loads_inputs ok usage_is absent_is said _ (λ inputs.
-        judged_is (explained explanation said read) read.compare (first_fault said inputs read))))))
+        (loads_recipe ok usage_is absent_is recipe _ no_recipe (λ parsed. apart ok usage_is absent_is parsed report _
+        (loads_report ok usage_is absent_is report _ no_report (λ read. loads_inputs ok usage_is absent_is parsed _ (λ inputs.
+        judged_is (explained explanation parsed inputs read) read.compare (first_fault parsed inputs read))))))
     judge_ends explanation [] = wrong
     judge_ends explanation (a ∷ []) = wrong
     judge_ends explanation (a ∷ b ∷ c ∷ more) = wrong
 
     module _ (no_list : IsTrue (ok ListRefused)) where
-      true_is : (front : List ℕ) (lines : List CompareLine) (fault : Option (Part × ℕ)) (next : Unit {0} → Plan) → Ends (next tt) → Ends (needs_true front lines fault next)
+      true_is : (leading : List ℕ) (lines : List CompareLine) (fault : Option (Part × ℕ)) (next : Unit {0} → Plan) → Ends (next tt) → Ends (needs_true leading lines fault next)
       unfolding needs_true
-      true_is front lines None next after = either ok (all_equal lines) (next tt) (answers Differs (front ++ compared_lines lines)) after (says ok Differs _ differs)
-      true_is front lines (Some (part, place)) next after = says ok Refuted _ refuted
+      true_is leading lines None next after = either ok (all_equal lines) (next tt) (answers Differs (leading ++ compared_lines lines)) after (says ok Differs _ differs)
+      true_is leading lines (Some (part, offset)) next after = says ok Refuted _ refuted
 
       two_files : (pair : Pair) (next : Unit {0} → Plan) → Ends (next tt) → Ends (needs_two_files pair next)
       unfolding needs_two_files
       two_files pair next after = either ok _ usage (next tt) wrong after
 
-      one_audit : (number room : ℕ) (pair : Pair) (next : Link → Plan) → ((link : Link) → Ends (next link)) → Ends (needs_audit number room pair next)
+      one_audit : (number budget : ℕ) (pair : Pair) (next : Link → Plan) → ((link : Link) → Ends (next link)) → Ends (needs_audit number budget pair next)
       unfolding needs_audit
-      one_audit number room pair next after =
-          two_files pair _ (loads_recipe_after ok usage_is absent_is (audit_line number) _ _ no_recipe (λ said. apart ok usage_is absent_is said _ _
-          (loads_report_after ok usage_is absent_is (audit_line number) _ _ no_report (λ read. loads_inputs_within ok usage_is absent_is room said _ (λ inputs.
-          true_is (audit_line number) read.compare (first_fault said inputs read) _ (after _))))))
+      one_audit number budget pair next after =
+          two_files pair _ (loads_recipe_after ok usage_is absent_is (audit_line number) _ _ no_recipe (λ parsed. apart ok usage_is absent_is parsed _ _
+          (loads_report_after ok usage_is absent_is (audit_line number) _ _ no_report (λ read. loads_inputs_within ok usage_is absent_is budget parsed _ (λ inputs.
+          true_is (audit_line number) read.compare (first_fault parsed inputs read) _ (after _))))))
 
-      audits : (links : List Link) (room : ℕ) (pairs : List Pair) → Ends (chained links room pairs)
-      audits links room [] = says ok Yes (chain_text links) yes_is
-      audits links room (pair ∷ pairs) =
-          one_audit (length links + 1) room pair _ (λ link. audits (links ++ link ∷ []) (room_after room link.inputs) pairs)
+      audits : (links : List Link) (budget : ℕ) (pairs : List Pair) → Ends (chained links budget pairs)
+      audits links budget [] = says ok Yes (chain_text links) yes_is
+      audits links budget (pair ∷ pairs) =
+          one_audit (length links + 1) budget pair _ (λ link. audits (links ++ link ∷ []) (budget_after budget link.inputs) pairs)
 
       lines_are : (pairs : List Pair) → Ends (chained_lines pairs)
       unfolding chained_lines
       lines_are [] = says ok ListRefused (list_line 1) no_list
-      lines_are (pair ∷ pairs) = audits [] 1_073_741_824 (pair ∷ pairs)
+      lines_are (pair ∷ pairs) = audits [] most_inputs (pair ∷ pairs)
 
       pub chain_ends : (words : List (List ℕ)) → Ends (chain_plan words)
       unfolding chain_files
       chain_ends (list ∷ []) =
-          fits ok usage_is absent_is (is_file_word list) (chain_files list) (loads_list ok usage_is absent_is pair_of 64 list chained_lines no_list lines_are)
+          fits ok usage_is absent_is (is_file_word list) (chain_files list) (loads_list ok usage_is absent_is pair_of most_audits list chained_lines no_list lines_are)
       chain_ends [] = wrong
       chain_ends (a ∷ b ∷ more) = wrong
 
@@ -375,7 +376,7 @@ module _ (ok : Status → Bool) (usage_is : IsTrue (ok Usage)) (absent_is : IsTr
     unfolding rests_files
     rests_ends (recipe ∷ stage ∷ []) =
         fits ok usage_is absent_is (is_file_word recipe && has_no_zero_byte stage) (rests_files recipe stage)
-        (loads_recipe ok usage_is absent_is recipe _ refused (λ said. stage_is said stage))
+        (loads_recipe ok usage_is absent_is recipe _ refused (λ parsed. stage_is parsed stage))
     rests_ends [] = wrong
     rests_ends (a ∷ []) = wrong
     rests_ends (a ∷ b ∷ c ∷ more) = wrong
@@ -399,8 +400,8 @@ module _ (ok : Status → Bool) (usage_is : IsTrue (ok Usage)) (absent_is : IsTr
       unfolding step_stage
       step_ends (recipe ∷ stage ∷ []) =
           fits ok usage_is absent_is (are_step_words recipe stage) (step_stage recipe stage)
-          (loads_recipe ok usage_is absent_is recipe _ refused (λ said. staged said stage _ (λ count. loads_inputs ok usage_is absent_is said _ (λ inputs.
-          earlier said inputs count _ (λ done. session said inputs done _ (λ state. converses ok (talk reply_to state 65_536) yes_is))))))
+          (loads_recipe ok usage_is absent_is recipe _ refused (λ parsed. staged parsed stage _ (λ count. loads_inputs ok usage_is absent_is parsed _ (λ inputs.
+          earlier parsed inputs count _ (λ done. session parsed inputs done _ (λ state. converses ok (talk reply_to state most_lines) yes_is))))))
       step_ends [] = wrong
       step_ends (a ∷ []) = wrong
       step_ends (a ∷ b ∷ c ∷ more) = wrong
@@ -444,8 +445,8 @@ module _ (ok : Status → Bool) (usage_is : IsTrue (ok Usage)) (absent_is : IsTr
       unfolding left_files
       left_ends (recipe ∷ stage ∷ file ∷ out ∷ []) =
           fits ok usage_is absent_is (are_left_words recipe stage file out) (left_files recipe stage file out)
-          (loads_recipe ok usage_is absent_is recipe _ refused (λ said. staged said stage _ (λ count. apart ok usage_is absent_is said out _
-          (loads_inputs ok usage_is absent_is said _ (λ inputs. earlier said inputs count _ (λ done. left_stage said inputs done file out))))))
+          (loads_recipe ok usage_is absent_is recipe _ refused (λ parsed. staged parsed stage _ (λ count. apart ok usage_is absent_is parsed out _
+          (loads_inputs ok usage_is absent_is parsed _ (λ inputs. earlier parsed inputs count _ (λ done. left_stage parsed inputs done file out))))))
       left_ends [] = wrong
       left_ends (a ∷ []) = wrong
       left_ends (a ∷ b ∷ []) = wrong
@@ -467,10 +468,10 @@ module _ (ok : Status → Bool) (usage_is : IsTrue (ok Usage)) (absent_is : IsTr
       begins : (recipe stage prefix : List ℕ) (next : Ready → Plan) → ((ready : Ready) → Ends (next ready)) → Ends (needs_ready recipe stage prefix next)
       unfolding needs_ready
       begins recipe stage prefix next after =
-          each (needs_other recipe) (other_file recipe) prefix 1_000 _
-          (loads_recipe ok usage_is absent_is recipe _ refused (λ said. staged said stage _ (λ count.
-          each (needs_apart said) (apart ok usage_is absent_is said) prefix 1_000 _
-          (loads_inputs ok usage_is absent_is said _ (λ inputs. earlier said inputs count _ (λ done.
+          each (needs_other recipe) (other_file recipe) prefix most_states _
+          (loads_recipe ok usage_is absent_is recipe _ refused (λ parsed. staged parsed stage _ (λ count.
+          each (needs_apart parsed) (apart ok usage_is absent_is parsed) prefix most_states _
+          (loads_inputs ok usage_is absent_is parsed _ (λ inputs. earlier parsed inputs count _ (λ done.
           after _))))))
 
       run_is : (stage : Stage) (end : End) (guest : GuestState) (next : List ℕ → Plan) → ((bytes : List ℕ) → Ends (next bytes)) → Ends (run_ended stage end guest next)
@@ -493,7 +494,7 @@ module _ (ok : Status → Bool) (usage_is : IsTrue (ok Usage)) (absent_is : IsTr
             (λ to. saved_from stage every prefix left (number + 1) to) (pieces stage every prefix left (number + 1) (state_after guest (next_steps stage every guest))))
 
         cuts : (stage : Stage) (every : ℕ) (prefix : List ℕ) (start : Result GuestState Refusal) → Ends (cut_from stage every prefix start)
-        cuts stage every prefix (Ok guest) = pieces stage every prefix 1_000 0 guest
+        cuts stage every prefix (Ok guest) = pieces stage every prefix most_states 0 guest
         cuts stage every prefix (Err why) = says ok RunFailed _ runs
 
         cut_stage : (every : ℕ) (prefix : List ℕ) (ready : Ready) → Ends (cut_ready every prefix ready)
@@ -531,15 +532,15 @@ module _ (ok : Status → Bool) (usage_is : IsTrue (ok Usage)) (absent_is : IsTr
         unfolding ends_judged
         both_ends ready first last =
             worded ok usage_is absent_is (slice_get ready.recipe.stages (length ready.done)) _ (λ stage.
-            first_is stage (start_stage ready.recipe (contents ready.inputs ready.done) stage) (state_said first) (needs_last stage (end_after last stage.steps))
+            first_is stage (start_stage ready.recipe (contents ready.inputs ready.done) stage) (state_parsed first) (needs_last stage (end_after last stage.steps))
             (reads ok (end_after last stage.steps) _ (last_reported stage) (λ why. says ok Refuted _ refuted) (last_is stage)))
 
         pub ends_ends : (words : List (List ℕ)) → Ends (ends_plan words)
         unfolding ends_files
         ends_ends (recipe ∷ stage ∷ prefix ∷ count ∷ []) =
             worded ok usage_is absent_is (as_states count) _ (λ states. fits ok usage_is absent_is (are_stage_words recipe stage prefix) (ends_files recipe stage prefix states)
-            (begins recipe stage prefix _ (λ ready. loads ok usage_is absent_is (piece_name prefix 0) 4_294_967_296 _ (λ first.
-            loads ok usage_is absent_is (piece_name prefix (states - 1)) 4_294_967_296 _ (λ last. both_ends ready first last)))))
+            (begins recipe stage prefix _ (λ ready. loads ok usage_is absent_is (piece_name prefix 0) most_state _ (λ first.
+            loads ok usage_is absent_is (piece_name prefix (states - 1)) most_state _ (λ last. both_ends ready first last)))))
         ends_ends [] = wrong
         ends_ends (a ∷ []) = wrong
         ends_ends (a ∷ b ∷ []) = wrong
@@ -554,7 +555,7 @@ module _ (ok : Status → Bool) (usage_is : IsTrue (ok Usage)) (absent_is : IsTr
   unfolding segment_files
   segment_ends refuted (from ∷ to ∷ []) =
       fits ok usage_is absent_is (are_two_files from to) (segment_files from to)
-      (loads ok usage_is absent_is from 4_294_967_296 _ (λ former. loads ok usage_is absent_is to 4_294_967_296 _ (λ latter. piece_is refuted (piece_of former latter))))
+      (loads ok usage_is absent_is from most_state _ (λ former. loads ok usage_is absent_is to most_state _ (λ latter. piece_is refuted (piece_of former latter))))
   segment_ends refuted [] = wrong
   segment_ends refuted (a ∷ []) = wrong
   segment_ends refuted (a ∷ b ∷ c ∷ more) = wrong
@@ -562,9 +563,9 @@ module _ (ok : Status → Bool) (usage_is : IsTrue (ok Usage)) (absent_is : IsTr
   -- ---- scripts
 
   module _ (no_script : IsTrue (ok ScriptRefused)) (no_list : IsTrue (ok ListRefused)) where
-    script_is : (file : List ℕ) (next : ScriptContents → Plan) → ((said : ScriptContents) → Ends (next said)) → Ends (needs_script file next)
+    script_is : (file : List ℕ) (next : ScriptContents → Plan) → ((parsed : ScriptContents) → Ends (next parsed)) → Ends (needs_script file next)
     script_is file next after =
-        loads ok usage_is absent_is file 1_048_576 _ (λ text. reads ok (script_of text) _ next (λ fault. says ok ScriptRefused _ no_script) after)
+        loads ok usage_is absent_is file most_script _ (λ text. reads ok (script_of text) _ next (λ fault. says ok ScriptRefused _ no_script) after)
 
     unlisted : (words : List (List ℕ)) (report : List ℕ) (next : Unit {0} → Plan) → Ends (next tt) → Ends (needs_unlisted words report next)
     unfolding needs_unlisted
@@ -572,24 +573,24 @@ module _ (ok : Status → Bool) (usage_is : IsTrue (ok Usage)) (absent_is : IsTr
 
     listed_is : (words : List (List ℕ)) (next : FilesListed → Plan) → ((listed : FilesListed) → Ends (next listed)) → Ends (needs_files words next)
     unfolding needs_files
-    listed_is words next after = loads_all ok usage_is absent_is 268_435_456 536_870_912 words (λ contents. next (and_files no_files words contents)) (λ contents. after (and_files no_files words contents))
+    listed_is words next after = loads_all ok usage_is absent_is most_content most_total words (λ contents. next (and_files no_files words contents)) (λ contents. after (and_files no_files words contents))
 
-    opens : (script list report : List ℕ) (next : ScriptContents → List (List ℕ) → Plan) → ((said : ScriptContents) (words : List (List ℕ)) → Ends (next said words))
+    opens : (script list report : List ℕ) (next : ScriptContents → List (List ℕ) → Plan) → ((parsed : ScriptContents) (words : List (List ℕ)) → Ends (next parsed words))
         → Ends (needs_script_and_list script list report next)
     opens script list report next after =
-        script_is script _ (λ said. loads_list ok usage_is absent_is file_line 4_096 list _ no_list (λ words. unlisted words report _ (after said words)))
+        script_is script _ (λ parsed. loads_list ok usage_is absent_is file_line most_files list _ no_list (λ words. unlisted words report _ (after parsed words)))
 
     module _ (runs : IsTrue (ok RunFailed)) where
-      fold_is : (report : List ℕ) (said : ScriptContents) (listed : FilesListed) (end : Folded) → Ends (folded_plan report said listed end)
-      fold_is report said listed (RanAll ran world) =
-          saves ok report (script_report_text (script_report said listed ran world)) _ (says ok Yes (done_line (length ran) (steps_of_commands ran)) yes_is)
-      fold_is report said listed (Stopped number why step) = says ok RunFailed _ runs
+      fold_is : (report : List ℕ) (parsed : ScriptContents) (listed : FilesListed) (end : Folded) → Ends (folded_plan report parsed listed end)
+      fold_is report parsed listed (RanAll ran world) =
+          saves ok report (script_report_text (script_report parsed listed ran world)) _ (says ok Yes (done_line (length ran) (steps_of_commands ran)) yes_is)
+      fold_is report parsed listed (Stopped number why step) = says ok RunFailed _ runs
 
       pub kaem_ends : (words : List (List ℕ)) → Ends (kaem_plan words)
       unfolding kaem_files
       kaem_ends (script ∷ list ∷ report ∷ steps ∷ []) =
           worded ok usage_is absent_is (as_steps steps) _ (λ most. fits ok usage_is absent_is (are_three_files script list report) (kaem_files script list report most)
-          (opens script list report _ (λ said words. listed_is words _ (λ listed. fold_is report said listed (folded most listed.world said.commands)))))
+          (opens script list report _ (λ parsed words. listed_is words _ (λ listed. fold_is report parsed listed (folded most listed.world parsed.commands)))))
       kaem_ends [] = wrong
       kaem_ends (a ∷ []) = wrong
       kaem_ends (a ∷ b ∷ []) = wrong
@@ -624,24 +625,24 @@ module _ (ok : Status → Bool) (usage_is : IsTrue (ok Usage)) (absent_is : IsTr
       pub kaem_left_ends : (words : List (List ℕ)) → Ends (kaem_left_plan words)
       kaem_left_ends words =
           worded ok usage_is absent_is (kaem_left_words words) kaem_left_files (λ read.
-          script_is _ _ (λ said. worded ok usage_is absent_is _ _ (λ command. loads_list ok usage_is absent_is file_line 4_096 _ _ no_list (λ names.
+          script_is _ _ (λ parsed. worded ok usage_is absent_is _ _ (λ command. loads_list ok usage_is absent_is file_line most_files _ _ no_list (λ names.
           unlisted names _ _ (listed_is names _ (λ listed. command_is _ _ _ _))))))
 
     module _ (refuted : IsTrue (ok Refuted)) (no_report : IsTrue (ok ReportRefused)) where
       script_report_is : (file : List ℕ) (next : ScriptReport → Plan) → ((read : ScriptReport) → Ends (next read)) → Ends (needs_script_report file next)
       script_report_is file next after =
-          loads ok usage_is absent_is file 1_073_741_824 _ (λ text. reads ok (script_report_of text) _ next (λ number. says ok ReportRefused (report_line number) no_report) after)
+          loads ok usage_is absent_is file most_report _ (λ text. reads ok (script_report_of text) _ next (λ number. says ok ReportRefused (report_line number) no_report) after)
 
       verdict_is : (commands : ℕ) (fault : Option (ScriptPart × ℕ)) → Ends (script_verdict_plan commands fault)
       verdict_is commands None = says ok Yes _ yes_is
-      verdict_is commands (Some (part, place)) = says ok Refuted _ refuted
+      verdict_is commands (Some (part, offset)) = says ok Refuted _ refuted
 
       pub kaem_verify_ends : (words : List (List ℕ)) → Ends (kaem_verify_plan words)
       unfolding kaem_verify_files
       kaem_verify_ends (script ∷ list ∷ report ∷ []) =
           fits ok usage_is absent_is (are_three_files script list report) (kaem_verify_files script list report)
-          (opens script list report _ (λ said words. script_report_is report _ (λ read. listed_is words _ (λ listed.
-          verdict_is (length said.commands) (first_script_fault said listed read)))))
+          (opens script list report _ (λ parsed words. script_report_is report _ (λ read. listed_is words _ (λ listed.
+          verdict_is (length parsed.commands) (first_script_fault parsed listed read)))))
       kaem_verify_ends [] = wrong
       kaem_verify_ends (a ∷ []) = wrong
       kaem_verify_ends (a ∷ b ∷ []) = wrong

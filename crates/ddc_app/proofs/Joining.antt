@@ -8,6 +8,7 @@ use Rattle.std.proofs.lemmas.Bool.Decides.{nat_tests}
 use Rattle.std.proofs.lemmas.List.Elements.{All-cons, All-head, All-nil, All-push, All-tail}
 use Rattle.ddc_base.specs.declared.outside.Loaded.TheVariants.{Bytes, TooLong}
 use Rattle.ddc_base.specs.Outside.{NamedFiles, loaded, loaded_of}
+use Rattle.ddc_base.specs.Limits.{most_audits, most_content, most_inputs, most_list, most_recipe, most_report}
 use Rattle.recipe.specs.declared.contents.RecipeContents.{RecipeContents}
 use Rattle.recipe.specs.declared.text.refusal.RecipeRefusal.{RecipeRefusal}
 use Rattle.recipe.specs.Reading.{recipe_of}
@@ -29,7 +30,7 @@ use Rattle.recipe_plan.specs.Recipes.{is_input, needs_apart, needs_inputs_within
 use Rattle.recipe_plan.specs.Reports.{needs_report_after}
 use Rattle.recipe_plan.specs.Texts.{compared_lines, recipe_line}
 use Rattle.verify_commands.specs.declared.pair.Pair.{Pair}
-use Rattle.verify_commands.specs.Chain.{both_words, chain_files, chained, chained_lines, is_space, needs_audit, needs_true, needs_two_files, pair_of, room_after}
+use Rattle.verify_commands.specs.Chain.{both_words, chain_files, chained, chained_lines, is_space, needs_audit, needs_true, needs_two_files, pair_of, budget_after}
 use Rattle.verify_commands.specs.ChainTexts.{audit_line, chain_text}
 use Rattle.verify_commands.specs.Verify.{verify_files}
 use Rattle.ddc_app.specs.Accepting.{is_compared}
@@ -84,8 +85,8 @@ pair_more : (earlier : List Pair) (line : List ℕ) (pair : Pair) → All IsPair
 unfolding pair_of
 pair_more earlier line pair are is = All-push IsPair earlier pair are (words_of (before_first is_space line) (after_first is_space line) pair is)
 
-pairs_of : (text : List ℕ) (lines : List Pair) → list_of pair_of 64 text ≡ Ok lines → All IsPair lines
-pairs_of text lines reads = holds-listed pair_of 64 (All IsPair) pair_more lines (All-nil IsPair) (text, reads)
+pairs_of : (text : List ℕ) (lines : List Pair) → list_of pair_of most_audits text ≡ Ok lines → All IsPair lines
+pairs_of text lines reads = holds-listed pair_of most_audits (All IsPair) pair_more lines (All-nil IsPair) (text, reads)
 
 are_two : (pair : Pair) → IsPair pair → is_one_file pair.recipe pair.report ≡ false → are_two_files pair.recipe pair.report ≡ true
 are_two pair words apart =
@@ -103,13 +104,13 @@ wider files name content low high below is =
     let held = within low (finite.get files name) content is in
     ap (loaded_of high) held.0 ∙ ap (λ b. cond b (Bytes content) TooLong) (fits (length content) high (le_trans held.1 below))
 
-roomier : (most room more : ℕ) (files : NamedFiles) (names contents : List (List ℕ)) → room ≤ more → AreHeld most room files names contents → AreHeld most more files names contents
-roomier most room more files [] [] below held = tt
-roomier most room more files [] (content ∷ contents) below held = absurd held
-roomier most room more files (name ∷ names) [] below held = absurd held
-roomier most room more files (name ∷ names) (content ∷ contents) below held = (
-  wider files name content (min most room) (min most more) (le-min (min-le_left most room) (le_trans (min-le_right most room) below)) held.0,
-  roomier most (room - length content) (more - length content) files names contents (omega (arith, below)) held.1,
+larger : (most budget more : ℕ) (files : NamedFiles) (names contents : List (List ℕ)) → budget ≤ more → AreHeld most budget files names contents → AreHeld most more files names contents
+larger most budget more files [] [] below held = tt
+larger most budget more files [] (content ∷ contents) below held = absurd held
+larger most budget more files (name ∷ names) [] below held = absurd held
+larger most budget more files (name ∷ names) (content ∷ contents) below held = (
+  wider files name content (min most budget) (min most more) (le-min (min-le_left most budget) (le_trans (min-le_right most budget) below)) held.0,
+  larger most (budget - length content) (more - length content) files names contents (omega (arith, below)) held.1,
 )
 
 -- names hold one list of contents
@@ -134,7 +135,7 @@ record Opened (files : NamedFiles) (pair : Pair) (link : Link) : Type 0 where
   words : is_one_file pair.recipe pair.report ≡ false
   apart : is_input link.recipe pair.report ≡ false
   text : List ℕ
-  text_held : loaded files pair.report 1_073_741_824 ≡ Bytes text
+  text_held : loaded files pair.report most_report ≡ Bytes text
   made : Report
   text_reads : report_of text ≡ Ok made
   none : first_fault link.recipe link.inputs made ≡ None
@@ -148,18 +149,18 @@ is_two : (recipe report : List ℕ) (files : NamedFiles) (two : Bool) → (outco
 is_two recipe report files true is = refl
 is_two recipe report files false is = absurd cc
 
-opened : (room : ℕ) (files : NamedFiles) (pair : Pair) (link : Link) → HoldsInputs room files pair link → SaysYes files pair → Opened files pair link
-opened room files pair link h verified =
+opened : (budget : ℕ) (files : NamedFiles) (pair : Pair) (link : Link) → HoldsInputs budget files pair link → SaysYes files pair → Opened files pair link
+opened budget files pair link h verified =
     let r = replayed pair.recipe pair.report files (are_two_files pair.recipe pair.report) (ap is_compared verified) in
     let one = sym r.holds.recipe_held ∙ h.recipe_held in
     let bytes : r.holds.bytes ≡ h.recipe_bytes = cc in
     let reads = sym r.holds.reads ∙ ap recipe_of bytes ∙ h.recipe_reads in
-    let same : r.said ≡ link.recipe = cc in
-    let held = subst (λ (said : RecipeContents). AreHeld 268_435_456 1_073_741_824 files (paths said) r.inputs) same r.holds.inputs_held in
-    let inputs : r.inputs ≡ link.inputs = same_contents 268_435_456 1_073_741_824 room files (paths link.recipe) r.inputs link.inputs held h.inputs_held in
+    let same : r.parsed ≡ link.recipe = cc in
+    let held = subst (λ (parsed : RecipeContents). AreHeld most_content most_inputs files (paths parsed) r.inputs) same r.holds.inputs_held in
+    let inputs : r.inputs ≡ link.inputs = same_contents most_content most_inputs budget files (paths link.recipe) r.inputs link.inputs held h.inputs_held in
     record {
       words = two_apart pair.recipe pair.report (is_two pair.recipe pair.report files (are_two_files pair.recipe pair.report) verified);
-      apart = ap (λ (said : RecipeContents). is_input said pair.report) (sym same) ∙ r.apart;
+      apart = ap (λ (parsed : RecipeContents). is_input parsed pair.report) (sym same) ∙ r.apart;
       text = r.text;
       text_held = r.text_held;
       made = r.made;
@@ -168,50 +169,50 @@ opened room files pair link h verified =
       equal = is_equal (all_equal r.made.compare) (sym (ap (λ (o : Outcome). o.status) r.leads) ∙ verified);
     }
 
-audit_opens : (number room : ℕ) (files : NamedFiles) (pair : Pair) (link : Link) (next : Link → Plan) → HoldsInputs room files pair link → Opened files pair link
-    → outcome (needs_audit number room pair next) files ≡ outcome (next link) files
+audit_opens : (number budget : ℕ) (files : NamedFiles) (pair : Pair) (link : Link) (next : Link → Plan) → HoldsInputs budget files pair link → Opened files pair link
+    → outcome (needs_audit number budget pair next) files ≡ outcome (next link) files
 unfolding needs_audit needs_two_files needs_true
-audit_opens number room files pair link next h o =
-    let last : RecipeContents → Report → List (List ℕ) → Plan = λ said made inputs.
-    needs_true (audit_line number) made.compare (first_fault said inputs made) (λ _. next (record { recipe = said; inputs = inputs })) in
-    let loads : RecipeContents → Report → Plan = λ said made. needs_inputs_within room said (last said made) in
-    let reports : RecipeContents → Plan = λ said. needs_report_after (audit_line number) pair.report (loads said) in
-    let recipes : RecipeContents → Plan = λ said. needs_apart said pair.report (λ _. reports said) in
+audit_opens number budget files pair link next h o =
+    let last : RecipeContents → Report → List (List ℕ) → Plan = λ parsed made inputs.
+    needs_true (audit_line number) made.compare (first_fault parsed inputs made) (λ _. next (record { recipe = parsed; inputs = inputs })) in
+    let loads : RecipeContents → Report → Plan = λ parsed made. needs_inputs_within budget parsed (last parsed made) in
+    let reports : RecipeContents → Plan = λ parsed. needs_report_after (audit_line number) pair.report (loads parsed) in
+    let recipes : RecipeContents → Plan = λ parsed. needs_apart parsed pair.report (λ _. reports parsed) in
     let refuse : RecipeRefusal → Plan = λ refusal. answers status.RecipeRefused (audit_line number ++ recipe_line refusal) in
     let refuse_report : ℕ → Plan = λ line. answers status.ReportRefused (audit_line number ++ report_line line) in
     ap (λ clash. outcome (cond clash usage (needs_recipe_after (audit_line number) pair.recipe recipes)) files) o.words
-    ∙ follows pair.recipe 1_048_576 (λ bytes. unless_refused (recipe_of bytes) refuse recipes) files h.recipe_bytes h.recipe_held
+    ∙ follows pair.recipe most_recipe (λ bytes. unless_refused (recipe_of bytes) refuse recipes) files h.recipe_bytes h.recipe_held
     ∙ ap (λ reading. outcome (unless_refused reading refuse recipes) files) h.recipe_reads
     ∙ apart_opens link.recipe pair.report (λ _. reports link.recipe) files false o.apart
-    ∙ follows pair.report 1_073_741_824 (λ text. unless_refused (report_of text) refuse_report (loads link.recipe)) files o.text o.text_held
+    ∙ follows pair.report most_report (λ text. unless_refused (report_of text) refuse_report (loads link.recipe)) files o.text o.text_held
     ∙ ap (λ reading. outcome (unless_refused reading refuse_report (loads link.recipe)) files) o.text_reads
-    ∙ follow_all 268_435_456 room files (paths link.recipe) link.inputs (last link.recipe o.made) h.inputs_held
+    ∙ follow_all most_content budget files (paths link.recipe) link.inputs (last link.recipe o.made) h.inputs_held
     ∙ ap (λ fault. outcome (needs_true (audit_line number) o.made.compare fault (λ _. next link)) files) o.none
     ∙ ap (λ equal. outcome (cond equal (next link) (answers status.Differs (audit_line number ++ compared_lines o.made.compare))) files) o.equal
 
-chained_opens : (files : NamedFiles) (pairs : List Pair) (more links : List Link) (room : ℕ) → AllHoldInputs room files pairs more → All (SaysYes files) pairs
-    → outcome (chained links room pairs) files ≡ told files status.Yes (chain_text (links ++ more))
-chained_opens files [] [] links room held each = ap (λ l. told files status.Yes (chain_text l)) (sym (append-nil links))
-chained_opens files [] (link ∷ more) links room held each = absurd held
-chained_opens files (pair ∷ pairs) [] links room held each = absurd held
-chained_opens files (pair ∷ pairs) (link ∷ more) links room held each =
-    audit_opens (length links + 1) room files pair link (λ l. chained (links ++ l ∷ []) (room_after room l.inputs) pairs) held.0
-    (opened room files pair link held.0 (All-head (SaysYes files) pair pairs each))
-    ∙ chained_opens files pairs more (links ++ link ∷ []) (room_after room link.inputs) held.1 (All-tail (SaysYes files) pair pairs each)
+chained_opens : (files : NamedFiles) (pairs : List Pair) (more links : List Link) (budget : ℕ) → AllHoldInputs budget files pairs more → All (SaysYes files) pairs
+    → outcome (chained links budget pairs) files ≡ told files status.Yes (chain_text (links ++ more))
+chained_opens files [] [] links budget held each = ap (λ l. told files status.Yes (chain_text l)) (sym (append-nil links))
+chained_opens files [] (link ∷ more) links budget held each = absurd held
+chained_opens files (pair ∷ pairs) [] links budget held each = absurd held
+chained_opens files (pair ∷ pairs) (link ∷ more) links budget held each =
+    audit_opens (length links + 1) budget files pair link (λ l. chained (links ++ l ∷ []) (budget_after budget l.inputs) pairs) held.0
+    (opened budget files pair link held.0 (All-head (SaysYes files) pair pairs each))
+    ∙ chained_opens files pairs more (links ++ link ∷ []) (budget_after budget link.inputs) held.1 (All-tail (SaysYes files) pair pairs each)
     ∙ ap (λ l. told files status.Yes (chain_text l)) (append_assoc links (link ∷ []) more)
 
-lines_open : (files : NamedFiles) (lines : List Pair) (links : List Link) → lines ≢ [] → AllHoldInputs 1_073_741_824 files lines links → All (SaysYes files) lines
+lines_open : (files : NamedFiles) (lines : List Pair) (links : List Link) → lines ≢ [] → AllHoldInputs most_inputs files lines links → All (SaysYes files) lines
     → outcome (chained_lines lines) files ≡ told files status.Yes (chain_text links)
 unfolding chained_lines
 lines_open files [] links some held each = absurd (some refl)
-lines_open files (pair ∷ pairs) links some held each = chained_opens files (pair ∷ pairs) links [] 1_073_741_824 held each
+lines_open files (pair ∷ pairs) links some held each = chained_opens files (pair ∷ pairs) links [] most_inputs held each
 
 pub says : (list : List ℕ) (files : NamedFiles) (all : AllVerified list files) → chain list files ≡ told files status.Yes (chain_text all.links)
 unfolding chain_files
 says list files all =
     let refuse : ℕ → Plan = λ number. answers status.ListRefused (list_line number) in
     ap (λ named. outcome (cond named (chain_files list) usage) files) all.named
-    ∙ follows list 1_048_576 (λ text. unless_refused (list_of pair_of 64 text) refuse chained_lines) files all.list_bytes all.list_held
+    ∙ follows list most_list (λ text. unless_refused (list_of pair_of most_audits text) refuse chained_lines) files all.list_bytes all.list_held
     ∙ ap (λ reading. outcome (unless_refused reading refuse chained_lines) files) all.list_reads
     ∙ lines_open files all.lines all.links all.some all.inputs_held all.verified
 
@@ -243,29 +244,29 @@ module _ (files : NamedFiles) (P : Type 0) where
     by false equal ends = absurd cc
   true_comes number lines (Some (part, place)) next comes = λ ends. absurd cc
 
-  audit_comes : (number room : ℕ) (pair : Pair) (next : Link → Plan) → room ≤ 1_073_741_824 → IsPair pair
-      → ((link : Link) → HoldsInputs room files pair link → SaysYes files pair → Comes (next link)) → Comes (needs_audit number room pair next)
+  audit_comes : (number budget : ℕ) (pair : Pair) (next : Link → Plan) → budget ≤ most_inputs → IsPair pair
+      → ((link : Link) → HoldsInputs budget files pair link → SaysYes files pair → Comes (next link)) → Comes (needs_audit number budget pair next)
   unfolding needs_audit
-  audit_comes number room pair next below words comes =
-      let link_of : RecipeContents → List (List ℕ) → Link = λ said inputs. record { recipe = said; inputs = inputs } in
-      let last : RecipeContents → Report → List (List ℕ) → Plan = λ said made inputs. needs_true (audit_line number) made.compare (first_fault said inputs made) (λ _. next (link_of said inputs)) in
-      let loads : RecipeContents → Report → Plan = λ said made. needs_inputs_within room said (last said made) in
-      let reports : RecipeContents → Plan = λ said. needs_report_after (audit_line number) pair.report (loads said) in
-      let recipes : RecipeContents → Plan = λ said. needs_apart said pair.report (λ _. reports said) in
+  audit_comes number budget pair next below words comes =
+      let link_of : RecipeContents → List (List ℕ) → Link = λ parsed inputs. record { recipe = parsed; inputs = inputs } in
+      let last : RecipeContents → Report → List (List ℕ) → Plan = λ parsed made inputs. needs_true (audit_line number) made.compare (first_fault parsed inputs made) (λ _. next (link_of parsed inputs)) in
+      let loads : RecipeContents → Report → Plan = λ parsed made. needs_inputs_within budget parsed (last parsed made) in
+      let reports : RecipeContents → Plan = λ parsed. needs_report_after (audit_line number) pair.report (loads parsed) in
+      let recipes : RecipeContents → Plan = λ parsed. needs_apart parsed pair.report (λ _. reports parsed) in
       let refusal_text : RecipeRefusal → List ℕ = λ refusal. audit_line number ++ recipe_line refusal in
       let line_text : ℕ → List ℕ = λ line. audit_line number ++ report_line line in
       let reading : List ℕ → Plan = λ bytes. unless_refused (recipe_of bytes) (λ refusal. answers status.RecipeRefused (refusal_text refusal)) recipes in
-      let texts : RecipeContents → List ℕ → Plan = λ said text. unless_refused (report_of text) (λ line. answers status.ReportRefused (line_text line)) (loads said) in
+      let texts : RecipeContents → List ℕ → Plan = λ parsed text. unless_refused (report_of text) (λ line. answers status.ReportRefused (line_text line)) (loads parsed) in
       two_come pair (λ _. needs_recipe_after (audit_line number) pair.recipe recipes) (λ one.
-      both_need Both files refused pair.recipe 1_048_576 reading reading (λ bytes held.
-      both_read Both files refused (recipe_of bytes) status.RecipeRefused refusal_text recipes recipes (refl, refl) (λ said reads.
-      both_need_apart Both files refused said pair.report (λ _. reports said) (λ _. reports said) (λ apart.
-      both_need Both files refused pair.report 1_073_741_824 (texts said) (texts said) (λ text text_held.
-      both_read Both files refused (report_of text) status.ReportRefused line_text (loads said) (loads said) (refl, refl) (λ made text_reads.
-      both_need_all Both files refused 268_435_456 room (paths said) (last said made) (last said made) (λ inputs inputs_held.
-      true_comes number made.compare (first_fault said inputs made) (λ _. next (link_of said inputs)) (λ none equal.
-      comes (link_of said inputs) (record { recipe_bytes = bytes; recipe_held = held; recipe_reads = reads; inputs_held = inputs_held })
-      ((says_yes pair.recipe pair.report files said inputs made (record {
+      both_need Both files refused pair.recipe most_recipe reading reading (λ bytes held.
+      both_read Both files refused (recipe_of bytes) status.RecipeRefused refusal_text recipes recipes (refl, refl) (λ parsed reads.
+      both_need_apart Both files refused parsed pair.report (λ _. reports parsed) (λ _. reports parsed) (λ apart.
+      both_need Both files refused pair.report most_report (texts parsed) (texts parsed) (λ text text_held.
+      both_read Both files refused (report_of text) status.ReportRefused line_text (loads parsed) (loads parsed) (refl, refl) (λ made text_reads.
+      both_need_all Both files refused most_content budget (paths parsed) (last parsed made) (last parsed made) (λ inputs inputs_held.
+      true_comes number made.compare (first_fault parsed inputs made) (λ _. next (link_of parsed inputs)) (λ none equal.
+      comes (link_of parsed inputs) (record { recipe_bytes = bytes; recipe_held = held; recipe_reads = reads; inputs_held = inputs_held })
+      ((says_yes pair.recipe pair.report files parsed inputs made (record {
         two = are_two pair words one;
         recipe_bytes = bytes;
         recipe_held = held;
@@ -274,41 +275,41 @@ module _ (files : NamedFiles) (P : Type 0) where
         report_bytes = text;
         report_held = text_held;
         report_reads = text_reads;
-        inputs_held = roomier 268_435_456 room 1_073_741_824 files (paths said) inputs below inputs_held;
+        inputs_held = larger most_content budget most_inputs files (paths parsed) inputs below inputs_held;
       })).1 (none, equal))))))))))
 
 -- the inputs of these lines, and that `verify` says yes of each
-record Rest (files : NamedFiles) (room : ℕ) (pairs : List Pair) : Type 0 where
+record Rest (files : NamedFiles) (budget : ℕ) (pairs : List Pair) : Type 0 where
   more : List Link
-  held : AllHoldInputs room files pairs more
+  held : AllHoldInputs budget files pairs more
   each : All (SaysYes files) pairs
 
-chained_comes : (files : NamedFiles) (pairs : List Pair) (links : List Link) (room : ℕ) → room ≤ 1_073_741_824 → All IsPair pairs
-    → (outcome (chained links room pairs) files).status ≡ status.Yes → Rest files room pairs
-chained_comes files [] links room below words ends = record { more = []; held = tt; each = All-nil (SaysYes files) }
-chained_comes files (pair ∷ pairs) links room below words ends =
-    audit_comes files (Rest files room (pair ∷ pairs)) (length links + 1) room pair (λ link. chained (links ++ link ∷ []) (room_after room link.inputs) pairs) below
+chained_comes : (files : NamedFiles) (pairs : List Pair) (links : List Link) (budget : ℕ) → budget ≤ most_inputs → All IsPair pairs
+    → (outcome (chained links budget pairs) files).status ≡ status.Yes → Rest files budget pairs
+chained_comes files [] links budget below words ends = record { more = []; held = tt; each = All-nil (SaysYes files) }
+chained_comes files (pair ∷ pairs) links budget below words ends =
+    audit_comes files (Rest files budget (pair ∷ pairs)) (length links + 1) budget pair (λ link. chained (links ++ link ∷ []) (budget_after budget link.inputs) pairs) below
     (All-head IsPair pair pairs words)
     (λ link held verified later.
-    let rest = chained_comes files pairs (links ++ link ∷ []) (room_after room link.inputs) (less room (sum_by length link.inputs) below) (All-tail IsPair pair pairs words) later in
+    let rest = chained_comes files pairs (links ++ link ∷ []) (budget_after budget link.inputs) (less budget (sum_by length link.inputs) below) (All-tail IsPair pair pairs words) later in
     record { more = link ∷ rest.more; held = (held, rest.held); each = All-cons (SaysYes files) pair pairs verified rest.each }) ends
   where
-    less : (room sum : ℕ) → room ≤ 1_073_741_824 → room - sum ≤ 1_073_741_824
-    less room sum below = omega (arith, below)
+    less : (budget sum : ℕ) → budget ≤ most_inputs → budget - sum ≤ most_inputs
+    less budget sum below = omega (arith, below)
 
-lines_come : (files : NamedFiles) (lines : List Pair) → All IsPair lines → (outcome (chained_lines lines) files).status ≡ status.Yes → (lines ≢ []) × Rest files 1_073_741_824 lines
+lines_come : (files : NamedFiles) (lines : List Pair) → All IsPair lines → (outcome (chained_lines lines) files).status ≡ status.Yes → (lines ≢ []) × Rest files most_inputs lines
 unfolding chained_lines
 lines_come files [] words ends = absurd cc
-lines_come files (pair ∷ pairs) words ends = (λ none. cc, chained_comes files (pair ∷ pairs) [] 1_073_741_824 (omega arith) words ends)
+lines_come files (pair ∷ pairs) words ends = (λ none. cc, chained_comes files (pair ∷ pairs) [] most_inputs (omega arith) words ends)
 
 list_comes : (list : List ℕ) (files : NamedFiles) (named : Bool) → is_file_word list ≡ named → (outcome (cond named (chain_files list) usage) files).status ≡ status.Yes
     → AllVerified list files
 unfolding chain_files
 list_comes list files false is ends = absurd cc
 list_comes list files true is ends =
-    let reading : List ℕ → Plan = λ text. unless_refused (list_of pair_of 64 text) (λ number. answers status.ListRefused (list_line number)) chained_lines in
-    both_need (Both files (AllVerified list files)) files (refused files (AllVerified list files)) list 1_048_576 reading reading (λ text held.
-    both_read (Both files (AllVerified list files)) files (refused files (AllVerified list files)) (list_of pair_of 64 text) status.ListRefused list_line chained_lines chained_lines
+    let reading : List ℕ → Plan = λ text. unless_refused (list_of pair_of most_audits text) (λ number. answers status.ListRefused (list_line number)) chained_lines in
+    both_need (Both files (AllVerified list files)) files (refused files (AllVerified list files)) list most_list reading reading (λ text held.
+    both_read (Both files (AllVerified list files)) files (refused files (AllVerified list files)) (list_of pair_of most_audits text) status.ListRefused list_line chained_lines chained_lines
     (refl, refl)
     (λ lines reads done.
     let found = lines_come files lines (pairs_of text lines reads) done in

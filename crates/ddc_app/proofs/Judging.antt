@@ -1,6 +1,7 @@
 -- What `verify` comes to over files that hold what it judges.
 use Rattle.std.proofs.Common.{◌≡◌, ◌↔◌, ℕ, Bool, true, false, cond, Option, Some, None, List, refl, sym, ap, ◌∙◌, subst}
 use Rattle.ddc_base.specs.Outside.{NamedFiles}
+use Rattle.ddc_base.specs.Limits.{most_report}
 use Rattle.recipe.specs.declared.contents.RecipeContents.{RecipeContents}
 use Rattle.report.specs.declared.types.Report.{Report}
 use Rattle.report.specs.Reading.{report_of}
@@ -20,24 +21,24 @@ use Rattle.ddc_app.specs.Judged.{HoldsReport}
 use Rattle.ddc_app.proofs.Loads.{follows}
 use Rattle.ddc_app.proofs.Openings.{Holds, apart_opens, inputs_open, recipe_opens}
 
-module _ (recipe report : List ℕ) (files : NamedFiles) (said : RecipeContents) (inputs : List (List ℕ)) (made : Report) (h : HoldsReport recipe report files said inputs made) where
+module _ (recipe report : List ℕ) (files : NamedFiles) (parsed : RecipeContents) (inputs : List (List ℕ)) (made : Report) (h : HoldsReport recipe report files parsed inputs made) where
   -- its loads lead to the judgement
-  pub judgement : verify recipe report files ≡ outcome (judged_report said made.compare (first_fault said inputs made)) files
+  pub judgement : verify recipe report files ≡ outcome (judged_report parsed made.compare (first_fault parsed inputs made)) files
   unfolding judge_files
   judgement =
-      let holds : Holds recipe said inputs files = record { bytes = h.recipe_bytes; recipe_held = h.recipe_held; reads = h.recipe_reads; inputs_held = h.inputs_held } in
-      let last : Report → Plan = λ m. needs_inputs said (λ i. verified said i m) in
+      let holds : Holds recipe parsed inputs files = record { bytes = h.recipe_bytes; recipe_held = h.recipe_held; reads = h.recipe_reads; inputs_held = h.inputs_held } in
+      let last : Report → Plan = λ m. needs_inputs parsed (λ i. verified parsed i m) in
       let refuse : ℕ → Plan = λ number. answers ReportRefused (report_line number) in
       ap (λ two. outcome (cond two (verify_files recipe report) usage) files) h.two
-      ∙ recipe_opens recipe said inputs files holds (λ s. needs_apart s report (λ _. needs_report report (λ m. needs_inputs s (λ i. verified s i m))))
-      ∙ apart_opens said report (λ _. needs_report report last) files false h.apart
-      ∙ follows report 1_073_741_824 (λ text. unless_refused (report_of text) refuse last) files h.report_bytes h.report_held
+      ∙ recipe_opens recipe parsed inputs files holds (λ s. needs_apart s report (λ _. needs_report report (λ m. needs_inputs s (λ i. verified s i m))))
+      ∙ apart_opens parsed report (λ _. needs_report report last) files false h.apart
+      ∙ follows report most_report (λ text. unless_refused (report_of text) refuse last) files h.report_bytes h.report_held
       ∙ ap (λ reading. outcome (unless_refused reading refuse last) files) h.report_reads
-      ∙ inputs_open recipe said inputs files holds (λ i. verified said i made)
+      ∙ inputs_open recipe parsed inputs files holds (λ i. verified parsed i made)
 
   -- and that to a status: exactly where there is no fault it compares
   abbrev By : Option (Part × ℕ) → Status
-  By fault = (outcome (judged_report said made.compare fault) files).status
+  By fault = (outcome (judged_report parsed made.compare fault) files).status
 
   yes_by : (fault : Option (Part × ℕ)) → (By fault ≡ Yes) ↔ ((fault ≡ None) × (all_equal made.compare ≡ true))
   yes_by None = ((λ is. (refl, equal (all_equal made.compare) is)), (λ both. ap (λ b. cond b Yes Differs) both.1)) where
@@ -60,14 +61,14 @@ module _ (recipe report : List ℕ) (files : NamedFiles) (said : RecipeContents)
     never false is = cc
   refuted_by (Some (part, place)) = ((λ is. ((part, place), refl)), (λ found. refl))
 
-  status_is : (verify recipe report files).status ≡ By (first_fault said inputs made)
+  status_is : (verify recipe report files).status ≡ By (first_fault parsed inputs made)
   status_is = ap (λ (o : Outcome). o.status) judgement
 
-  pub says_yes : ((verify recipe report files).status ≡ Yes) ↔ ((first_fault said inputs made ≡ None) × (all_equal made.compare ≡ true))
-  says_yes = subst (λ (s : Status). (s ≡ Yes) ↔ ((first_fault said inputs made ≡ None) × (all_equal made.compare ≡ true))) (sym status_is) (yes_by (first_fault said inputs made))
+  pub says_yes : ((verify recipe report files).status ≡ Yes) ↔ ((first_fault parsed inputs made ≡ None) × (all_equal made.compare ≡ true))
+  says_yes = subst (λ (s : Status). (s ≡ Yes) ↔ ((first_fault parsed inputs made ≡ None) × (all_equal made.compare ≡ true))) (sym status_is) (yes_by (first_fault parsed inputs made))
 
-  pub says_differs : ((verify recipe report files).status ≡ Differs) ↔ ((first_fault said inputs made ≡ None) × (all_equal made.compare ≡ false))
-  says_differs = subst (λ (s : Status). (s ≡ Differs) ↔ ((first_fault said inputs made ≡ None) × (all_equal made.compare ≡ false))) (sym status_is) (differs_by (first_fault said inputs made))
+  pub says_differs : ((verify recipe report files).status ≡ Differs) ↔ ((first_fault parsed inputs made ≡ None) × (all_equal made.compare ≡ false))
+  says_differs = subst (λ (s : Status). (s ≡ Differs) ↔ ((first_fault parsed inputs made ≡ None) × (all_equal made.compare ≡ false))) (sym status_is) (differs_by (first_fault parsed inputs made))
 
-  pub says_refuted : ((verify recipe report files).status ≡ Refuted) ↔ ((one : Part × ℕ) × (first_fault said inputs made ≡ Some one))
-  says_refuted = subst (λ (s : Status). (s ≡ Refuted) ↔ ((one : Part × ℕ) × (first_fault said inputs made ≡ Some one))) (sym status_is) (refuted_by (first_fault said inputs made))
+  pub says_refuted : ((verify recipe report files).status ≡ Refuted) ↔ ((one : Part × ℕ) × (first_fault parsed inputs made ≡ Some one))
+  says_refuted = subst (λ (s : Status). (s ≡ Refuted) ↔ ((one : Part × ℕ) × (first_fault parsed inputs made ≡ Some one))) (sym status_is) (refuted_by (first_fault parsed inputs made))

@@ -4,11 +4,12 @@ use Rattle.std.proofs.Common.{◌≡◌, ◌≢◌, ℕ, Bool, true, false, cond
 use Rattle.std.specs.FinMap as finite
 use Rattle.ddc_base.specs.Outside.{NamedFiles}
 use Rattle.ddc_base.proofs.StoredFiles.{others-insert}
+use Rattle.ddc_base.specs.Limits.{most_save}
 use Rattle.recipe.specs.declared.contents.RecipeContents.{RecipeContents}
 use Rattle.report.specs.Reports.{report_text}
 use Rattle.report.specs.declared.types.CompareLine.{CompareLine}
 use Rattle.audit_run.specs.Delta.Deltas.{delta_text_of}
-use Rattle.audit_rules.specs.Positions.{Position, Standing, On, Over, forward, position}
+use Rattle.audit_rules.specs.Positions.{Position, Phase, On, Over, forward, position}
 use Rattle.audit_rules.specs.declared.answer.AuditAnswer.TheVariants.{Completes, Fails}
 use Rattle.audit_rules.specs.declared.answer.StageFault.TheVariants.{Runs, Checks}
 use Rattle.command_plan.specs.declared.status.Status.{Status}
@@ -43,40 +44,40 @@ module _ (recipe save report : List ℕ) (files : NamedFiles) (P : Outcome → T
   Keeps plan = P (outcome plan files)
 
   abbrev Comes : Type 0
-  Comes = (said : RecipeContents) (kept : Position → List ℕ) (stands : Standing) → Keeps (came_to said kept save report stands)
+  Comes = (parsed : RecipeContents) (kept : Position → List ℕ) (current : Phase) → Keeps (came_to parsed kept save report current)
 
-  recipe_keeps : (next : RecipeContents → Plan) → ((said : RecipeContents) → Keeps (next said)) → Keeps (needs_recipe recipe next)
-  recipe_keeps next keeps = both_need_recipe First files refused recipe next next (λ bytes said held reads. keeps said)
+  recipe_keeps : (next : RecipeContents → Plan) → ((parsed : RecipeContents) → Keeps (next parsed)) → Keeps (needs_recipe recipe next)
+  recipe_keeps next keeps = both_need_recipe First files refused recipe next next (λ bytes parsed held reads. keeps parsed)
 
-  apart_keeps : (said : RecipeContents) (file : List ℕ) (next : Unit {0} → Plan) → Keeps (next tt) → Keeps (needs_apart said file next)
-  apart_keeps said file next keeps = both_need_apart First files refused said file next next (λ apart. keeps)
+  apart_keeps : (parsed : RecipeContents) (file : List ℕ) (next : Unit {0} → Plan) → Keeps (next tt) → Keeps (needs_apart parsed file next)
+  apart_keeps parsed file next keeps = both_need_apart First files refused parsed file next next (λ apart. keeps)
 
-  inputs_keep : (said : RecipeContents) (next : List (List ℕ) → Plan) → ((inputs : List (List ℕ)) → Keeps (next inputs)) → Keeps (needs_inputs said next)
-  inputs_keep said next keeps = both_need_inputs First files refused said next next (λ inputs held. keeps inputs)
+  inputs_keep : (parsed : RecipeContents) (next : List (List ℕ) → Plan) → ((inputs : List (List ℕ)) → Keeps (next inputs)) → Keeps (needs_inputs parsed next)
+  inputs_keep parsed next keeps = both_need_inputs First files refused parsed next next (λ inputs held. keeps inputs)
 
-  load_keeps : (name : List ℕ) (next : List ℕ → Plan) → ((text : List ℕ) → Keeps (next text)) → Keeps (needs name 4_294_967_296 next)
-  load_keeps name next keeps = both_need First files refused name 4_294_967_296 next next (λ text held. keeps text)
+  load_keeps : (name : List ℕ) (next : List ℕ → Plan) → ((text : List ℕ) → Keeps (next text)) → Keeps (needs name most_save next)
+  load_keeps name next keeps = both_need First files refused name most_save next next (λ text held. keeps text)
 
-  position_keeps : (said : RecipeContents) (inputs : List (List ℕ)) (text : List ℕ) (next : Position → Plan) → ((p : Position) → Keeps (next p)) → Keeps (needs_position said inputs text next)
-  position_keeps said inputs text next keeps = both_read First files refused (read_as said inputs text) SaveRefused save_refused_line next next (refl, refl) (λ p reads. keeps p)
+  position_keeps : (parsed : RecipeContents) (inputs : List (List ℕ)) (text : List ℕ) (next : Position → Plan) → ((p : Position) → Keeps (next p)) → Keeps (needs_position parsed inputs text next)
+  position_keeps parsed inputs text next keeps = both_read First files refused (read_as parsed inputs text) SaveRefused save_refused_line next next (refl, refl) (λ p reads. keeps p)
 
-  relative_keeps : (said : RecipeContents) (inputs : List (List ℕ)) (base : Position) (text : List ℕ) (next : Position → Plan) → ((p : Position) → Keeps (next p))
-      → Keeps (needs_position_relative said inputs base text next)
-  relative_keeps said inputs base text next keeps =
-      both_read First files refused (read_relative said inputs base text) SaveRefused delta_refused_line next next (refl, refl) (λ p reads. keeps p)
+  relative_keeps : (parsed : RecipeContents) (inputs : List (List ℕ)) (base : Position) (text : List ℕ) (next : Position → Plan) → ((p : Position) → Keeps (next p))
+      → Keeps (needs_position_relative parsed inputs base text next)
+  relative_keeps parsed inputs base text next keeps =
+      both_read First files refused (read_relative parsed inputs base text) SaveRefused delta_refused_line next next (refl, refl) (λ p reads. keeps p)
 
   part_keeps : Comes → (n : ℕ) → Keeps (part_files recipe save report n)
   unfolding part_files
-  part_keeps came n = recipe_keeps _ (λ said. apart_keeps said report _ (apart_keeps said save _ (inputs_keep said _ (λ inputs. came said (whole_save said inputs) (position said inputs n)))))
+  part_keeps came n = recipe_keeps _ (λ parsed. apart_keeps parsed report _ (apart_keeps parsed save _ (inputs_keep parsed _ (λ inputs. came parsed (whole_save parsed inputs) (position parsed inputs n)))))
 
   resume_keeps : Comes → (n : ℕ) → Keeps (resume_files recipe save report n)
   unfolding resume_files
   resume_keeps came n =
-      let last : RecipeContents → List (List ℕ) → Position → Plan = λ said inputs p. came_to said (whole_save said inputs) save report (forward said inputs p n) in
-      let placed : RecipeContents → List ℕ → List (List ℕ) → Plan = λ said text inputs. needs_position said inputs text (last said inputs) in
-      let found : RecipeContents → List ℕ → Plan = λ said text. needs_inputs said (placed said text) in
-      recipe_keeps _ (λ said. apart_keeps said report _ (apart_keeps said save _ (load_keeps save (found said) (λ text. inputs_keep said (placed said text) (λ inputs.
-      position_keeps said inputs text (last said inputs) (λ p. came said (whole_save said inputs) (forward said inputs p n)))))))
+      let last : RecipeContents → List (List ℕ) → Position → Plan = λ parsed inputs p. came_to parsed (whole_save parsed inputs) save report (forward parsed inputs p n) in
+      let placed : RecipeContents → List ℕ → List (List ℕ) → Plan = λ parsed text inputs. needs_position parsed inputs text (last parsed inputs) in
+      let found : RecipeContents → List ℕ → Plan = λ parsed text. needs_inputs parsed (placed parsed text) in
+      recipe_keeps _ (λ parsed. apart_keeps parsed report _ (apart_keeps parsed save _ (load_keeps save (found parsed) (λ text. inputs_keep parsed (placed parsed text) (λ inputs.
+      position_keeps parsed inputs text (last parsed inputs) (λ p. came parsed (whole_save parsed inputs) (forward parsed inputs p n)))))))
 
   worded : (next : ℕ → Plan) (word : Option ℕ) (good : Bool) → (IsTrue good → (n : ℕ) → Keeps (next n)) → Keeps (or_usage word (λ n. cond good (next n) usage))
   worded next None good keeps = unwritten Usage usage_line
@@ -95,24 +96,24 @@ module _ (recipe save report : List ℕ) (files : NamedFiles) (P : Outcome → T
     delta_start_keeps : Comes → (n : ℕ) → Keeps (delta_start_files recipe base save report n)
     unfolding delta_start_files
     delta_start_keeps came n =
-        let last : RecipeContents → List (List ℕ) → Position → Plan = λ said inputs b. came_to said (delta_text_of said inputs b) save report (forward said inputs b n) in
-        let placed : RecipeContents → List ℕ → List (List ℕ) → Plan = λ said text inputs. needs_position said inputs text (last said inputs) in
-        let found : RecipeContents → List ℕ → Plan = λ said text. needs_inputs said (placed said text) in
-        recipe_keeps _ (λ said. apart_keeps said report _ (apart_keeps said base _ (apart_keeps said save _ (load_keeps base (found said) (λ text.
-        inputs_keep said (placed said text) (λ inputs. position_keeps said inputs text (last said inputs) (λ b.
-        came said (delta_text_of said inputs b) (forward said inputs b n))))))))
+        let last : RecipeContents → List (List ℕ) → Position → Plan = λ parsed inputs b. came_to parsed (delta_text_of parsed inputs b) save report (forward parsed inputs b n) in
+        let placed : RecipeContents → List ℕ → List (List ℕ) → Plan = λ parsed text inputs. needs_position parsed inputs text (last parsed inputs) in
+        let found : RecipeContents → List ℕ → Plan = λ parsed text. needs_inputs parsed (placed parsed text) in
+        recipe_keeps _ (λ parsed. apart_keeps parsed report _ (apart_keeps parsed base _ (apart_keeps parsed save _ (load_keeps base (found parsed) (λ text.
+        inputs_keep parsed (placed parsed text) (λ inputs. position_keeps parsed inputs text (last parsed inputs) (λ b.
+        came parsed (delta_text_of parsed inputs b) (forward parsed inputs b n))))))))
 
     delta_resume_keeps : Comes → (n : ℕ) → Keeps (delta_resume_files recipe base save report n)
     unfolding delta_resume_files
     delta_resume_keeps came n =
-        let last : RecipeContents → List (List ℕ) → Position → Position → Plan = λ said inputs b p. came_to said (delta_text_of said inputs b) save report (forward said inputs p n) in
-        let relative : RecipeContents → List ℕ → List (List ℕ) → Position → Plan = λ said delta inputs b. needs_position_relative said inputs b delta (last said inputs b) in
-        let placed : RecipeContents → List ℕ → List ℕ → List (List ℕ) → Plan = λ said text delta inputs. needs_position said inputs text (relative said delta inputs) in
-        let found : RecipeContents → List ℕ → List ℕ → Plan = λ said text delta. needs_inputs said (placed said text delta) in
-        recipe_keeps _ (λ said. apart_keeps said report _ (apart_keeps said base _ (apart_keeps said save _
-        (load_keeps base (λ text. needs save 4_294_967_296 (found said text)) (λ text. load_keeps save (found said text) (λ delta.
-        inputs_keep said (placed said text delta) (λ inputs. position_keeps said inputs text (relative said delta inputs) (λ b.
-        relative_keeps said inputs b delta (last said inputs b) (λ p. came said (delta_text_of said inputs b) (forward said inputs p n))))))))))
+        let last : RecipeContents → List (List ℕ) → Position → Position → Plan = λ parsed inputs b p. came_to parsed (delta_text_of parsed inputs b) save report (forward parsed inputs p n) in
+        let relative : RecipeContents → List ℕ → List (List ℕ) → Position → Plan = λ parsed delta inputs b. needs_position_relative parsed inputs b delta (last parsed inputs b) in
+        let placed : RecipeContents → List ℕ → List ℕ → List (List ℕ) → Plan = λ parsed text delta inputs. needs_position parsed inputs text (relative parsed delta inputs) in
+        let found : RecipeContents → List ℕ → List ℕ → Plan = λ parsed text delta. needs_inputs parsed (placed parsed text delta) in
+        recipe_keeps _ (λ parsed. apart_keeps parsed report _ (apart_keeps parsed base _ (apart_keeps parsed save _
+        (load_keeps base (λ text. needs save most_save (found parsed text)) (λ text. load_keeps save (found parsed text) (λ delta.
+        inputs_keep parsed (placed parsed text delta) (λ inputs. position_keeps parsed inputs text (relative parsed delta inputs) (λ b.
+        relative_keeps parsed inputs b delta (last parsed inputs b) (λ p. came parsed (delta_text_of parsed inputs b) (forward parsed inputs p n))))))))))
 
     delta_start_leaves : (IsTrue (are_four_files recipe base save report) → Comes) → (steps : ℕ) → P (delta_start recipe base save report steps files)
     delta_start_leaves came steps =
@@ -128,12 +129,12 @@ module _ (recipe save report : List ℕ) (files : NamedFiles) (name : List ℕ) 
   abbrev Stays : Outcome → Type 0
   Stays o = finite.get o.files name ≡ finite.get files name
 
-  stays : (said : RecipeContents) (kept : Position → List ℕ) (stands : Standing) → Stays (outcome (came_to said kept save report stands) files)
+  stays : (parsed : RecipeContents) (kept : Position → List ℕ) (current : Phase) → Stays (outcome (came_to parsed kept save report current) files)
   unfolding paused completed
-  stays said kept (On p) = (others-insert files save (kept p)).others name no_save
-  stays said kept (Over (Completes made)) = (others-insert files report (report_text made)).others name no_report
-  stays said kept (Over (Fails number (Runs cause step))) = refl
-  stays said kept (Over (Fails number (Checks cause))) = refl
+  stays parsed kept (On p) = (others-insert files save (kept p)).others name no_save
+  stays parsed kept (Over (Completes made)) = (others-insert files report (report_text made)).others name no_report
+  stays parsed kept (Over (Fails number (Runs cause step))) = refl
+  stays parsed kept (Over (Fails number (Checks cause))) = refl
 
 pub part_stays : (recipe save report : List ℕ) (steps : ℕ) (files : NamedFiles) → LeavesOthers save report files (part recipe save report steps files)
 part_stays recipe save report steps files name no_save no_report =
@@ -208,23 +209,23 @@ module _ (recipe save report : List ℕ) (files : NamedFiles) where
   unwritten : (status : Status) (text : List ℕ) → LeavesUnwritten save report files (told files status text)
   unwritten status text = record { report_stays = λ _. refl; save_stays = λ _. refl }
 
-  comes : IsTrue (are_three_files recipe save report) → (said : RecipeContents) (kept : Position → List ℕ) (stands : Standing)
-      → LeavesUnwritten save report files (outcome (came_to said kept save report stands) files)
+  comes : IsTrue (are_three_files recipe save report) → (parsed : RecipeContents) (kept : Position → List ℕ) (current : Phase)
+      → LeavesUnwritten save report files (outcome (came_to parsed kept save report current) files)
   unfolding paused completed
-  comes three said kept (On p) =
+  comes three parsed kept (On p) =
       let apart = not_equal save report (three_apart recipe save report three).save_report in
       record {
         report_stays = λ _. (others-insert files save (kept p)).others report (λ same. apart (sym same));
         save_stays = λ no. absurd (no refl);
       }
-  comes three said kept (Over (Completes made)) =
+  comes three parsed kept (Over (Completes made)) =
       let apart = not_equal save report (three_apart recipe save report three).save_report in
       record {
         report_stays = λ is. absurd (no_pause made.compare is);
         save_stays = λ _. (others-insert files report (report_text made)).others save apart;
       }
-  comes three said kept (Over (Fails number (Runs cause step))) = record { report_stays = λ _. refl; save_stays = λ _. refl }
-  comes three said kept (Over (Fails number (Checks cause))) = record { report_stays = λ _. refl; save_stays = λ _. refl }
+  comes three parsed kept (Over (Fails number (Runs cause step))) = record { report_stays = λ _. refl; save_stays = λ _. refl }
+  comes three parsed kept (Over (Fails number (Checks cause))) = record { report_stays = λ _. refl; save_stays = λ _. refl }
 
   pub part_writes : (steps : ℕ) → LeavesUnwritten save report files (part recipe save report steps files)
   part_writes steps = part_leaves recipe save report files (LeavesUnwritten save report files) unwritten comes steps

@@ -14,6 +14,7 @@ use Rattle.std.proofs.lemmas.Slice.Eq.{bytes_eq-Decides}
 use Rattle.ddc_base.specs.declared.outside.Loaded.TheVariants.{Bytes, TooLong}
 use Rattle.ddc_base.specs.Outside.{NamedFiles, loaded, loaded_of}
 use Rattle.ddc_base.proofs.StoredFiles.{others-insert}
+use Rattle.ddc_base.specs.Limits.{most_content}
 use Rattle.mem_files.specs.Outputs.{IsContent}
 use Rattle.command_plan.specs.declared.status.Status.TheVariants.{FileRefused}
 use Rattle.command_plan.specs.Texts.{too_long_line}
@@ -90,64 +91,64 @@ two_apart first second two = by (is_one_file first second) (and_parts (is_file_w
 
 -- ---- loads in a row
 
-pub follow_all : (most room : ℕ) (files : NamedFiles) (names contents : List (List ℕ)) (next : List (List ℕ) → Plan) → AreHeld most room files names contents
-    → outcome (needs_all most room names next) files ≡ outcome (next contents) files
-follow_all most room files [] [] next held = refl
-follow_all most room files (name ∷ names) [] next held = absurd held
-follow_all most room files [] (content ∷ contents) next held = absurd held
-follow_all most room files (name ∷ names) (content ∷ contents) next held =
-    follows name (min most room) (λ content. needs_all most (room - length content) names (λ contents. next (content ∷ contents))) files content held.0
-    ∙ follow_all most (room - length content) files names contents (λ contents. next (content ∷ contents)) held.1
+pub follow_all : (most budget : ℕ) (files : NamedFiles) (names contents : List (List ℕ)) (next : List (List ℕ) → Plan) → AreHeld most budget files names contents
+    → outcome (needs_all most budget names next) files ≡ outcome (next contents) files
+follow_all most budget files [] [] next held = refl
+follow_all most budget files (name ∷ names) [] next held = absurd held
+follow_all most budget files [] (content ∷ contents) next held = absurd held
+follow_all most budget files (name ∷ names) (content ∷ contents) next held =
+    follows name (min most budget) (λ content. needs_all most (budget - length content) names (λ contents. next (content ∷ contents))) files content held.0
+    ∙ follow_all most (budget - length content) files names contents (λ contents. next (content ∷ contents)) held.1
 
 -- they are found again where none of them was set
-pub found_again : {A : Type 0} (most room : ℕ) (files : NamedFiles) (name content : List ℕ) (path : A → List ℕ) (values : List A) (contents : List (List ℕ))
-    → list_any (λ value. is_one_file (path value) name) values ≡ false → AreHeld most room files (map path values) contents
-    → AreHeld most room (finite.insert files name content) (map path values) contents
-found_again most room files name content path [] contents apart held = none contents held where
-  none : (contents : List (List ℕ)) → AreHeld most room files [] contents → AreHeld most room (finite.insert files name content) [] contents
+pub found_again : {A : Type 0} (most budget : ℕ) (files : NamedFiles) (name content : List ℕ) (path : A → List ℕ) (values : List A) (contents : List (List ℕ))
+    → list_any (λ value. is_one_file (path value) name) values ≡ false → AreHeld most budget files (map path values) contents
+    → AreHeld most budget (finite.insert files name content) (map path values) contents
+found_again most budget files name content path [] contents apart held = none contents held where
+  none : (contents : List (List ℕ)) → AreHeld most budget files [] contents → AreHeld most budget (finite.insert files name content) [] contents
   none [] held = tt
   none (c ∷ contents) held = held
-found_again most room files name content path (value ∷ values) [] apart held = held
-found_again most room files name content path (value ∷ values) (first ∷ contents) apart held =
-    by (is_one_file (path value) name) refl apart (λ later. found_again most (room - length first) files name content path values contents later held.1) where
+found_again most budget files name content path (value ∷ values) [] apart held = held
+found_again most budget files name content path (value ∷ values) (first ∷ contents) apart held =
+    by (is_one_file (path value) name) refl apart (λ later. found_again most (budget - length first) files name content path values contents later held.1) where
       others : Bool
       others = list_any (λ value. is_one_file (path value) name) values
 
       by : (b : Bool) → is_one_file (path value) name ≡ b → (b || others) ≡ false
-          → (others ≡ false → AreHeld most (room - length first) (finite.insert files name content) (map path values) contents)
-          → AreHeld most room (finite.insert files name content) (map path (value ∷ values)) (first ∷ contents)
+          → (others ≡ false → AreHeld most (budget - length first) (finite.insert files name content) (map path values) contents)
+          → AreHeld most budget (finite.insert files name content) (map path (value ∷ values)) (first ∷ contents)
       by true is apart later = absurd cc
-      by false is apart later = (other_held files name content (path value) (min most room) is ∙ held.0, later apart)
+      by false is apart later = (other_held files name content (path value) (min most budget) is ∙ held.0, later apart)
 
 -- as many contents as names, each small and of bytes
-pub as_many : (most room : ℕ) (files : NamedFiles) (names contents : List (List ℕ)) → AreHeld most room files names contents → length contents ≡ length names
-as_many most room files [] [] held = refl
-as_many most room files (name ∷ names) [] held = absurd held
-as_many most room files [] (content ∷ contents) held = absurd held
-as_many most room files (name ∷ names) (content ∷ contents) held = omega (arith, as_many most (room - length content) files names contents held.1)
+pub as_many : (most budget : ℕ) (files : NamedFiles) (names contents : List (List ℕ)) → AreHeld most budget files names contents → length contents ≡ length names
+as_many most budget files [] [] held = refl
+as_many most budget files (name ∷ names) [] held = absurd held
+as_many most budget files [] (content ∷ contents) held = absurd held
+as_many most budget files (name ∷ names) (content ∷ contents) held = omega (arith, as_many most (budget - length content) files names contents held.1)
 
 -- and as many bytes as there is room for
-pub held_small : (room : ℕ) (files : NamedFiles) (names contents : List (List ℕ)) → AreHeld 268_435_456 room files names contents → sum_by length contents ≤ room
-held_small room files [] [] held = omega arith
-held_small room files (name ∷ names) [] held = absurd held
-held_small room files [] (content ∷ contents) held = absurd held
-held_small room files (name ∷ names) (content ∷ contents) held =
-    let one = (within (min 268_435_456 room) (finite.get files name) content held.0).1 in
-    more (length content) (sum_by length contents) room (sum_by length (content ∷ contents)) (sum_by-cons length content contents)
-    (held_small (room - length content) files names contents held.1) (omega (arith, one, min-le_right 268_435_456 room))
+pub held_small : (budget : ℕ) (files : NamedFiles) (names contents : List (List ℕ)) → AreHeld most_content budget files names contents → sum_by length contents ≤ budget
+held_small budget files [] [] held = omega arith
+held_small budget files (name ∷ names) [] held = absurd held
+held_small budget files [] (content ∷ contents) held = absurd held
+held_small budget files (name ∷ names) (content ∷ contents) held =
+    let one = (within (min most_content budget) (finite.get files name) content held.0).1 in
+    more (length content) (sum_by length contents) budget (sum_by length (content ∷ contents)) (sum_by-cons length content contents)
+    (held_small (budget - length content) files names contents held.1) (omega (arith, one, min-le_right most_content budget))
   where
     more : (a b c sum : ℕ) → sum ≡ a + b → b ≤ c - a → a ≤ c → sum ≤ c
     more a b c sum is rest first = omega (arith, is, rest, first)
 
 -- where a plan's loads found them to be bytes, they are contents of files
-pub loaded_contents : (room : ℕ) (files : NamedFiles) (names contents : List (List ℕ)) (next : List (List ℕ) → Plan) → AreHeld 268_435_456 room files names contents
-    → LoadsBytes (needs_all 268_435_456 room names next) files → All IsContent contents
-loaded_contents room files names [] next held bytes = All-nil IsContent
-loaded_contents room files [] (content ∷ contents) next held bytes = absurd held
-loaded_contents room files (name ∷ names) (content ∷ contents) next held bytes =
-    let rest : List ℕ → Plan = λ c. needs_all 268_435_456 (room - length c) names (λ contents. next (c ∷ contents)) in
-    let one = within (min 268_435_456 room) (finite.get files name) content held.0 in
-    let here = loads_bytes name (min 268_435_456 room) rest files content held.0 bytes in
+pub loaded_contents : (budget : ℕ) (files : NamedFiles) (names contents : List (List ℕ)) (next : List (List ℕ) → Plan) → AreHeld most_content budget files names contents
+    → LoadsBytes (needs_all most_content budget names next) files → All IsContent contents
+loaded_contents budget files names [] next held bytes = All-nil IsContent
+loaded_contents budget files [] (content ∷ contents) next held bytes = absurd held
+loaded_contents budget files (name ∷ names) (content ∷ contents) next held bytes =
+    let rest : List ℕ → Plan = λ c. needs_all most_content (budget - length c) names (λ contents. next (c ∷ contents)) in
+    let one = within (min most_content budget) (finite.get files name) content held.0 in
+    let here = loads_bytes name (min most_content budget) rest files content held.0 bytes in
     All-cons IsContent content contents
-    (record { bytes = here.0; small = le_trans one.1 (min-le_left 268_435_456 room) })
-    (loaded_contents (room - length content) files names contents (λ contents. next (content ∷ contents)) held.1 here.1)
+    (record { bytes = here.0; small = le_trans one.1 (min-le_left most_content budget) })
+    (loaded_contents (budget - length content) files names contents (λ contents. next (content ∷ contents)) held.1 here.1)

@@ -27,10 +27,10 @@ use Rattle.ddc_app.proofs.Resuming.{resumes_at}
 -- ---- the first piece
 
 pub first_settles : (recipe save report : List ℕ) (steps : ℕ) (files : NamedFiles) (piece whole : Outcome) (b : Begun recipe save report files steps piece whole)
-    → Settles recipe save report b.c (whole_save b.c.said b.c.inputs) files steps piece
+    → Settles recipe save report b.c (whole_save b.c.parsed b.c.inputs) files steps piece
 first_settles recipe save report steps files piece whole b =
-    subst (Settles recipe save report b.c (whole_save b.c.said b.c.inputs) files steps) (sym b.comes)
-    (settles recipe save report b.c files files b.holds refl (whole_save b.c.said b.c.inputs) steps (position b.c.said b.c.inputs steps) refl)
+    subst (Settles recipe save report b.c (whole_save b.c.parsed b.c.inputs) files steps) (sym b.comes)
+    (settles recipe save report b.c files files b.holds refl (whole_save b.c.parsed b.c.inputs) steps (position b.c.parsed b.c.inputs steps) refl)
 
 pub parts : (recipe save report : List ℕ) (steps : ℕ) (files : NamedFiles) → AreWords recipe save report files → IsStepCount steps
     → Pieces recipe save report files steps (part recipe save report steps files)
@@ -52,27 +52,27 @@ stays_over next piece (steps ∷ counts) over = ap (λ b. cond b (in_turn next (
 
 -- what stands after each piece, with its steps in all, stands after all of them, if it stands after every number of steps where the audit is over,
 -- and after one piece more where it pauses
-module _ (next : ℕ → NamedFiles → Outcome) (Stands : ℕ → Outcome → Type 0) where
+module _ (next : ℕ → NamedFiles → Outcome) (Current : ℕ → Outcome → Type 0) where
   abbrev pub GoesOn : ℕ → Outcome → Type 0
   GoesOn total piece =
-      ((is_paused piece.status ≡ false) × ((n : ℕ) → Stands n piece))
-      ⊎ ((piece.status ≡ Paused) × ((steps : ℕ) → IsStepCount steps → Stands (total + steps) (next steps piece.files)))
+      ((is_paused piece.status ≡ false) × ((n : ℕ) → Current n piece))
+      ⊎ ((piece.status ≡ Paused) × ((steps : ℕ) → IsStepCount steps → Current (total + steps) (next steps piece.files)))
 
-  pub further : ((total : ℕ) (piece : Outcome) → Stands total piece → GoesOn total piece) → (counts : List ℕ) → All IsStepCount counts
-      → (total : ℕ) (piece : Outcome) → Stands total piece → Stands (fold (λ a x. a + x) total counts) (in_turn next piece counts)
-  further goes [] are total piece stands = stands
-  further goes (steps ∷ counts) are total piece stands = elim (goes total piece stands) [
-    | inl over ↦ subst (Stands (fold (λ a x. a + x) (total + steps) counts)) (sym (stays_over next piece (steps ∷ counts) over.0)) (over.1 (fold (λ a x. a + x) (total + steps) counts))
+  pub further : ((total : ℕ) (piece : Outcome) → Current total piece → GoesOn total piece) → (counts : List ℕ) → All IsStepCount counts
+      → (total : ℕ) (piece : Outcome) → Current total piece → Current (fold (λ a x. a + x) total counts) (in_turn next piece counts)
+  further goes [] are total piece current = current
+  further goes (steps ∷ counts) are total piece current = elim (goes total piece current) [
+    | inl over ↦ subst (Current (fold (λ a x. a + x) (total + steps) counts)) (sym (stays_over next piece (steps ∷ counts) over.0)) (over.1 (fold (λ a x. a + x) (total + steps) counts))
     | inr on ↦ (
         let later = next steps piece.files in
-        subst (λ (s : Status). Stands (fold (λ a x. a + x) (total + steps) counts) (cond (is_paused s) (in_turn next later counts) piece)) (sym on.0)
+        subst (λ (s : Status). Current (fold (λ a x. a + x) (total + steps) counts) (cond (is_paused s) (in_turn next later counts) piece)) (sym on.0)
         (further goes counts (All-tail IsStepCount steps counts are) (total + steps) later (on.1 steps (All-head IsStepCount steps counts are)))
         )
   ]
 
-module _ (recipe save report : List ℕ) (c : Case recipe save report) (first : NamedFiles) (given : IsInputs c.said c.inputs) where
+module _ (recipe save report : List ℕ) (c : Case recipe save report) (first : NamedFiles) (given : IsInputs c.parsed c.inputs) where
   abbrev kept : Position → List ℕ
-  kept = whole_save c.said c.inputs
+  kept = whole_save c.parsed c.inputs
 
   abbrev Stood : ℕ → Outcome → Type 0
   Stood = Settles recipe save report c kept first
@@ -82,18 +82,18 @@ module _ (recipe save report : List ℕ) (c : Case recipe save report) (first : 
   goes_on total piece (inl p) = inr (
     p.status,
     λ steps counted.
-        let comes = resumes_at recipe save report c piece.files given p.holds total p.place p.stands p.kept_held steps counted in
+        let comes = resumes_at recipe save report c piece.files given p.holds total p.reached p.current p.kept_held steps counted in
         subst (Stood (total + steps)) (sym comes)
-        (settles recipe save report c first piece.files p.holds p.same_report kept (total + steps) (position c.said c.inputs (total + steps)) refl),
+        (settles recipe save report c first piece.files p.holds p.same_report kept (total + steps) (position c.parsed c.inputs (total + steps)) refl),
   )
 
 all_settle : (recipe save report : List ℕ) (steps : ℕ) (counts : List ℕ) (files : NamedFiles) (piece whole : Outcome) → All IsStepCount (steps ∷ counts)
-    → (b : Begun recipe save report files steps piece whole) → IsInputs b.c.said b.c.inputs
-    → Settles recipe save report b.c (whole_save b.c.said b.c.inputs) files (sum (steps ∷ counts)) (in_turn (resume recipe save report) piece counts)
+    → (b : Begun recipe save report files steps piece whole) → IsInputs b.c.parsed b.c.inputs
+    → Settles recipe save report b.c (whole_save b.c.parsed b.c.inputs) files (sum (steps ∷ counts)) (in_turn (resume recipe save report) piece counts)
 all_settle recipe save report steps counts files piece whole are b given =
     let none : steps ≡ 0 + steps = omega arith in
-    further (resume recipe save report) (Settles recipe save report b.c (whole_save b.c.said b.c.inputs) files) (goes_on recipe save report b.c files given) counts (All-tail IsStepCount steps counts are) (0 + steps) piece
-    (subst (λ n. Settles recipe save report b.c (whole_save b.c.said b.c.inputs) files n piece) none (first_settles recipe save report steps files piece whole b))
+    further (resume recipe save report) (Settles recipe save report b.c (whole_save b.c.parsed b.c.inputs) files) (goes_on recipe save report b.c files given) counts (All-tail IsStepCount steps counts are) (0 + steps) piece
+    (subst (λ n. Settles recipe save report b.c (whole_save b.c.parsed b.c.inputs) files n piece) none (first_settles recipe save report steps files piece whole b))
 
 pub same : (recipe save report : List ℕ) (steps : ℕ) (counts : List ℕ) (files : NamedFiles) → AreWords recipe save report files → All IsStepCount (steps ∷ counts)
     → LoadsBytes (plan_of (codes "part" ∷ recipe ∷ save ∷ report ∷ decimal steps ∷ [])) files
@@ -114,16 +114,16 @@ same recipe save report steps counts files words are bytes = by (begins recipe s
 -- ---- its report
 
 -- a piece that compares leaves the bench's report
-pub compared : (recipe save report : List ℕ) (c : Case recipe save report) (first : NamedFiles) (piece : Outcome) → IsInputs c.said c.inputs → Ends recipe save report c first (bench c.said c.inputs) piece
+pub compared : (recipe save report : List ℕ) (c : Case recipe save report) (first : NamedFiles) (piece : Outcome) → IsInputs c.parsed c.inputs → Ends recipe save report c first (bench c.parsed c.inputs) piece
     → IsTrue (is_compared piece.status) → (verify recipe report piece.files).status ≡ piece.status
 unfolding completed
-compared recipe save report c first piece given e over = by (bench c.said c.inputs) refl e.same where
-  by : (answer : AuditAnswer) → bench c.said c.inputs ≡ answer → AreSame report piece (outcome (audited c.said report answer) first)
+compared recipe save report c first piece given e over = by (bench c.parsed c.inputs) refl e.same where
+  by : (answer : AuditAnswer) → bench c.parsed c.inputs ≡ answer → AreSame report piece (outcome (audited c.parsed report answer) first)
       → (verify recipe report piece.files).status ≡ piece.status
   by (Completes made) comes same =
       ap (λ (o : Outcome). o.status) (judges recipe report piece.files (record {
         two = c.words.two;
-        said = c.said;
+        parsed = c.parsed;
         inputs = c.inputs;
         holds = e.holds;
         apart = c.no_report;
@@ -150,11 +150,11 @@ accepted recipe save report steps counts files words are bytes over = by (begins
   last : Outcome
   last = in_turn (resume recipe save report) piece counts
 
-  given : (b : Begun recipe save report files steps piece whole) → IsInputs b.c.said b.c.inputs
+  given : (b : Begun recipe save report files steps piece whole) → IsInputs b.c.parsed b.c.inputs
   given b = part_loaded recipe save report steps files piece whole (All-head IsStepCount steps counts are) b bytes
 
   settled : (b : Begun recipe save report files steps piece whole)
-      → Settles recipe save report b.c (whole_save b.c.said b.c.inputs) files (sum (steps ∷ counts)) last → (verify recipe report last.files).status ≡ last.status
+      → Settles recipe save report b.c (whole_save b.c.parsed b.c.inputs) files (sum (steps ∷ counts)) last → (verify recipe report last.files).status ≡ last.status
   settled b (inl p) = let never = sym (ap is_compared p.status) ∙ over in absurd cc
   settled b (inr e) =
       compared recipe save report b.c files last (given b) e over

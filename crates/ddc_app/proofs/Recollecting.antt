@@ -70,33 +70,33 @@ seen-of recipe inputs report t =
 -- ---- over files
 
 module _ (recipe report : List ℕ) (files : NamedFiles)
-    (keeps : (bytes : List ℕ) (said : RecipeContents) → recipe_of bytes ≡ Ok said → IsRecipe said)
-    (clauses : (said : RecipeContents) (inputs : List (List ℕ)) (made : Report) → IsRecipe said → length inputs ≡ length said.inputs
-    → TrueReport said inputs made ↔ (first_fault said inputs made ≡ None))
-    (one : (said : RecipeContents) (inputs : List (List ℕ)) (made : Report) → IsRecipe said → IsInputs said inputs
-    → (first_fault said inputs made ≡ None) ↔ (bench said inputs ≡ Completes made)) where
+    (keeps : (bytes : List ℕ) (parsed : RecipeContents) → recipe_of bytes ≡ Ok parsed → IsRecipe parsed)
+    (clauses : (parsed : RecipeContents) (inputs : List (List ℕ)) (made : Report) → IsRecipe parsed → length inputs ≡ length parsed.inputs
+    → TrueReport parsed inputs made ↔ (first_fault parsed inputs made ≡ None))
+    (one : (parsed : RecipeContents) (inputs : List (List ℕ)) (made : Report) → IsRecipe parsed → IsInputs parsed inputs
+    → (first_fault parsed inputs made ≡ None) ↔ (bench parsed inputs ≡ Completes made)) where
   -- two reports without a fault are one
-  one-report : (said : RecipeContents) (inputs : List (List ℕ)) → IsRecipe said → IsInputs said inputs → (a b : Report) → first_fault said inputs a ≡ None
-      → first_fault said inputs b ≡ None → a ≡ b
-  one-report said inputs kept given a b first second =
-      let both : Completes a ≡ Completes b = sym ((one said inputs a kept given).0 first) ∙ (one said inputs b kept given).0 second in
+  one-report : (parsed : RecipeContents) (inputs : List (List ℕ)) → IsRecipe parsed → IsInputs parsed inputs → (a b : Report) → first_fault parsed inputs a ≡ None
+      → first_fault parsed inputs b ≡ None → a ≡ b
+  one-report parsed inputs kept given a b first second =
+      let both : Completes a ≡ Completes b = sym ((one parsed inputs a kept given).0 first) ∙ (one parsed inputs b kept given).0 second in
       cc
 
-  module _ (said : RecipeContents) (inputs : List (List ℕ)) (made : Report) (h : HoldsReport recipe report files said inputs made) (given : IsInputs said inputs)
-      (none : first_fault said inputs made ≡ None) where
-    is_kept : IsRecipe said
-    is_kept = keeps h.recipe_bytes said h.recipe_reads
+  module _ (parsed : RecipeContents) (inputs : List (List ℕ)) (made : Report) (h : HoldsReport recipe report files parsed inputs made) (given : IsInputs parsed inputs)
+      (none : first_fault parsed inputs made ≡ None) where
+    is_kept : IsRecipe parsed
+    is_kept = keeps h.recipe_bytes parsed h.recipe_reads
 
-    s : Seen-of said inputs made
-    s = seen-of said inputs made ((clauses said inputs made is_kept given.count).1 none)
+    s : Seen-of parsed inputs made
+    s = seen-of parsed inputs made ((clauses parsed inputs made is_kept given.count).1 none)
 
-    again : Report-of said inputs s.seen
-    again = report-of said inputs s.seen given.count
+    again : Report-of parsed inputs s.seen
+    again = report-of parsed inputs s.seen given.count
 
     same : made ≡ again.report
-    same = one-report said inputs is_kept given made again.report none ((clauses said inputs again.report is_kept given.count).0 again.is_true)
+    same = one-report parsed inputs is_kept given made again.report none ((clauses parsed inputs again.report is_kept given.count).0 again.is_true)
 
-    text : h.report_bytes ≡ collected_text said inputs s.seen.printed s.seen.lines
+    text : h.report_bytes ≡ collected_text parsed inputs s.seen.printed s.seen.lines
     text = (is_reading report_rules h.report_bytes (Ok made) h.report_reads).1 ∙ ap report_text same ∙ sym again.text
 
     collected-of : Collected recipe report files
@@ -104,7 +104,7 @@ module _ (recipe report : List ℕ) (files : NamedFiles)
       two = h.two;
       recipe_bytes = h.recipe_bytes;
       recipe_held = h.recipe_held;
-      said = said;
+      parsed = parsed;
       recipe_reads = h.recipe_reads;
       apart = h.apart;
       inputs = inputs;
@@ -118,5 +118,5 @@ module _ (recipe report : List ℕ) (files : NamedFiles)
       → Collected recipe report files
   true-collected bytes compared =
       let r : Replayed recipe report files (verify recipe report files) = replay recipe report files compared in
-      collected-of r.said r.inputs r.made (replay-held recipe report files compared)
+      collected-of r.parsed r.inputs r.made (replay-held recipe report files compared)
       (typed recipe report files (are_two_files recipe report) (verify recipe report files) compared bytes r) r.none

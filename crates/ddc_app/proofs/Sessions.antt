@@ -1,5 +1,5 @@
 -- The clauses of the top call, from how it left things: a command's ending was said, or its session was held.
-use Rattle.std.proofs.Common.{◌≡◌, ◌∙◌, ℕ, ◌⊎◌, inl, inr, Bool, true, false, cond, IsTrue, IsFalse, None, Some, Result, Ok, Err, List, [], ◌∷◌, drop, refl, sym, ap, subst}
+use Rattle.std.proofs.Common.{◌≡◌, ◌∙◌, ℕ, ◌⊎◌, inl, inr, Bool, true, false, IsTrue, IsFalse, None, Some, Result, Ok, Err, List, [], ◌∷◌, refl, sym, ap, subst}
 use Rattle.ddc_base.specs.declared.outside.PutFail.{PutFail}
 use Rattle.ddc_base.specs.declared.outside.PutFail.TheVariants as putting
 use Rattle.ddc_base.specs.Outside.{ShelfState, SinkState, after_piece}
@@ -14,9 +14,10 @@ use Rattle.command_plan.specs.Answered.{is_answer}
 use Rattle.command_plan.specs.Plan.{Plan, outcome, talk_of, IsSettled}
 use Rattle.command_plan.specs.Endings.{Completes}
 use Rattle.command_plan.specs.Performs.{HoldsTalk, OutsideState, Performs, PerformsTalk, WantsMemory, outside}
-use Rattle.command_plan.proofs.Performing.{stops_complete}
-use Rattle.ddc_app.specs.Commands.{is_step, plan_of, text_plan}
-use Rattle.stage_commands.specs.Step.{step_plan}
+use Rattle.command_plan.proofs.Performing.{says, stops_complete}
+use Rattle.command_plan.specs.Words.{or_usage, usage}
+use Rattle.ddc_app.specs.Commands.{command_read, reads_step, is_step, may_begin_session, plan_of, plan_of_command}
+use Rattle.ddc_app.specs.declared.command_word.CommandWord.{CommandWord}
 use Rattle.ddc_app.specs.Run.{LosesText, NamesFault, TakesOne}
 use Rattle.ddc_app.specs.Inside.Concluding.{Closes, Leaves, SaysEnding, concluded, conversed, unless_lost}
 use Rattle.ddc_app.proofs.Ending as ending
@@ -78,8 +79,8 @@ module _ (steps : Bool) (plan : Plan) (before after : OutsideState) (result : St
   silent l one claimed = ending.silent_of plan before.shelf after.shelf before.sink after.sink result (in_one one l).0 claimed
 
   -- the talk that was held is the plan's
-  said : (talk : List ℕ → Talk) (end : Result (Unit {0}) PutFail) → (h : Session end) → IsSettled plan before.shelf.tells → talk_of plan before.shelf.files ≡ Some talk → Converses talk before.sink after.sink before.prompt after.prompt end
-  said talk end h settled ends =
+  parsed : (talk : List ℕ → Talk) (end : Result (Unit {0}) PutFail) → (h : Session end) → IsSettled plan before.shelf.tells → talk_of plan before.shelf.files ≡ Some talk → Converses talk before.sink after.sink before.prompt after.prompt end
+  parsed talk end h settled ends =
       let both : Some h.talk ≡ Some talk = sym (h.speaks.talk settled) ∙ ends in
       let same : h.talk ≡ talk = cc in
       subst (λ t. Converses t before.sink after.sink before.prompt after.prompt end) same h.went
@@ -95,7 +96,7 @@ module _ (steps : Bool) (plan : Plan) (before after : OutsideState) (result : St
   pub session : Leaves steps plan before after result → IsSettled plan before.shelf.tells → (talk : List ℕ → Talk) → talk_of plan before.shelf.files ≡ Some talk → IsTrue (is_answer result)
       → SaysAll talk before.sink after.sink before.prompt after.prompt
   session (concluded end p c same) settled talk ends answers = says_none talk (ended end p c) settled ends answers
-  session (conversed (Ok done) is h end_is) settled talk ends answers = (said talk (Ok done) h settled ends).by_result
+  session (conversed (Ok done) is h end_is) settled talk ends answers = (parsed talk (Ok done) h settled ends).by_result
   session (conversed (Err putting.Failed) is h end_is) settled talk ends answers = no_answer result OutFault answers end_is refl
   session (conversed (Err putting.OutOfMemory) is h end_is) settled talk ends answers = no_answer result OutOfMemory answers end_is refl
 
@@ -162,23 +163,29 @@ module _ (steps : Bool) (plan : Plan) (before after : OutsideState) (result : St
 
 -- ---- how a command line leaves things
 
-module _ (old new : ShelfState) (before mid after : SinkState) (asked now : PromptState) (result : Status) where
-  abbrev first : OutsideState
-  first = outside old before asked
+-- a text was written
+pub text_leaves : (steps : Bool) (plan : Plan) (old new : ShelfState) (before after : SinkState) (asked : PromptState) (ending : Result Answer Stop) (result : Status)
+    → SaysEnding before ending after result → Performs plan old new ending → Leaves steps plan (outside old before asked) (outside new after asked) result
+text_leaves steps plan old new before after asked ending result s p = concluded ending p s refl
 
-  closed : (plan : Plan) (ended : Result (Result (Unit {0}) PutFail) Stop) → PerformsTalk plan first (outside new mid now) ended → Closes mid ended after result → Leaves true plan first (outside new after now) result
-  closed plan (Ok end) h c = conversed end refl (subst (λ sink. HoldsTalk plan first (outside new sink now) end) (sym c.by_ended.1) h.by_result) c.by_ended.0
-  closed plan (Err ending) h c = concluded (Err ending) h.by_result.0 (subst (λ sink. SaysEnding sink (Err ending) after result) h.by_result.1 c.by_ended) h.by_result.2
+-- a session was held, or the command ended before
+pub step_leaves : (steps : Bool) (plan : Plan) (first : OutsideState) (new : ShelfState) (mid after : SinkState) (now : PromptState) (ended : Result (Result (Unit {0}) PutFail) Stop)
+    (result : Status) → Closes mid ended after result → PerformsTalk plan first (outside new mid now) ended → IsTrue steps → Leaves steps plan first (outside new after now) result
+step_leaves steps plan first new mid after now (Ok end) result c h is =
+    conversed end is (subst (λ sink. HoldsTalk plan first (outside new sink now) end) (sym c.by_ended.1) h.by_result) c.by_ended.0
+step_leaves steps plan first new mid after now (Err ending) result c h is =
+    concluded (Err ending) h.by_result.0 (subst (λ sink. SaysEnding sink (Err ending) after result) h.by_result.1 c.by_ended) h.by_result.2
 
-  -- words of `step`
-  pub step_leaves : (words rest : List (List ℕ)) (ended : Result (Result (Unit {0}) PutFail) Stop) → IsTrue (is_step words) → rest ≡ drop 1 words
-      → PerformsTalk (step_plan rest) first (outside new mid now) ended → Closes mid ended after result → Leaves (is_step words) (plan_of words) first (outside new after now) result
-  step_leaves words rest ended is same h c =
-      subst (λ (b : Bool). Leaves b (cond b (step_plan (drop 1 words)) (text_plan words)) first (outside new after now) result) (sym is)
-      (closed (step_plan (drop 1 words)) ended (subst (λ ws. PerformsTalk (step_plan ws) first (outside new mid now) ended) same h) c)
+-- a command line that was read
+pub read_leaves : (words : List (List ℕ)) (line : CommandWord × List (List ℕ)) (first last : OutsideState) (result : Status) → Some line ≡ command_read words
+    → Leaves (may_begin_session line.0) (plan_of_command line.0 line.1) first last result → Leaves (is_step words) (plan_of words) first last result
+read_leaves words line first last result is leaves =
+    subst (λ read. Leaves (reads_step read) (or_usage read (λ line. plan_of_command line.0 line.1)) first last result) is leaves
 
--- and of every other command
-pub text_leaves : (words : List (List ℕ)) (old new : ShelfState) (before after : SinkState) (asked : PromptState) (ending : Result Answer Stop) (result : Status) → IsFalse (is_step words)
-    → Performs (text_plan words) old new ending → SaysEnding before ending after result → Leaves (is_step words) (plan_of words) (outside old before asked) (outside new after asked) result
-text_leaves words old new before after asked ending result other p s =
-    subst (λ (b : Bool). Leaves b (cond b (step_plan (drop 1 words)) (text_plan words)) (outside old before asked) (outside new after asked) result) (sym other) (concluded ending p s refl)
+-- words that name no command
+pub usage_leaves : (words : List (List ℕ)) (first last : OutsideState) (result : Status) → None ≡ command_read words → Leaves false usage first last result
+    → Leaves (is_step words) (plan_of words) first last result
+usage_leaves words first last result is leaves = subst (λ read. Leaves (reads_step read) (or_usage read (λ line. plan_of_command line.0 line.1)) first last result) is leaves
+
+-- what a command left, from how it ended and what was written of that
+pub ruleset performing = (text_leaves, step_leaves, says)

@@ -7,7 +7,7 @@ use Rattle.command_plan.specs.Answered.{exit_status}
 use Rattle.command_plan.specs.Plan.{outcome}
 use Rattle.command_plan.specs.declared.status.Status.{Status}
 use Rattle.command_plan.specs.declared.status.Status.TheVariants.{Yes, Refuted, Usage, Differs, RecipeRefused, ReportRefused, RunFailed, CheckFailed, Paused, SaveRefused, FileRefused, ShelfFault, OutFault, OutOfMemory, TooManySegments, ScriptRefused, ListRefused}
-use Rattle.ddc_app.specs.Commands.{other_plan, plan_of}
+use Rattle.ddc_app.specs.Commands.{plan_of}
 use Rattle.ddc_app.specs.Help.{command_name, command_statuses}
 use Rattle.ddc_app.specs.Statuses.{HasReadRecipe, is_answer_of, is_common, printed_words}
 use Rattle.ddc_app.specs.declared.command_word.CommandWord.{CommandWord}
@@ -38,7 +38,7 @@ numeral ScriptRefused = codes "15"
 numeral ListRefused = codes "16"
 
 two_digits : (n : ℕ) → 10 ≤ n → n < 2 ^ 64 → n / 10 < 10 → decimal n ≡ (48 + n / 10) ∷ (48 + n % 10) ∷ []
-two_digits n low high ten = decimal_step n low high ∙ ap (λ front. front ++ (48 + n % 10) ∷ []) (decimal_digit (n / 10) ten)
+two_digits n low high ten = decimal_step n low high ∙ ap (λ leading. leading ++ (48 + n % 10) ∷ []) (decimal_digit (n / 10) ten)
 
 printed : (status : Status) → decimal (exit_status status) ≡ numeral status
 unfolding numeral
@@ -71,7 +71,7 @@ has_is one status = ap (λ number. is_common status || list_any (λ word. bytes_
 -- ---- each command
 
 ends_as : (one : CommandWord) (words : List (List ℕ)) → HasReadRecipe one → EndsAs (has one) (plan_of (command_name one ∷ words))
-unfolding command_name command_statuses other_plan has numeral
+unfolding command_statuses has numeral
 ends_as command.Hex0 words reads = hex0_ends (has command.Hex0) refl refl refl refl words
 ends_as command.Asm words reads = asm_ends (has command.Asm) refl refl refl refl words
 ends_as command.Where words reads = where_ends (has command.Where) refl refl refl refl words

@@ -26,7 +26,7 @@ module _ (recipe report : List ℕ) (files : NamedFiles) (compared : IsTrue (is_
   abbrev pub replay : Replayed recipe report files (verify recipe report files)
   replay = replayed recipe report files (are_two_files recipe report) compared
 
-  pub replay-held : HoldsReport recipe report files replay.said replay.inputs replay.made
+  pub replay-held : HoldsReport recipe report files replay.parsed replay.inputs replay.made
   replay-held = record {
     two = two-words recipe report files (are_two_files recipe report) compared;
     recipe_bytes = replay.holds.bytes;
@@ -39,14 +39,14 @@ module _ (recipe report : List ℕ) (files : NamedFiles) (compared : IsTrue (is_
     inputs_held = replay.holds.inputs_held;
   }
 
-  pub true-report : ((said : RecipeContents) (inputs : List (List ℕ)) (made : Report) → IsRecipe said → length inputs ≡ length said.inputs
-      → TrueReport said inputs made ↔ (first_fault said inputs made ≡ None)) → HoldsTrueReport recipe report files
+  pub true-report : ((parsed : RecipeContents) (inputs : List (List ℕ)) (made : Report) → IsRecipe parsed → length inputs ≡ length parsed.inputs
+      → TrueReport parsed inputs made ↔ (first_fault parsed inputs made ≡ None)) → HoldsTrueReport recipe report files
   true-report clauses = record {
-    said = replay.said;
+    parsed = replay.parsed;
     inputs = replay.inputs;
     made = replay.made;
     held = replay-held;
     is_true =
-        (clauses replay.said replay.inputs replay.made (is_recipe recipe replay.said replay.inputs files replay.holds)
-        (inputs-counted files replay.said replay.inputs replay.holds.inputs_held)).1 replay.none;
+        (clauses replay.parsed replay.inputs replay.made (is_recipe recipe replay.parsed replay.inputs files replay.holds)
+        (inputs-counted files replay.parsed replay.inputs replay.holds.inputs_held)).1 replay.none;
   }

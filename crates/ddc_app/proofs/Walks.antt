@@ -3,6 +3,7 @@ use Rattle.std.proofs.Common.{◌≡◌, ℕ, ◌-◌, Bool, true, false, cond, 
 use Rattle.ddc_base.specs.declared.outside.Loaded.{Loaded}
 use Rattle.ddc_base.specs.declared.outside.Loaded.TheVariants.{Bytes, Absent, TooLong}
 use Rattle.ddc_base.specs.Outside.{NamedFiles, loaded}
+use Rattle.ddc_base.specs.Limits.{most_content, most_inputs, most_recipe}
 use Rattle.recipe.specs.Reading.{recipe_of}
 use Rattle.recipe.specs.declared.contents.RecipeContents.{RecipeContents}
 use Rattle.command_plan.specs.declared.status.Status.{Status}
@@ -36,14 +37,14 @@ module _ (Both : Outcome → Outcome → Type 0) (files : NamedFiles)
     by Absent is = refused FileRefused (absent_line name) (refl, refl)
     by TooLong is = refused FileRefused (too_long_line name) (refl, refl)
 
-  pub both_need_all : (most room : ℕ) (names : List (List ℕ)) (first second : List (List ℕ) → Plan)
-      → ((contents : List (List ℕ)) → AreHeld most room files names contents → Both (outcome (first contents) files) (outcome (second contents) files))
-      → Both (outcome (needs_all most room names first) files) (outcome (needs_all most room names second) files)
-  both_need_all most room [] first second both = both [] tt
-  both_need_all most room (name ∷ names) first second both =
-      both_need name (min most room) (λ c. needs_all most (room - length c) names (λ contents. first (c ∷ contents)))
-      (λ c. needs_all most (room - length c) names (λ contents. second (c ∷ contents)))
-      (λ c is. both_need_all most (room - length c) names (λ contents. first (c ∷ contents)) (λ contents. second (c ∷ contents))
+  pub both_need_all : (most budget : ℕ) (names : List (List ℕ)) (first second : List (List ℕ) → Plan)
+      → ((contents : List (List ℕ)) → AreHeld most budget files names contents → Both (outcome (first contents) files) (outcome (second contents) files))
+      → Both (outcome (needs_all most budget names first) files) (outcome (needs_all most budget names second) files)
+  both_need_all most budget [] first second both = both [] tt
+  both_need_all most budget (name ∷ names) first second both =
+      both_need name (min most budget) (λ c. needs_all most (budget - length c) names (λ contents. first (c ∷ contents)))
+      (λ c. needs_all most (budget - length c) names (λ contents. second (c ∷ contents)))
+      (λ c is. both_need_all most (budget - length c) names (λ contents. first (c ∷ contents)) (λ contents. second (c ∷ contents))
       (λ contents held. both (c ∷ contents) (is, held)))
 
   pub both_read : {A E : Type 0} (reading : Result A E) (status : Status) (text : E → List ℕ) (first second : A → Plan) → IsRefusal status
@@ -53,23 +54,23 @@ module _ (Both : Outcome → Outcome → Type 0) (files : NamedFiles)
   both_read (Err e) status text first second refusal both = refused status (text e) refusal
 
   pub both_need_recipe : (recipe : List ℕ) (first second : RecipeContents → Plan)
-      → ((bytes : List ℕ) (said : RecipeContents) → loaded files recipe 1_048_576 ≡ Bytes bytes → recipe_of bytes ≡ Ok said → Both (outcome (first said) files) (outcome (second said) files))
+      → ((bytes : List ℕ) (parsed : RecipeContents) → loaded files recipe most_recipe ≡ Bytes bytes → recipe_of bytes ≡ Ok parsed → Both (outcome (first parsed) files) (outcome (second parsed) files))
       → Both (outcome (needs_recipe recipe first) files) (outcome (needs_recipe recipe second) files)
   both_need_recipe recipe first second both =
-      both_need recipe 1_048_576 (λ bytes. unless_refused (recipe_of bytes) (λ e. answers RecipeRefused (recipe_line e)) first)
+      both_need recipe most_recipe (λ bytes. unless_refused (recipe_of bytes) (λ e. answers RecipeRefused (recipe_line e)) first)
       (λ bytes. unless_refused (recipe_of bytes) (λ e. answers RecipeRefused (recipe_line e)) second)
-      (λ bytes held. both_read (recipe_of bytes) RecipeRefused recipe_line first second (refl, refl) (λ said reads. both bytes said held reads))
+      (λ bytes held. both_read (recipe_of bytes) RecipeRefused recipe_line first second (refl, refl) (λ parsed reads. both bytes parsed held reads))
 
-  pub both_need_apart : (said : RecipeContents) (file : List ℕ) (first second : Unit {0} → Plan)
-      → (is_input said file ≡ false → Both (outcome (first tt) files) (outcome (second tt) files))
-      → Both (outcome (needs_apart said file first) files) (outcome (needs_apart said file second) files)
+  pub both_need_apart : (parsed : RecipeContents) (file : List ℕ) (first second : Unit {0} → Plan)
+      → (is_input parsed file ≡ false → Both (outcome (first tt) files) (outcome (second tt) files))
+      → Both (outcome (needs_apart parsed file first) files) (outcome (needs_apart parsed file second) files)
   unfolding needs_apart
-  both_need_apart said file first second both = by (is_input said file) refl where
-    by : (clash : Bool) → is_input said file ≡ clash → Both (outcome (cond clash usage (first tt)) files) (outcome (cond clash usage (second tt)) files)
+  both_need_apart parsed file first second both = by (is_input parsed file) refl where
+    by : (clash : Bool) → is_input parsed file ≡ clash → Both (outcome (cond clash usage (first tt)) files) (outcome (cond clash usage (second tt)) files)
     by true is = refused Usage usage_line (refl, refl)
     by false is = both is
 
-  pub both_need_inputs : (said : RecipeContents) (first second : List (List ℕ) → Plan)
-      → ((inputs : List (List ℕ)) → AreHeld 268_435_456 1_073_741_824 files (paths said) inputs → Both (outcome (first inputs) files) (outcome (second inputs) files))
-      → Both (outcome (needs_inputs said first) files) (outcome (needs_inputs said second) files)
-  both_need_inputs said first second both = both_need_all 268_435_456 1_073_741_824 (paths said) first second both
+  pub both_need_inputs : (parsed : RecipeContents) (first second : List (List ℕ) → Plan)
+      → ((inputs : List (List ℕ)) → AreHeld most_content most_inputs files (paths parsed) inputs → Both (outcome (first inputs) files) (outcome (second inputs) files))
+      → Both (outcome (needs_inputs parsed first) files) (outcome (needs_inputs parsed second) files)
+  both_need_inputs parsed first second both = both_need_all most_content most_inputs (paths parsed) first second both

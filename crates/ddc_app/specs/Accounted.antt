@@ -9,12 +9,12 @@ use Rattle.verify_commands.specs.Provenance.{provenance_text}
 use Rattle.ddc_app.specs.Accepting.{verify}
 use Rattle.ddc_app.specs.Verified.{Verified}
 
--- `verify` returns the same status on these files and shows what it shows by itself. The recipe and the report determine the text, and no
--- file changes
+-- `verify` returns the same status on these files and shows what it shows by itself. The recipe, its inputs and the report determine
+-- the text, and no file changes
 pub record Accounted (prescribes : Prescribes) (compiles : Compiles) (recipe report : List ℕ) (files : NamedFiles) (answer : Outcome) : Type 0 where
   pub verified : Verified prescribes compiles recipe report files (verify recipe report files)
   pub status : answer.status ≡ (verify recipe report files).status
-  pub text : answer.text ≡ provenance_text verified.said verified.made
+  pub text : answer.text ≡ provenance_text verified.parsed verified.inputs verified.made
   pub kept : answer.files ≡ files
 
 -- two different contents with one SHA-256 digest (FIPS 180-4)

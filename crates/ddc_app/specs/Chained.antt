@@ -3,6 +3,7 @@ use Rattle.std.specs.Prelude.{◌≡◌, ℕ, ◌≤◌, true, None, Some, Ok, L
 use Rattle.std.specs.List.{AllZip}
 use Rattle.std.specs.FinMap as map
 use Rattle.ddc_base.specs.Outside.{NamedFiles}
+use Rattle.ddc_base.specs.Limits.{most_audits, most_inputs}
 use Rattle.recipe.specs.Kept.{IsRecipe}
 use Rattle.recipe.specs.Reading.{recipe_of}
 use Rattle.report.specs.declared.types.Report.{Report}
@@ -51,9 +52,9 @@ pub record Chained (prescribes : Prescribes) (compiles : Compiles) (list : List 
   pub list_bytes : List ℕ
   pub list_held : map.get files list ≡ Some list_bytes
   pub lines : List Pair
-  pub list_reads : list_of pair_of 64 list_bytes ≡ Ok lines
+  pub list_reads : list_of pair_of most_audits list_bytes ≡ Ok lines
   pub links : List Link
   pub audits : AllZip (HoldsAudit files) lines links
-  pub room : bytes_of_inputs links ≤ 1_073_741_824
+  pub budget : bytes_of_inputs links ≤ most_inputs
   pub text : answer.text ≡ chain_text links
   pub shown : RemainingHold prescribes compiles links → EachConcludes prescribes compiles links

@@ -5,6 +5,7 @@ use Rattle.std.specs.List.{AllZip}
 use Rattle.ddc_base.specs.Lines.{line}
 use Rattle.ddc_base.specs.declared.outside.Loaded.TheVariants.{Bytes}
 use Rattle.ddc_base.specs.Outside.{NamedFiles, loaded}
+use Rattle.ddc_base.specs.Limits.{most_artefacts, most_content, most_inputs, most_recipe, most_report}
 use Rattle.mem_files.specs.Outputs.{out}
 use Rattle.mem_files.specs.World.{World}
 use Rattle.guest_run.specs.Program.{ProgramRun}
@@ -66,7 +67,7 @@ pub record IsReplayed (recipe : RecipeContents) (before : Contents) (stage : Sta
 -- stage is what the check's source stands for
 pub record IsSeenStage (recipe : RecipeContents) (before : Contents) (stage : Stage) (printed made : List ℕ) : Type 0 where
   pub run : IsReplayed recipe before stage printed made ⊎ IsCheckedInPieces recipe before stage printed made
-  pub together : size_of before + length made ≤ 1_073_741_824
+  pub together : size_of before + length made ≤ most_artefacts
   pub checked : (name : List ℕ) → stage.check ≡ Some name → IsOfSource recipe before name made
 
 -- each stage was seen, and has one printed text, in order. A stage is given the artefacts of the stages before it, and `all` has those of all stages
@@ -103,12 +104,12 @@ collected_text recipe inputs printed lines =
 pub record Collected (recipe report : List ℕ) (files : NamedFiles) : Type 0 where
   pub two : IsTrue (are_two_files recipe report)
   pub recipe_bytes : List ℕ
-  pub recipe_held : loaded files recipe 1_048_576 ≡ Bytes recipe_bytes
-  pub said : RecipeContents
-  pub recipe_reads : recipe_of recipe_bytes ≡ Ok said
-  pub apart : is_input said report ≡ false
+  pub recipe_held : loaded files recipe most_recipe ≡ Bytes recipe_bytes
+  pub parsed : RecipeContents
+  pub recipe_reads : recipe_of recipe_bytes ≡ Ok parsed
+  pub apart : is_input parsed report ≡ false
   pub inputs : List (List ℕ)
-  pub inputs_held : AreHeld 268_435_456 1_073_741_824 files (paths said) inputs
-  pub given : IsInputs said inputs
-  pub seen : AllSeen said inputs
-  pub report_held : loaded files report 1_073_741_824 ≡ Bytes (collected_text said inputs seen.printed seen.lines)
+  pub inputs_held : AreHeld most_content most_inputs files (paths parsed) inputs
+  pub given : IsInputs parsed inputs
+  pub seen : AllSeen parsed inputs
+  pub report_held : loaded files report most_report ≡ Bytes (collected_text parsed inputs seen.printed seen.lines)

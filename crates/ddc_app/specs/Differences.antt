@@ -35,8 +35,8 @@ pub record AreDeltaWords (recipe base patch report : List ℕ) (files : NamedFil
 pub record IsSavedRelative (recipe base patch : List ℕ) (files : NamedFiles) (first count : ℕ) : Type 0 where
   pub whole : IsSavedAt recipe base files first
   pub position : Position
-  pub stands : positions.position whole.said whole.inputs count ≡ On position
-  pub delta_held : map.get files patch ≡ Some (delta_text_of whole.said whole.inputs whole.position position)
+  pub current : positions.position whole.parsed whole.inputs count ≡ On position
+  pub delta_held : map.get files patch ≡ Some (delta_text_of whole.parsed whole.inputs whole.position position)
 
 -- ---- the outcomes of the segments
 

@@ -9,14 +9,14 @@ use Rattle.ddc_app.specs.Judged.{HoldsReport}
 
 -- The report has the digest of the recipe file's bytes, and every line of it is true of the recipe and its inputs. The artefact of each
 -- compared stage is the audited binary, byte for byte
-pub record SaysHeadline (bytes : List ℕ) (said : RecipeContents) (inputs : List (List ℕ)) (made : Report) : Type 0 where
+pub record SaysHeadline (bytes : List ℕ) (parsed : RecipeContents) (inputs : List (List ℕ)) (made : Report) : Type 0 where
   pub named : made.recipe.0 ≡ sha256 bytes
-  pub yes : IsYes said inputs made
+  pub yes : IsYes parsed inputs made
 
 -- the files hold a valid recipe, its inputs, and a valid report of which every line is true
 pub record HoldsTrueReport (recipe report : List ℕ) (files : NamedFiles) : Type 0 where
-  pub said : RecipeContents
+  pub parsed : RecipeContents
   pub inputs : List (List ℕ)
   pub made : Report
-  pub held : HoldsReport recipe report files said inputs made
-  pub is_true : TrueReport said inputs made
+  pub held : HoldsReport recipe report files parsed inputs made
+  pub is_true : TrueReport parsed inputs made

@@ -9,7 +9,7 @@ use Rattle.ddc_app.specs.declared.command_word.CommandWord.{CommandWord}
 use Rattle.ddc_app.specs.declared.command_word.CommandWord.TheVariants as command
 
 -- the commands, in the order in which they are listed
-unfoldable pub all_commands : List CommandWord
+abbrev pub all_commands : List CommandWord
 all_commands =
     command.Hex0 ∷
     command.Asm ∷
@@ -39,7 +39,7 @@ all_commands =
     command.Version ∷ []
 
 -- the word that names a command
-unfoldable pub command_name : CommandWord → List ℕ
+abbrev pub command_name : CommandWord → List ℕ
 command_name command.Hex0 = codes "hex0"
 command_name command.Asm = codes "asm"
 command_name command.Where = codes "where"
@@ -155,7 +155,7 @@ command_statuses command.Help = codes "0"
 command_statuses command.Version = codes "0"
 
 -- the command that a word names, if there is one
-unfoldable pub command_named : List ℕ → Option CommandWord
+abbrev pub command_named : List ℕ → Option CommandWord
 command_named word = find (λ command. bytes_eq (command_name command) word) all_commands
 
 -- the line of a command: its word and the names of its arguments

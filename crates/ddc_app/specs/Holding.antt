@@ -3,9 +3,9 @@ use Rattle.std.specs.Prelude.{◌≡◌, ℕ, ◌-◌, List, [], ◌∷◌, leng
 use Rattle.ddc_base.specs.declared.outside.Loaded.TheVariants.{Bytes}
 use Rattle.ddc_base.specs.Outside.{NamedFiles, loaded}
 
--- these names have these contents, each of at most `most` bytes and all together of at most `room`
+-- these names have these contents, each of at most `most` bytes and all together of at most `budget`
 abbrev pub AreHeld : ℕ → ℕ → NamedFiles → List (List ℕ) → List (List ℕ) → Type 0
-AreHeld most room files [] [] = Unit {0}
-AreHeld most room files (name ∷ names) (content ∷ contents) =
-    (loaded files name (min most room) ≡ Bytes content) × AreHeld most (room - length content) files names contents
-AreHeld most room files _ _ = ⊥
+AreHeld most budget files [] [] = Unit {0}
+AreHeld most budget files (name ∷ names) (content ∷ contents) =
+    (loaded files name (min most budget) ≡ Bytes content) × AreHeld most (budget - length content) files names contents
+AreHeld most budget files _ _ = ⊥

@@ -1,12 +1,13 @@
 -- An audit in segments: the outcomes of `part` and `resume`, compared with the undivided `audit`. docs/reference/command-line.md says the
 -- same for people.
-use Rattle.std.specs.Prelude.{◌≡◌, ◌≢◌, ℕ, ◌^◌, ◌≤◌, ◌⊎◌, Bool, true, false, IsTrue, List, [], ◌∷◌, Ok, Some, codes, decimal, if◌then◌else◌}
+use Rattle.std.specs.Prelude.{◌≡◌, ◌≢◌, ℕ, ◌≤◌, ◌⊎◌, Bool, true, false, IsTrue, List, [], ◌∷◌, Ok, Some, codes, decimal, if◌then◌else◌}
 use Rattle.std.specs.FinMap as map
 use Rattle.ddc_base.specs.declared.outside.Loaded.TheVariants.{Bytes}
 use Rattle.ddc_base.specs.Outside.{NamedFiles, loaded}
+use Rattle.ddc_base.specs.Limits.{most_content, most_inputs, most_recipe, most_steps}
 use Rattle.recipe.specs.Reading.{recipe_of}
 use Rattle.recipe.specs.declared.contents.RecipeContents.{RecipeContents}
-use Rattle.save_format.specs.Spelled.{text_of_save}
+use Rattle.save_format.specs.Encoded.{text_of_save}
 use Rattle.audit_run.specs.Save.Saves.{save_of}
 use Rattle.audit_rules.specs.Positions as positions
 use Rattle.audit_rules.specs.Positions.{Position, On}
@@ -30,25 +31,25 @@ resume recipe save report steps files = outcome (plan_of (codes "resume" ∷ rec
 
 -- a valid number STEPS, from 1 to 2^48, both included
 abbrev pub IsStepCount : ℕ → Type 0
-IsStepCount steps = (1 ≤ steps) × (steps ≤ 2 ^ 48)
+IsStepCount steps = (1 ≤ steps) × (steps ≤ most_steps)
 
 -- words without a usage answer: they name three files, and SAVE is not an input of a recipe that the files hold
 pub record AreWords (recipe save report : List ℕ) (files : NamedFiles) : Type 0 where
   pub three : IsTrue (are_three_files recipe save report)
-  pub apart : (bytes : List ℕ) (said : RecipeContents) → loaded files recipe 1_048_576 ≡ Bytes bytes → recipe_of bytes ≡ Ok said
-      → is_input said save ≡ false
+  pub apart : (bytes : List ℕ) (parsed : RecipeContents) → loaded files recipe most_recipe ≡ Bytes bytes → recipe_of bytes ≡ Ok parsed
+      → is_input parsed save ≡ false
 
 -- the files hold a valid recipe, its inputs within their limits, and the save of the position of their audit after so many steps
 pub record IsSavedAt (recipe save : List ℕ) (files : NamedFiles) (count : ℕ) : Type 0 where
   pub bytes : List ℕ
-  pub recipe_held : loaded files recipe 1_048_576 ≡ Bytes bytes
-  pub said : RecipeContents
-  pub recipe_reads : recipe_of bytes ≡ Ok said
+  pub recipe_held : loaded files recipe most_recipe ≡ Bytes bytes
+  pub parsed : RecipeContents
+  pub recipe_reads : recipe_of bytes ≡ Ok parsed
   pub inputs : List (List ℕ)
-  pub inputs_held : AreHeld 268_435_456 1_073_741_824 files (paths said) inputs
+  pub inputs_held : AreHeld most_content most_inputs files (paths parsed) inputs
   pub position : Position
-  pub stands : positions.position said inputs count ≡ On position
-  pub save_held : map.get files save ≡ Some (text_of_save (save_of said inputs position))
+  pub current : positions.position parsed inputs count ≡ On position
+  pub save_held : map.get files save ≡ Some (text_of_save (save_of parsed inputs position))
 
 -- ---- the outcomes of the segments
 

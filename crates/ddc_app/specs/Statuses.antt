@@ -31,5 +31,5 @@ is_answer_of command status = is_common status || is_printed command status
 
 -- the recipe of the demonstration reads; no other command brings a recipe with it
 abbrev pub HasReadRecipe : CommandWord → Type 0
-HasReadRecipe Demo = (said : RecipeContents) × (recipe_of demo_recipe ≡ Ok said)
+HasReadRecipe Demo = (parsed : RecipeContents) × (recipe_of demo_recipe ≡ Ok parsed)
 HasReadRecipe _ = Unit {0}

@@ -23,9 +23,9 @@ use Rattle.verify_commands.specs.Texts.{true_text}
 
 -- what a status shows of a recipe and its inputs, by a report with these compare lines
 abbrev pub ShownBy : Prescribes → Compiles → RecipeContents → List (List ℕ) → List CompareLine → Status → Type 0
-ShownBy prescribes compiles said inputs lines Yes = ConcludesYes prescribes compiles said inputs
-ShownBy prescribes compiles said inputs lines Differs = Concludes prescribes compiles said inputs lines
-ShownBy prescribes compiles said inputs lines _ = Unit {0}
+ShownBy prescribes compiles parsed inputs lines Yes = ConcludesYes prescribes compiles parsed inputs
+ShownBy prescribes compiles parsed inputs lines Differs = Concludes prescribes compiles parsed inputs lines
+ShownBy prescribes compiles parsed inputs lines _ = Unit {0}
 
 -- The files hold a recipe that keeps its rules and has its compared stages, the contents of its inputs, within their limits, and a report
 -- without a fault. The text has the report's comparisons and exactly the lines of its assumptions, in format 2 under each route. The status
@@ -33,18 +33,18 @@ ShownBy prescribes compiles said inputs lines _ = Unit {0}
 pub record Verified (prescribes : Prescribes) (compiles : Compiles) (recipe report : List ℕ) (files : NamedFiles) (answer : Outcome) : Type 0 where
   pub recipe_bytes : List ℕ
   pub recipe_held : map.get files recipe ≡ Some recipe_bytes
-  pub said : RecipeContents
-  pub recipe_reads : recipe_of recipe_bytes ≡ Ok said
-  pub rules : IsRecipe said
-  pub compared : All (HasCompared said) said.compare.stages
+  pub parsed : RecipeContents
+  pub recipe_reads : recipe_of recipe_bytes ≡ Ok parsed
+  pub rules : IsRecipe parsed
+  pub compared : All (HasCompared parsed) parsed.compare.stages
   pub inputs : List (List ℕ)
-  pub inputs_held : AllZip (λ path content. map.get files path ≡ Some content) (paths said) inputs
-  pub limits : IsInputs said inputs
+  pub inputs_held : AllZip (λ path content. map.get files path ≡ Some content) (paths parsed) inputs
+  pub limits : IsInputs parsed inputs
   pub report_bytes : List ℕ
   pub report_held : map.get files report ≡ Some report_bytes
   pub made : Report
   pub report_reads : report_of report_bytes ≡ Ok made
-  pub true_report : first_fault said inputs made ≡ None
+  pub true_report : first_fault parsed inputs made ≡ None
   pub status : answer.status ≡ compared_status made.compare
-  pub text : answer.text ≡ true_text said made.compare
-  pub shown : ShownBy prescribes compiles said inputs made.compare answer.status
+  pub text : answer.text ≡ true_text parsed made.compare
+  pub shown : ShownBy prescribes compiles parsed inputs made.compare answer.status

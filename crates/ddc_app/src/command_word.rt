@@ -1,6 +1,7 @@
 //! The commands by the words that name them, and what `help` prints of each.
 
-ghost use Rattle.std.specs.Prelude.{◌≡◌, bytes_eq, find, option_map};
+ghost use Rattle.std.specs.Prelude.{◌≡◌, bytes_eq, find, map, option_map};
+ghost use Rattle.ddc_app.specs.Commands.{command_first, command_read};
 ghost use Rattle.ddc_app.specs.Help.{all_commands, command_answers, command_form, command_name, command_named, command_statuses};
 
 /// A command of the program. The variants are in the order in which `help` lists them.
@@ -66,15 +67,32 @@ static COMMANDS: [CommandWord; 26] = [
 
 impl CommandWord {
     /// All commands, in the order of `help`.
-    #[tactic(auto, unfolding(crate::specs::Help::all_commands))]
     pub fn all() -> &'static [CommandWord; 26]
         ensures { result.now ≡ all_commands }
     {
         &COMMANDS
     }
 
-    /// The command that a word names; `None` where it names no command.
-    #[tactic(auto, unfolding(crate::specs::Help::command_named))]
+    /// The command that the first word names, and the words after it; `None` where it names no command.
+    pub fn read<'a, 'w>(words: &'a [&'w str]) -> Option<(CommandWord, &'a [&'w str])>
+        ensures { option_map (λ line. (line.0, map (λ word. word.now) line.1.now)) result ≡ command_read (map (λ word. word.now) words.now) }
+    {
+        let (first, words) = words.split_first()?;
+        Some((CommandWord::first(first)?, words))
+    }
+
+    /// The command that a first word names: one by its own name, or `help` or `version` with two dashes.
+    fn first(word: &str) -> Option<CommandWord>
+        ensures { result ≡ command_first word.now }
+    {
+        match word {
+            "--help" => Some(CommandWord::Help),
+            "--version" => Some(CommandWord::Version),
+            _ => CommandWord::named(word),
+        }
+    }
+
+    /// The command of this name; `None` where no command has it.
     pub fn named(word: &str) -> Option<CommandWord>
         ensures { result ≡ command_named word.now }
     {
@@ -85,7 +103,6 @@ impl CommandWord {
     }
 
     /// The word that names the command.
-    #[tactic(auto, unfolding(crate::specs::Help::command_name))]
     pub fn name(self) -> &'static str
         ensures { result.now ≡ command_name self }
     {

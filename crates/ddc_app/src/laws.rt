@@ -78,15 +78,15 @@ pub fn verified<M: Meaning>()
 /// exactly where only a comparison differs, 1 exactly where a fault is found. The files hold the recipe, the report and the recipe's
 /// inputs.
 pub fn verdicts()
-    ensures yes { (recipe report : List ℕ) (files : NamedFiles) (said : Recipe) (inputs : List (List ℕ)) (made : Report)
-        → HoldsReport recipe report files said inputs made
-        → ((verify recipe report files).status ≡ Yes) ↔ ((first_fault said inputs made ≡ None) × (all_equal made.compare ≡ true)) }
-    ensures differs { (recipe report : List ℕ) (files : NamedFiles) (said : Recipe) (inputs : List (List ℕ)) (made : Report)
-        → HoldsReport recipe report files said inputs made
-        → ((verify recipe report files).status ≡ Differs) ↔ ((first_fault said inputs made ≡ None) × (all_equal made.compare ≡ false)) }
-    ensures refuted { (recipe report : List ℕ) (files : NamedFiles) (said : Recipe) (inputs : List (List ℕ)) (made : Report)
-        → HoldsReport recipe report files said inputs made
-        → ((verify recipe report files).status ≡ Refuted) ↔ ((one : Part × ℕ) × (first_fault said inputs made ≡ Some one)) }
+    ensures yes { (recipe report : List ℕ) (files : NamedFiles) (parsed : Recipe) (inputs : List (List ℕ)) (made : Report)
+        → HoldsReport recipe report files parsed inputs made
+        → ((verify recipe report files).status ≡ Yes) ↔ ((first_fault parsed inputs made ≡ None) × (all_equal made.compare ≡ true)) }
+    ensures differs { (recipe report : List ℕ) (files : NamedFiles) (parsed : Recipe) (inputs : List (List ℕ)) (made : Report)
+        → HoldsReport recipe report files parsed inputs made
+        → ((verify recipe report files).status ≡ Differs) ↔ ((first_fault parsed inputs made ≡ None) × (all_equal made.compare ≡ false)) }
+    ensures refuted { (recipe report : List ℕ) (files : NamedFiles) (parsed : Recipe) (inputs : List (List ℕ)) (made : Report)
+        → HoldsReport recipe report files parsed inputs made
+        → ((verify recipe report files).status ≡ Refuted) ↔ ((one : Part × ℕ) × (first_fault parsed inputs made ≡ Some one)) }
 {}
 
 /// The headline: on a valid recipe and report (`HoldsReport`), `verify` returns 0 exactly where the report is true and the artefact of each
@@ -96,9 +96,9 @@ pub fn verdicts()
 /// - the line of each stage is true of its run;
 /// - each checked artefact is what its source denotes.
 pub fn the_headline()
-    ensures { (recipe report : List ℕ) (files : NamedFiles) (said : Recipe) (inputs : List (List ℕ)) (made : Report)
-        → (held : HoldsReport recipe report files said inputs made)
-        → ((verify recipe report files).status ≡ Yes) ↔ SaysHeadline held.recipe_bytes said inputs made }
+    ensures { (recipe report : List ℕ) (files : NamedFiles) (parsed : Recipe) (inputs : List (List ℕ)) (made : Report)
+        → (held : HoldsReport recipe report files parsed inputs made)
+        → ((verify recipe report files).status ≡ Yes) ↔ SaysHeadline held.recipe_bytes parsed inputs made }
 {
     a_recipe_that_reads_keeps_the_rules();
     a_yes_in_its_own_words();
@@ -141,7 +141,7 @@ pub fn collected_reports_are_true()
     ensures is_true { (recipe report : List ℕ) (files : NamedFiles) → Collected recipe report files → HoldsTrueReport recipe report files }
     ensures told { (recipe report : List ℕ) (files : NamedFiles) (collected : Collected recipe report files)
         → verify recipe report files
-        ≡ record { status = compared_status collected.seen.lines; text = true_text collected.said collected.seen.lines; files = files } }
+        ≡ record { status = compared_status collected.seen.lines; text = true_text collected.parsed collected.seen.lines; files = files } }
 {
     a_recipe_that_reads_keeps_the_rules();
     no_fault_is_every_word_true();
@@ -176,17 +176,17 @@ pub fn chains_verified()
     ensures text { (list : List ℕ) (files : NamedFiles) (all : AllVerified list files) → (chain list files).text ≡ chain_text all.links }
 {}
 
-/// On a valid recipe and a report without a fault (`HoldsReport`), `provenance` returns the status of the comparisons, the recipe and the
-/// report alone determine the text, and no file changes.
+/// On a valid recipe and a report without a fault (`HoldsReport`), `provenance` returns the status of the comparisons, the recipe, its
+/// inputs and the report determine the text, and no file changes.
 pub fn a_true_report_is_told()
-    ensures { (recipe report : List ℕ) (files : NamedFiles) (said : Recipe) (inputs : List (List ℕ)) (made : Report)
-        → HoldsReport recipe report files said inputs made → first_fault said inputs made ≡ None
+    ensures { (recipe report : List ℕ) (files : NamedFiles) (parsed : Recipe) (inputs : List (List ℕ)) (made : Report)
+        → HoldsReport recipe report files parsed inputs made → first_fault parsed inputs made ≡ None
         → outcome (provenance_plan (recipe ∷ report ∷ [])) files
-        ≡ record { status = compared_status made.compare; text = provenance_text said made; files = files } }
+        ≡ record { status = compared_status made.compare; text = provenance_text parsed inputs made; files = files } }
 {}
 
 /// If `provenance RECIPE REPORT` on files of bytes returns 0 or 3, `verify` returns the same status and shows what `verified` says, under
-/// every meaning of sources. The recipe and the report determine the text, and no file changes.
+/// every meaning of sources. The recipe, its inputs and the report determine the text, and no file changes.
 pub fn accounted<M: Meaning>()
     ensures { (recipe report : List ℕ) (files : NamedFiles) → LoadsBytes (plan_of (codes "provenance" ∷ recipe ∷ report ∷ [])) files
         → IsTrue (is_compared (provenance recipe report files).status)
@@ -201,11 +201,11 @@ pub fn accounted<M: Meaning>()
 /// two different contents with one digest are known. The lines are those below the stage's comparison, and both recipe files are valid. If
 /// the stage is checked in M1, the artefacts have the same items.
 pub fn printed_digests_settle_it()
-    ensures { (bytes other_bytes : List ℕ) (said other_said : Recipe) (inputs others : List (List ℕ)) (made other : Report) (name : List ℕ) (stage : Stage)
-        → recipe_of bytes ≡ Ok said → recipe_of other_bytes ≡ Ok other_said → said.digest ≡ other_said.digest
-        → IsInputs said inputs → IsInputs other_said others → bench said inputs ≡ Completes made → bench other_said others ≡ Completes other
-        → stage_named said.stages name ≡ Some stage → origin_text said made name ≡ origin_text other_said other name
-        → IsSameArtefact said inputs others stage ⊎ DigestCollision }
+    ensures { (bytes other_bytes : List ℕ) (parsed other_parsed : Recipe) (inputs others : List (List ℕ)) (made other : Report) (name : List ℕ) (stage : Stage)
+        → recipe_of bytes ≡ Ok parsed → recipe_of other_bytes ≡ Ok other_parsed → parsed.digest ≡ other_parsed.digest
+        → IsInputs parsed inputs → IsInputs other_parsed others → bench parsed inputs ≡ Completes made → bench other_parsed others ≡ Completes other
+        → stage_named parsed.stages name ≡ Some stage → origin_text parsed inputs made name ≡ origin_text other_parsed others other name
+        → IsSameArtefact parsed inputs others stage ⊎ DigestCollision }
 {
     a_recipe_that_reads_keeps_the_rules();
     what_is_printed_settles_it();
@@ -330,21 +330,24 @@ pub fn differences()
 /// On a valid script and list (`HoldsScript`), the outcome of `kaem` is that of the script's commands, run one after another on the listed
 /// files, each for at most STEPS steps. If all ran, REPORT holds their report. If one stopped the script, no file changes.
 pub fn scripts_fold()
-    ensures { (script list report : List ℕ) (steps : ℕ) (files : NamedFiles) (said : ScriptContents) (listed : FilesListed)
-        → HoldsScript script list report files said listed → IsStepCount steps
-        → kaem script list report steps files ≡ kaem_ended report files said listed (folded steps listed.world said.commands) }
+    ensures { (script list report : List ℕ) (steps : ℕ) (files : NamedFiles) (parsed : ScriptContents) (listed : FilesListed)
+        → HoldsScript script list report files parsed listed → IsStepCount steps
+        → kaem script list report steps files ≡ kaem_ended report files parsed listed (folded steps listed.world parsed.commands) }
 {}
 
 /// On files of bytes that hold a valid script and list (`HoldsScript`), `kaem-verify` returns 0 exactly where REPORT holds the text of what
-/// the script's commands did. Its text then has the number of commands.
+/// the script's commands did. Its text then has the number of commands. If what it loads itself is bytes, it refutes no true report.
 pub fn scripts_verified()
-    ensures yes { (script list report : List ℕ) (steps : ℕ) (files : NamedFiles) (said : ScriptContents) (listed : FilesListed)
-        → HoldsScript script list report files said listed → IsStepCount steps
+    ensures yes { (script list report : List ℕ) (steps : ℕ) (files : NamedFiles) (parsed : ScriptContents) (listed : FilesListed)
+        → HoldsScript script list report files parsed listed → IsStepCount steps
         → LoadsBytes (plan_of (codes "kaem" ∷ script ∷ list ∷ report ∷ decimal steps ∷ [])) files
-        → ((kaem_verify script list report files).status ≡ Yes) ↔ IsScriptTrue report files said listed }
-    ensures text { (script list report : List ℕ) (files : NamedFiles) (said : ScriptContents) (listed : FilesListed)
-        → HoldsScript script list report files said listed → (kaem_verify script list report files).status ≡ Yes
-        → (kaem_verify script list report files).text ≡ commands_true_line (length said.commands) }
+        → ((kaem_verify script list report files).status ≡ Yes) ↔ IsScriptTrue report files parsed listed }
+    ensures text { (script list report : List ℕ) (files : NamedFiles) (parsed : ScriptContents) (listed : FilesListed)
+        → HoldsScript script list report files parsed listed → (kaem_verify script list report files).status ≡ Yes
+        → (kaem_verify script list report files).text ≡ commands_true_line (length parsed.commands) }
+    ensures refuted { (script list report : List ℕ) (files : NamedFiles) (parsed : ScriptContents) (listed : FilesListed)
+        → HoldsScript script list report files parsed listed → LoadsBytes (plan_of (codes "kaem-verify" ∷ script ∷ list ∷ report ∷ [])) files
+        → IsScriptTrue report files parsed listed → (kaem_verify script list report files).status ≢ Refuted }
 {}
 
 /// `kaem` returns 0 only where the files hold a valid script and list and all commands ran, and `kaem-verify` only where they hold such a
@@ -362,10 +365,10 @@ pub fn scripts_accepted()
     ensures yes { (script list report : List ℕ) (steps : ℕ) (files : NamedFiles)
         → LoadsBytes (plan_of (codes "kaem" ∷ script ∷ list ∷ report ∷ decimal steps ∷ [])) files → (kaem script list report steps files).status ≡ Yes
         → (kaem_verify script list report (kaem script list report steps files).files).status ≡ Yes }
-    ensures text { (script list report : List ℕ) (steps : ℕ) (files : NamedFiles) (said : ScriptContents) (listed : FilesListed)
-        → HoldsScript script list report files said listed → LoadsBytes (plan_of (codes "kaem" ∷ script ∷ list ∷ report ∷ decimal steps ∷ [])) files
+    ensures text { (script list report : List ℕ) (steps : ℕ) (files : NamedFiles) (parsed : ScriptContents) (listed : FilesListed)
+        → HoldsScript script list report files parsed listed → LoadsBytes (plan_of (codes "kaem" ∷ script ∷ list ∷ report ∷ decimal steps ∷ [])) files
         → (kaem script list report steps files).status ≡ Yes
-        → (kaem_verify script list report (kaem script list report steps files).files).text ≡ commands_true_line (length said.commands) }
+        → (kaem_verify script list report (kaem script list report steps files).files).text ≡ commands_true_line (length parsed.commands) }
 {}
 
 /// `kaem` changes only REPORT, and only if it returns 0; `kaem-verify` changes nothing; `kaem-left` changes only OUT, and only if it

@@ -1,21 +1,22 @@
-ghost use Rattle.std.specs.Prelude.{◌≡◌, ◌⊎◌, [], ◌∷◌, ℕ, IsFalse, IsTrue, List, MatchOption, Ok, Err, Some, codes, drop, map};
+ghost use Rattle.std.specs.Prelude.{◌≡◌, ◌⊎◌, [], ◌∷◌, ℕ, IsTrue, List, Ok, Err, Some, codes, map};
 ghost use Rattle.ddc_base.specs.Outside.{after_piece};
 ghost use Rattle.ddc_base.specs.declared.outside.PutFail.TheVariants as putting;
 ghost use Rattle.prompt.specs.Converses.{SaysAll};
 ghost use Rattle.prompt.specs.Talks.{Talk};
 ghost use Rattle.command_plan.specs.Answered.{is_answer};
 ghost use Rattle.command_plan.specs.Endings.{Completes};
-ghost use Rattle.command_plan.specs.Performs.{HoldsTalk, Performs, WantsMemory, outside};
+ghost use Rattle.command_plan.specs.Performs.{HoldsTalk, WantsMemory, outside};
 ghost use Rattle.command_plan.specs.Plan.{talk_of};
 ghost use Rattle.ddc_app.specs.Accepting.{is_compared, verify};
 ghost use Rattle.ddc_app.specs.Accounted.{Accounted};
-ghost use Rattle.ddc_app.specs.Commands.{is_step, other_plan, text_plan};
+ghost use Rattle.ddc_app.specs.Commands.{is_step, may_begin_session, plan_of_command};
 ghost use Rattle.ddc_app.specs.Chained.{Chained};
 ghost use Rattle.ddc_app.specs.Scripted.{ScriptReported, ScriptVerified, kaem_verify};
 ghost use Rattle.ddc_app.specs.Verified.{Verified};
 ghost use Rattle.ddc_app.specs.Run.{plan_for, expected, IsExpected, IsOneText, LosesText, NamesFault, TakesOne};
 ghost use Rattle.ddc_app.specs.Inside.Concluding.{Closes, Leaves, PutEnds, SaysEnding, unless_lost};
 
+use crate::command_word::CommandWord;
 use crate::laws::{accounted, chained, verified};
 use crate::{help, version};
 use audit_commands::{audit, delta_resume, delta_start, demo, part, resume, show};
@@ -24,7 +25,7 @@ use ddc_base::{PutFail, Shelf, Sink};
 use prompt::Prompt;
 use stage_commands::{cut, ends, left, segment, step};
 use std::alloc::Global;
-use tool_commands::{asm, hex0, kaem, kaem_left, kaem_verify, list, refusal_place, run};
+use tool_commands::{asm, hex0, kaem, kaem_left, kaem_verify, list, refusal_offset, run};
 use verify_commands::{Explanation, chain, rests, verify};
 use wheeler::Meaning;
 
@@ -93,7 +94,7 @@ pub fn run<M: Meaning, S: Shelf, K: Sink, P: Prompt>(
         → map (λ word. word.now) words.now ≡ codes "verify" ∷ recipe ∷ report ∷ [] → IsTrue (is_compared result)
         → Verified M.prescribes M.compiles recipe report (S.state shelf.old).files (expected words.now (S.state shelf.old)) }
 
-    // What a 0 or 3 of `provenance` shows: all that `verify` shows, and a text that the recipe and the report determine.
+    // What a 0 or 3 of `provenance` shows: all that `verify` shows, and a text that the recipe, its inputs and the report determine.
     ensures accounted { IsExpected words.now (S.state shelf.old) → (recipe report : List ℕ)
         → map (λ word. word.now) words.now ≡ codes "provenance" ∷ recipe ∷ report ∷ [] → IsTrue (is_compared result)
         → Accounted M.prescribes M.compiles recipe report (S.state shelf.old).files (expected words.now (S.state shelf.old)) }
@@ -135,7 +136,7 @@ pub fn run<M: Meaning, S: Shelf, K: Sink, P: Prompt>(
     act::<M, S, K, P>(alloc, shelf, out, prompt, words)
 }
 
-/// Runs `step`, which may begin a session, or a command that writes one text.
+/// Runs the command that the words name. Words that name no command are answered by the usage.
 fn act<M: Meaning, S: Shelf, K: Sink, P: Prompt>(
     alloc: Global,
     shelf: &mut S,
@@ -147,87 +148,61 @@ fn act<M: Meaning, S: Shelf, K: Sink, P: Prompt>(
         (outside (S.state shelf.old) (K.state out.old) (P.state prompt.old))
         (outside (S.state shelf.new) (K.state out.new) (P.state prompt.new)) result }
 {
-    match after_step(words) {
-        Some(words) => {
+    match CommandWord::read(words) {
+        Some(line) => perform::<M, S, K, P>(alloc, shelf, out, prompt, line),
+        None => conclude(out, usage(alloc)),
+    }
+}
+
+/// Runs a command on the words after its name, writes what it answers, and returns the status.
+fn perform<M: Meaning, S: Shelf, K: Sink, P: Prompt>(
+    alloc: Global,
+    shelf: &mut S,
+    out: &mut K,
+    prompt: &mut P,
+    line: (CommandWord, &[&str]),
+) -> Status
+    ensures { Leaves (may_begin_session line.entry.0) (plan_of_command line.entry.0 (map (λ word. word.now) line.entry.1.now))
+        (outside (S.state shelf.old) (K.state out.old) (P.state prompt.old))
+        (outside (S.state shelf.new) (K.state out.new) (P.state prompt.new)) result }
+{
+    let (command, words) = line;
+    match command {
+        CommandWord::Hex0 => conclude(out, hex0::perform(alloc, shelf, words)),
+        CommandWord::Asm => conclude(out, asm::perform(alloc, shelf, words)),
+        CommandWord::Where => conclude(out, refusal_offset::perform(alloc, shelf, words)),
+        CommandWord::List => conclude(out, list::perform(alloc, shelf, words)),
+        CommandWord::Run => conclude(out, run::perform(alloc, shelf, words)),
+        CommandWord::Audit => conclude(out, audit::perform(alloc, shelf, words)),
+        CommandWord::Part => conclude(out, part::perform(alloc, shelf, words)),
+        CommandWord::Resume => conclude(out, resume::perform(alloc, shelf, words)),
+        CommandWord::DeltaStart => conclude(out, delta_start::perform(alloc, shelf, words)),
+        CommandWord::DeltaResume => conclude(out, delta_resume::perform(alloc, shelf, words)),
+        CommandWord::Show => conclude(out, show::perform(alloc, shelf, words)),
+        CommandWord::Verify => conclude(
+            out,
+            verify::perform::<M, S>(alloc, shelf, Explanation::Assumptions, words),
+        ),
+        CommandWord::Provenance => conclude(
+            out,
+            verify::perform::<M, S>(alloc, shelf, Explanation::Provenance, words),
+        ),
+        CommandWord::Chain => conclude(out, chain::perform(alloc, shelf, words)),
+        CommandWord::Rests => conclude(out, rests::perform(alloc, shelf, words)),
+        CommandWord::Step => {
             let ended = step::perform(alloc, shelf, out, prompt, words);
             close(out, ended)
         }
-        None => {
-            let ending = perform::<M, S>(alloc, shelf, words);
-            conclude(out, ending)
-        }
-    }
-}
-
-/// The words after `step`; `None` where the first word is another one.
-fn after_step<'a, 'w>(words: &'a [&'w str]) -> Option<&'a [&'w str]>
-    ensures { MatchOption result (IsFalse (is_step (map (λ word. word.now) words.now)))
-        (λ rest. IsTrue (is_step (map (λ word. word.now) words.now))
-        × (map (λ word. word.now) rest.now ≡ drop 1 (map (λ word. word.now) words.now))) }
-{
-    match words {
-        [first, rest @ ..] if *first == "step" => Some(rest),
-        _ => None,
-    }
-}
-
-/// Runs the command that the first word names. This function knows the commands on the report of an audit or of a script, and on what a
-/// script's command left.
-#[tactic(auto, using(command_plan::proofs::Performing::performing))]
-fn perform<M: Meaning, S: Shelf>(
-    alloc: Global,
-    shelf: &mut S,
-    words: &[&str],
-) -> Result<Answer, Stop>
-    ensures { Performs (text_plan (map (λ word. word.now) words.now)) (S.state shelf.old) (S.state shelf.new) result }
-{
-    let Some((first, words)) = words.split_first() else {
-        return usage(alloc);
-    };
-    match *first {
-        "audit" => audit::perform(alloc, shelf, words),
-        "part" => part::perform(alloc, shelf, words),
-        "resume" => resume::perform(alloc, shelf, words),
-        "delta-start" => delta_start::perform(alloc, shelf, words),
-        "delta-resume" => delta_resume::perform(alloc, shelf, words),
-        "show" => show::perform(alloc, shelf, words),
-        "verify" => verify::perform::<M, S>(alloc, shelf, Explanation::Assumptions, words),
-        "provenance" => verify::perform::<M, S>(alloc, shelf, Explanation::Provenance, words),
-        "chain" => chain::perform(alloc, shelf, words),
-        "kaem" => kaem::perform(alloc, shelf, words),
-        "kaem-verify" => kaem_verify::perform(alloc, shelf, words),
-        "kaem-left" => kaem_left::perform(alloc, shelf, words),
-        _ => perform_other::<M, S>(alloc, shelf, first, words),
-    }
-}
-
-/// Runs the command that this word names, of all other commands that write one text.
-#[tactic(auto, using(command_plan::proofs::Performing::performing), unfolding(crate::specs::Commands::other_plan))]
-fn perform_other<M: Meaning, S: Shelf>(
-    alloc: Global,
-    shelf: &mut S,
-    first: &str,
-    words: &[&str],
-) -> Result<Answer, Stop>
-    ensures { Performs (other_plan first.now (map (λ word. word.now) words.now)) (S.state shelf.old) (S.state shelf.new) result }
-{
-    match first {
-        "hex0" => hex0::perform(alloc, shelf, words),
-        "asm" => asm::perform(alloc, shelf, words),
-        "where" => refusal_place::perform(alloc, shelf, words),
-        "list" => list::perform(alloc, shelf, words),
-        "run" => run::perform(alloc, shelf, words),
-        "demo" => demo::perform::<M, S>(alloc, shelf, words),
-        "rests" => rests::perform(alloc, shelf, words),
-        "left" => left::perform(alloc, shelf, words),
-        "cut" => cut::perform(alloc, shelf, words),
-        "segment" => segment::perform(alloc, shelf, words),
-        "ends" => ends::perform(alloc, shelf, words),
-        "help" => help::perform(alloc, words),
-        "--help" => help::perform(alloc, words),
-        "version" => version::perform(alloc, words),
-        "--version" => version::perform(alloc, words),
-        _ => usage(alloc),
+        CommandWord::Left => conclude(out, left::perform(alloc, shelf, words)),
+        CommandWord::Cut => conclude(out, cut::perform(alloc, shelf, words)),
+        CommandWord::Segment => conclude(out, segment::perform(alloc, shelf, words)),
+        CommandWord::Ends => conclude(out, ends::perform(alloc, shelf, words)),
+        CommandWord::Kaem => conclude(out, kaem::perform(alloc, shelf, words)),
+        CommandWord::KaemVerify => conclude(out, kaem_verify::perform(alloc, shelf, words)),
+        CommandWord::KaemLeft => conclude(out, kaem_left::perform(alloc, shelf, words)),
+        CommandWord::Demo => conclude(out, demo::perform::<M, S>(alloc, shelf, words)),
+        CommandWord::Help => conclude(out, help::perform(alloc, words)),
+        CommandWord::Version => conclude(out, version::perform(alloc, words)),
     }
 }
 

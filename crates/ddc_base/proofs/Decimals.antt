@@ -18,8 +18,8 @@ picked-none false small n no_both = refl
 -- the decimal of a number is that number
 pub as_decimal-is : (text : List ℕ) (n : ℕ) → IsDecimal text n → as_decimal text ≡ Some n
 as_decimal-is text n is =
-    let value : digits_value 10 text ≡ n = ap (digits_value 10) is.spelled ∙ (decimal_is_IsNumeral n is.small).1 in
-    let same : bytes_eq text (decimal n) ≡ true = (bytes_eq-Decides text (decimal n)).1 is.spelled in
+    let value : digits_value 10 text ≡ n = ap (digits_value 10) is.encoded ∙ (decimal_is_IsNumeral n is.small).1 in
+    let same : bytes_eq text (decimal n) ≡ true = (bytes_eq-Decides text (decimal n)).1 is.encoded in
     let below : ltb n (2 ^ 64) ≡ true = (Decides-ltb n (2 ^ 64)).1 is.small in
     rw (value, same, below) refl
 
@@ -27,4 +27,4 @@ as_decimal-is text n is =
 pub as_decimal-other : (text : List ℕ) → ((n : ℕ) → IsDecimal text n → ⊥) → as_decimal text ≡ None
 as_decimal-other text no_number =
     picked-none (bytes_eq text (decimal (digits_value 10 text))) (ltb (digits_value 10 text) (2 ^ 64)) (digits_value 10 text)
-    (λ same small. no_number (digits_value 10 text) (record { small = (Decides-ltb _ _).0 small; spelled = (bytes_eq-Decides _ _).0 same }))
+    (λ same small. no_number (digits_value 10 text) (record { small = (Decides-ltb _ _).0 small; encoded = (bytes_eq-Decides _ _).0 same }))

@@ -46,11 +46,11 @@ bytes_of [] = []
 bytes_of (high ∷ []) = []
 bytes_of (high ∷ low ∷ rest) = (16 * value high + value low) ∷ bytes_of rest
 
-spelled : (text : List ℕ) → length text % 2 ≡ 0 → list_all is_lower_digit text ≡ true → text ≡ encode_lower (bytes_of text)
+encoded : (text : List ℕ) → length text % 2 ≡ 0 → list_all is_lower_digit text ≡ true → text ≡ encode_lower (bytes_of text)
 unfolding encode_with
-spelled [] even digits = refl
-spelled (high ∷ []) even digits = absurd (omega (arith, even))
-spelled (high ∷ low ∷ rest) even digits =
+encoded [] even digits = refl
+encoded (high ∷ []) even digits = absurd (omega (arith, even))
+encoded (high ∷ low ∷ rest) even digits =
     let first = and_parts _ _ digits in
     let second = and_parts _ _ first.1 in
     let high_small : value high < 16 = value-small high first.0 in
@@ -58,7 +58,7 @@ spelled (high ∷ low ∷ rest) even digits =
     let upper : (16 * value high + value low) / 16 ≡ value high = omega arith in
     let lower : (16 * value high + value low) % 16 ≡ value low = omega arith in
     let even_rest : length rest % 2 ≡ 0 = omega (arith, even) in
-    let below : rest ≡ encode_lower (bytes_of rest) = spelled rest even_rest second.1 in
+    let below : rest ≡ encode_lower (bytes_of rest) = encoded rest even_rest second.1 in
     let high_is : digit (value high) ≡ high = digit-value high first.0 in
     let low_is : digit (value low) ≡ low = digit-value low second.0 in
     rw (upper, lower, high_is, low_is) (ap (λ more. high ∷ low ∷ more) below)
@@ -75,10 +75,10 @@ are_bytes (high ∷ low ∷ rest) digits =
     All-cons small (16 * value high + value low) (bytes_of rest) fits (are_bytes rest second.1)
 
 -- a text that passes the test is the text of some bytes
-pub spells : (text : List ℕ) → is_lower_hex text ≡ true → (bytes : List ℕ) × IsHexOf text bytes
-spells text is =
+pub encodes : (text : List ℕ) → is_lower_hex text ≡ true → (bytes : List ℕ) × IsHexOf text bytes
+encodes text is =
     let parts = and_parts _ _ is in
-    (bytes_of text, record { are_bytes = are_bytes text parts.1; spelled = spelled text (eqb-true _ _ parts.0) parts.1 })
+    (bytes_of text, record { are_bytes = are_bytes text parts.1; encoded = encoded text (eqb-true _ _ parts.0) parts.1 })
 
 all_digits : (bytes : List ℕ) → All small bytes → list_all is_lower_digit (encode_lower bytes) ≡ true
 unfolding encode_with
@@ -94,7 +94,7 @@ pub passes : (text bytes : List ℕ) → IsHexOf text bytes → is_lower_hex tex
 passes text bytes is =
     let size = length-encode_with lower_digits bytes in
     let even : length (encode_lower bytes) % 2 ≡ 0 = omega (arith, size) in
-    rw is.spelled (rw even (all_digits bytes is.are_bytes))
+    rw is.encoded (rw even (all_digits bytes is.are_bytes))
 
 from_all : (bytes : List ℕ) → All small bytes → IsBytes bytes
 from_all [] all i = omega arith
@@ -104,16 +104,16 @@ from_all (byte ∷ rest) all (suc i) = from_all rest (All-tail small byte rest a
 -- what a text that passes decodes to is what it is the text of
 pub decoded : (text bytes : List ℕ) → is_lower_hex text ≡ true → decode_of text ≡ Ok bytes → IsHexOf text bytes
 decoded text bytes is gives =
-    let spelt = spells text is in
-    let back : decode_of text ≡ Ok spelt.0 = ap decode_of spelt.1.spelled ∙ decode_of-encode_lower spelt.0 (from_all spelt.0 spelt.1.are_bytes) in
+    let encoding = encodes text is in
+    let back : decode_of text ≡ Ok encoding.0 = ap decode_of encoding.1.encoded ∙ decode_of-encode_lower encoding.0 (from_all encoding.0 encoding.1.are_bytes) in
     let P : List ℕ → Type 0 = λ some. IsHexOf text some in
-    subst P (decode_of-same text spelt.0 bytes back gives) spelt.1
+    subst P (decode_of-same text encoding.0 bytes back gives) encoding.1
 
 -- a text that passes is decoded with no refusal
 pub no_refusal : (text : List ℕ) (why : FromHexError) → is_lower_hex text ≡ true → decode_of text ≡ Err why → ⊥
 no_refusal text why is gives =
-    let spelt = spells text is in
-    let back : decode_of text ≡ Ok spelt.0 = ap decode_of spelt.1.spelled ∙ decode_of-encode_lower spelt.0 (from_all spelt.0 spelt.1.are_bytes) in
+    let encoding = encodes text is in
+    let back : decode_of text ≡ Ok encoding.0 = ap decode_of encoding.1.encoded ∙ decode_of-encode_lower encoding.0 (from_all encoding.0 encoding.1.are_bytes) in
     let both = sym back ∙ gives in cc
 
-pub ruleset hex_texts = (spells, passes, decoded, no_refusal)
+pub ruleset hex_texts = (encodes, passes, decoded, no_refusal)

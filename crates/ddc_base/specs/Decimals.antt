@@ -5,7 +5,7 @@ use Rattle.std.specs.Str.Parse.{digits_value}
 -- a text is the decimal of a number below 2^64: `0`, or its digits without leading zeros, as they are printed
 pub record IsDecimal (text : List ℕ) (value : ℕ) : Type 0 where
   pub small : value < 2 ^ 64
-  pub spelled : text ≡ decimal value
+  pub encoded : text ≡ decimal value
 
 -- the number whose decimal a text is; only the value of its digits can be that number
 abbrev pub as_decimal : List ℕ → Option ℕ

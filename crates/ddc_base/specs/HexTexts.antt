@@ -5,7 +5,7 @@ use Rattle.hex.specs.Hex.{encode_lower}
 -- a text is the hexadecimal text of these bytes
 pub record IsHexOf (text bytes : List ℕ) : Type 0 where
   pub are_bytes : All (λ byte. byte < 256) bytes
-  pub spelled : text ≡ encode_lower bytes
+  pub encoded : text ≡ encode_lower bytes
 
 -- is this byte a lower-case digit, `0` to `9` or `a` to `f`?
 abbrev pub is_lower_digit : ℕ → Bool

@@ -3,8 +3,8 @@ use Rattle.std.specs.Prelude.{ℕ, Bool, ◌&&◌, ◌||◌, ◌==◌, not, if�
 use Rattle.ddc_base.specs.declared.ways.Maker.{Maker}
 use Rattle.ddc_base.specs.declared.ways.Node.{Node}
 use Rattle.ddc_base.specs.declared.ways.PlainFile.{PlainFile}
-use Rattle.ddc_base.specs.declared.ways.Standing.{Standing}
-use Rattle.ddc_base.specs.declared.ways.Standing.TheVariants.{Nothing, Plain, Link, Other}
+use Rattle.ddc_base.specs.declared.ways.Existing.{Existing}
+use Rattle.ddc_base.specs.declared.ways.Existing.TheVariants.{Nothing, Plain, Link, Other}
 use Rattle.ddc_base.specs.declared.ways.Way.{Way}
 use Rattle.ddc_base.specs.declared.ways.Way.TheVariants.{AsNew, OwnersRights, SameFile, InPlace, Refused}
 
@@ -19,7 +19,7 @@ abbrev pub special_bits : ℕ
 special_bits = 0o7000
 
 -- the mode that the file next to the path is created with: that of any new file if it replaces none, and otherwise one for its owner only
-abbrev pub mode_beside : Standing → ℕ
+abbrev pub mode_beside : Existing → ℕ
 mode_beside Nothing = 0o666
 mode_beside (Plain _) = 0o600
 mode_beside (Link _) = 0o600
@@ -42,7 +42,7 @@ abbrev pub is_followed : ℕ → Maker → Bool
 is_followed owner maker = (owner == 0) || (owner == maker.owner)
 
 -- how a file is saved
-abbrev pub allowed_way : Standing → Maker → Way
+abbrev pub allowed_way : Existing → Maker → Way
 allowed_way Nothing maker = AsNew
 allowed_way (Plain file) maker = if comes_back file maker then SameFile else OwnersRights
 allowed_way (Link owner) maker = if is_followed owner maker then InPlace else Refused

@@ -9,7 +9,7 @@ ghost use Rattle.ddc_base.specs.Streams.{TakesAll};
 
 use crate::streams::{ByFlush, write_whole};
 use crate::ways::{
-    Maker, Node, PlainFile, Standing, Way, creation_mode, is_ours_alone, is_same_node, kept_mode,
+    Existing, Maker, Node, PlainFile, Way, creation_mode, is_ours_alone, is_same_node, kept_mode,
     way_of,
 };
 use arrayvec::ArrayString;
@@ -26,7 +26,7 @@ const ROOT: u32 = 0;
 /// What was found at a path.
 #[derive(Clone, Copy)]
 struct Found {
-    standing: Standing,
+    existing: Existing,
     node: Node,
     /// When the file's inode was last changed, in seconds and nanoseconds.
     changed: (i64, i64),
@@ -61,15 +61,15 @@ fn node_of(metadata: &Metadata) -> Node {
 
 /// What is at a path, from the host's metadata.
 fn look_of(metadata: &Metadata) -> Found {
-    let standing = if metadata.is_file() {
-        Standing::Plain(plain_file(metadata))
+    let existing = if metadata.is_file() {
+        Existing::Plain(plain_file(metadata))
     } else if metadata.is_symlink() {
-        Standing::Link(metadata.uid())
+        Existing::Link(metadata.uid())
     } else {
-        Standing::Other
+        Existing::Other
     };
     Found {
-        standing,
+        existing,
         node: node_of(metadata),
         changed: (metadata.ctime(), metadata.ctime_nsec()),
     }
@@ -78,7 +78,7 @@ fn look_of(metadata: &Metadata) -> Found {
 /// The result of a lookup that finds no file.
 fn nothing_found() -> Found {
     Found {
-        standing: Standing::Nothing,
+        existing: Existing::Nothing,
         node: Node {
             device: 0,
             number: 0,
@@ -197,13 +197,13 @@ fn write_and_sync<F: OpenFile + Write + Drop>(file: F, content: &[u8]) -> io::Re
 /// Gives a new file the owner's permissions of the file that it replaces, writes it, and syncs it. Returns its owner and group.
 fn fill<F: OpenFile + Write + Drop>(
     file: F,
-    standing: Standing,
+    existing: Existing,
     content: &[u8],
 ) -> io::Result<Maker>
     ensures { OnOk result (TakesAll F.contents content.now) }
 {
     let maker = maker_of(&file.metadata()?);
-    if let Standing::Plain(old) = standing {
+    if let Existing::Plain(old) = existing {
         // If the host does not set them, the file keeps the narrow mode that it was created with.
         file.set_permissions(kept_permissions(old.mode)).ok();
     }
@@ -225,7 +225,7 @@ fn bring_back<R: Files>(
 {
     let file = OpenOptions::new().write(true).open(rt, second)?;
     let metadata = file.metadata()?;
-    let way = way_of(Standing::Plain(plain_file(&metadata)), exchange.maker);
+    let way = way_of(Existing::Plain(plain_file(&metadata)), exchange.maker);
     if way != Way::SameFile || !is_same_node(node_of(&metadata), exchange.old.node) {
         return Err(not_to_be_written());
     }
@@ -265,7 +265,7 @@ fn take_path<R: Files>(
     exchange: Exchange,
     content: &[u8],
 ) -> io::Result<()> {
-    match way_of(exchange.old.standing, exchange.maker) {
+    match way_of(exchange.old.existing, exchange.maker) {
         Way::SameFile => take_and_return(rt, path, temporary, exchange, content),
         Way::AsNew | Way::OwnersRights | Way::InPlace | Way::Refused => {
             fs::rename(rt, temporary, path)
@@ -278,8 +278,8 @@ fn take_path<R: Files>(
 fn replace_file<R: Files>(rt: &R, path: &str, old: Found, content: &[u8]) -> io::Result<()>
     ensures { OnOk result (TakesAll R.File.contents content.now) }
 {
-    let (temporary, file) = make_temporary(rt, path, creation_mode(old.standing))?;
-    let filled = fill(file, old.standing, content);
+    let (temporary, file) = make_temporary(rt, path, creation_mode(old.existing))?;
+    let filled = fill(file, old.existing, content);
     match filled.and_then(|maker| take_path(
         rt,
         path,
@@ -297,12 +297,12 @@ fn replace_file<R: Files>(rt: &R, path: &str, old: Found, content: &[u8]) -> io:
 }
 
 /// Opens the file at a path for writing in place. It is emptied only later, after it is known to be the one that was found.
-fn open_in_place<R: Files>(rt: &R, path: &str, standing: Standing) -> io::Result<R::File> {
-    match standing {
-        Standing::Nothing => make_new(rt, path, creation_mode(standing)),
-        Standing::Plain(_) => OpenOptions::new().write(true).open(rt, path),
+fn open_in_place<R: Files>(rt: &R, path: &str, existing: Existing) -> io::Result<R::File> {
+    match existing {
+        Existing::Nothing => make_new(rt, path, creation_mode(existing)),
+        Existing::Plain(_) => OpenOptions::new().write(true).open(rt, path),
         // Linux refuses another user's pipe in a directory with the sticky bit only for a call that may create a file.
-        Standing::Link(_) | Standing::Other => OpenOptions::new()
+        Existing::Link(_) | Existing::Other => OpenOptions::new()
             .write(true)
             .create(true)
             .open(rt, path),
@@ -322,14 +322,14 @@ fn is_still_link<R: Files>(rt: &R, path: &str, link: Found) -> bool {
 
 /// Whether the opened file may be written in place of what was found.
 fn is_expected<R: Files>(rt: &R, path: &str, old: Found, opened: &Metadata) -> bool {
-    match old.standing {
-        Standing::Nothing => true,
-        Standing::Plain(_) => {
+    match old.existing {
+        Existing::Nothing => true,
+        Existing::Plain(_) => {
             is_same_node(node_of(opened), old.node)
                 && is_ours_alone(plain_file(opened), maker_here(rt))
         }
-        Standing::Link(_) => is_still_link(rt, path, old),
-        Standing::Other => is_same_node(node_of(opened), old.node),
+        Existing::Link(_) => is_still_link(rt, path, old),
+        Existing::Other => is_same_node(node_of(opened), old.node),
     }
 }
 
@@ -337,7 +337,7 @@ fn is_expected<R: Files>(rt: &R, path: &str, old: Found, opened: &Metadata) -> b
 fn write_in_place<R: Files>(rt: &R, path: &str, old: Found, content: &[u8]) -> io::Result<()>
     ensures { OnOk result (TakesAll R.File.contents content.now) }
 {
-    let file = open_in_place(rt, path, old.standing)?;
+    let file = open_in_place(rt, path, old.existing)?;
     let metadata = file.metadata()?;
     if !is_expected(rt, path, old, &metadata) {
         return Err(not_to_be_written());
@@ -378,7 +378,7 @@ fn set_plain_file<R: Files>(rt: &R, path: &str, old: Found, content: &[u8]) -> i
 fn set_other<R: Files>(rt: &R, path: &str, old: Found, content: &[u8]) -> io::Result<()>
     ensures { OnOk result (TakesAll R.File.contents content.now) }
 {
-    match way_of(old.standing, maker_here(rt)) {
+    match way_of(old.existing, maker_here(rt)) {
         Way::InPlace => write_in_place(rt, path, old, content),
         Way::AsNew | Way::OwnersRights | Way::SameFile | Way::Refused => Err(not_to_be_written()),
     }
@@ -389,8 +389,8 @@ pub(crate) fn set_file<R: Files>(rt: &R, path: &str, content: &[u8]) -> io::Resu
     ensures { OnOk result (TakesAll R.File.contents content.now) }
 {
     let old = look_at(rt, path)?;
-    match old.standing {
-        Standing::Nothing | Standing::Plain(_) => set_plain_file(rt, path, old, content),
-        Standing::Link(_) | Standing::Other => set_other(rt, path, old, content),
+    match old.existing {
+        Existing::Nothing | Existing::Plain(_) => set_plain_file(rt, path, old, content),
+        Existing::Link(_) | Existing::Other => set_other(rt, path, old, content),
     }
 }

@@ -50,12 +50,17 @@ impl<W: Write> Deliver for ByFlush<W> {
 }
 
 /// The bytes of a reader up to its end, but at most `limit` + 1 of them.
-fn read_past<R: Read>(alloc: Global, reader: &mut R, room: usize, limit: u64) -> io::Result<Vec<u8>>
+fn read_past<R: Read>(
+    alloc: Global,
+    reader: &mut R,
+    budget: usize,
+    limit: u64,
+) -> io::Result<Vec<u8>>
     ensures given { IfOk result (λ content. Consumes (R.remaining reader.old) (R.remaining reader.new) content.items) }
     ensures few { IfOk result (λ content. length content.items ≤ limit + 1) }
     ensures end { IfOk result (λ content. length content.items ≤ limit → IsAtEnd (R.remaining reader.new)) }
 {
-    let mut content = Vec::with_capacity(alloc, room)?;
+    let mut content = Vec::with_capacity(alloc, budget)?;
     let mut buffer = [0; 32_768];
     for _ in 0..u64::MAX {
         let held = content.len() as u64;
@@ -120,8 +125,8 @@ pub fn read_within<R: Read>(
     if expected > limit {
         return too_long(reader, limit);
     }
-    let room = expected.saturating_add(1);
-    let content = read_past(alloc, reader, usize::try_from(room).unwrap_or(0), limit)?;
+    let budget = expected.saturating_add(1);
+    let content = read_past(alloc, reader, usize::try_from(budget).unwrap_or(0), limit)?;
     if content.len() as u64 > limit {
         return Ok(Loaded::TooLong);
     }

@@ -33,7 +33,7 @@ pub(crate) struct PlainFile {
 
 /// What is at a path. A symbolic link is not followed.
 #[derive(Clone, Copy)]
-pub(crate) enum Standing {
+pub(crate) enum Existing {
     /// No file exists there.
     Nothing,
     /// A regular file.
@@ -78,12 +78,12 @@ pub(crate) enum Way {
 }
 
 /// The mode that the file next to the path is created with.
-pub(crate) fn creation_mode(standing: Standing) -> u32
-    ensures { result ≡ mode_beside standing }
+pub(crate) fn creation_mode(existing: Existing) -> u32
+    ensures { result ≡ mode_beside existing }
 {
-    match standing {
-        Standing::Nothing => MODE_AS_NEW,
-        Standing::Plain(_) | Standing::Link(_) | Standing::Other => MODE_PRIVATE,
+    match existing {
+        Existing::Nothing => MODE_AS_NEW,
+        Existing::Plain(_) | Existing::Link(_) | Existing::Other => MODE_PRIVATE,
     }
 }
 
@@ -116,26 +116,26 @@ fn follows(owner: u32, maker: Maker) -> bool
 }
 
 /// How a file is saved.
-pub(crate) fn way_of(standing: Standing, maker: Maker) -> Way
-    ensures { result ≡ allowed_way standing maker }
+pub(crate) fn way_of(existing: Existing, maker: Maker) -> Way
+    ensures { result ≡ allowed_way existing maker }
 {
-    match standing {
-        Standing::Nothing => Way::AsNew,
-        Standing::Plain(file) => {
+    match existing {
+        Existing::Nothing => Way::AsNew,
+        Existing::Plain(file) => {
             if returns(file, maker) {
                 Way::SameFile
             } else {
                 Way::OwnersRights
             }
         }
-        Standing::Link(owner) => {
+        Existing::Link(owner) => {
             if follows(owner, maker) {
                 Way::InPlace
             } else {
                 Way::Refused
             }
         }
-        Standing::Other => Way::InPlace,
+        Existing::Other => Way::InPlace,
     }
 }
 

@@ -4,15 +4,16 @@ use Rattle.std.specs.Prelude.{All, ◌||◌}
 use Rattle.std.specs.List.{list_any}
 use Rattle.std.proofs.lemmas.Bool.Decides.{nat_tests}
 use Rattle.std.proofs.lemmas.List.Folds.{list_any_at}
+use Rattle.ddc_base.specs.Limits.{most_address}
 use Rattle.elf_load.specs.declared.Segment.{Segment}
 use Rattle.paged_mem.specs.Memory.{page_up}
 use Rattle.elf_load.specs.Segments.{first_page, page_end, segment_end, is_out_of_range, share_page, any_share}
 use Rattle.elf_load.specs.Inside.Checks.{IsLow}
 
-pub page_up_low : (n : ℕ) → n ≤ 2 ^ 37 → page_up n ≤ 2 ^ 37
+pub page_up_low : (n : ℕ) → n ≤ most_address → page_up n ≤ most_address
 page_up_low n h = omega arith
 
-page_up_high : (n : ℕ) → 2 ^ 37 < n → 2 ^ 37 < page_up n
+page_up_high : (n : ℕ) → most_address < n → most_address < page_up n
 page_up_high n h = omega arith
 
 pub page_up_above : (n : ℕ) → n ≤ page_up n
@@ -23,7 +24,7 @@ pub first_below_end : (segment : Segment) → first_page segment ≤ page_end se
 unfolding first_page page_end
 first_below_end segment = omega arith
 
-pub page_end_low : (segment : Segment) → IsLow segment → page_end segment ≤ 2 ^ 37
+pub page_end_low : (segment : Segment) → IsLow segment → page_end segment ≤ most_address
 unfolding page_end
 page_end_low segment low = page_up_low (segment_end segment) low
 
@@ -36,24 +37,24 @@ pub out_by_file : (size : ℕ) (segment : Segment) → size < segment.offset + s
 unfolding is_out_of_range
 out_by_file size segment h = grind (arith, nat_tests)
 
-pub out_by_memory : (size : ℕ) (segment : Segment) → 2 ^ 37 < segment_end segment → is_out_of_range size segment ≡ true
+pub out_by_memory : (size : ℕ) (segment : Segment) → most_address < segment_end segment → is_out_of_range size segment ≡ true
 unfolding is_out_of_range page_end
 out_by_memory size segment h =
-    let high : 2 ^ 37 < page_up (segment_end segment) = page_up_high (segment_end segment) h in
+    let high : most_address < page_up (segment_end segment) = page_up_high (segment_end segment) h in
     grind (arith, nat_tests)
 
 pub in_range : (size : ℕ) (segment : Segment) → segment.file_size ≤ segment.memory_size
-    → segment.offset + segment.file_size ≤ size → segment_end segment ≤ 2 ^ 37 → is_out_of_range size segment ≡ false
+    → segment.offset + segment.file_size ≤ size → segment_end segment ≤ most_address → is_out_of_range size segment ≡ false
 unfolding is_out_of_range page_end
 in_range size segment file_size in_size low =
-    let fits : page_up (segment_end segment) ≤ 2 ^ 37 = page_up_low (segment_end segment) low in
+    let fits : page_up (segment_end segment) ≤ most_address = page_up_low (segment_end segment) low in
     grind (arith, nat_tests)
 
 -- what a segment in range is
 pub record InRange (size : ℕ) (segment : Segment) : Type 0 where
   pub file_size : segment.file_size ≤ segment.memory_size
   pub in_size : segment.offset + segment.file_size ≤ size
-  pub low : page_end segment ≤ 2 ^ 37
+  pub low : page_end segment ≤ most_address
 
 pub range_of : (size : ℕ) (segment : Segment) → is_out_of_range size segment ≡ false → InRange size segment
 unfolding is_out_of_range
@@ -63,7 +64,7 @@ range_of size segment h = record {
   low = grind (arith, nat_tests);
 }
 
-pub low_of : (segment : Segment) → page_end segment ≤ 2 ^ 37 → IsLow segment
+pub low_of : (segment : Segment) → page_end segment ≤ most_address → IsLow segment
 unfolding page_end
 low_of segment h = let above = page_up_above (segment_end segment) in omega arith
 

@@ -7,6 +7,7 @@ use Rattle.std.proofs.lemmas.Bool.Decides.{nat_tests}
 use Rattle.std.proofs.lemmas.List.Elements.{All-same}
 use Rattle.std.proofs.lemmas.List.Folds.{Any-from_list_any}
 use Rattle.std.proofs.Math.Nat.{le-max_left, le-max_right, max-le}
+use Rattle.ddc_base.specs.Limits.{most_address, most_loaded}
 use Rattle.elf_load.specs.declared.Segment.{Segment}
 use Rattle.elf_load.specs.declared.refusal.ElfRefusal.{ElfRefusal}
 use Rattle.elf_load.specs.declared.refusal.ElfRefusal.TheVariants.{NoLoad, TooMany}
@@ -98,7 +99,7 @@ above_each most (segment ∷ rest) k d lt =
     all_onto (λ one. segment_end one ≤ ends_from most (segment ∷ rest)) segment rest (omega arith)
     (above_each (max most (segment_end segment)) rest) k d lt
 
-ends_low : (most : ℕ) (segments : List Segment) → most ≤ 2 ^ 37 → All IsLow segments → ends_from most segments ≤ 2 ^ 37
+ends_low : (most : ℕ) (segments : List Segment) → most ≤ most_address → All IsLow segments → ends_from most segments ≤ most_address
 ends_low most [] low all = low
 ends_low most (segment ∷ rest) low all =
     ends_low (max most (segment_end segment)) rest (max-le low (all 0 segment (omega arith))) (λ k d lt. all (suc k) d (omega arith))
@@ -123,7 +124,7 @@ few_of n is = grind (arith, nat_tests)
 some_of : (n : ℕ) → (n == 0) ≡ false → 0 < n
 some_of n is = grind (arith, nat_tests)
 
-together_of : (n : ℕ) → nat_lt 268435456 n ≡ false → n ≤ 268435456
+together_of : (n : ℕ) → nat_lt most_loaded n ≡ false → n ≤ most_loaded
 together_of n is = grind (arith, nat_tests)
 
 -- an image whose file no rule refuses
@@ -137,7 +138,7 @@ sound file size table placing entry =
     let counted : first_refusal ((length (segments_of file) == 0, NoLoad) ∷ (nat_lt 16 (length (segments_of file)), TooMany) ∷ []) ≡ None = others_fail _ _ _ table in
     let some : (length (segments_of file) == 0) ≡ false = first_fails _ _ _ counted in
     let few : nat_lt 16 (length (segments_of file)) ≡ false = first_fails _ _ _ (others_fail _ _ _ counted) in
-    let ranged = or_fails (list_any (is_out_of_range size) (segments_of file)) (nat_lt 268435456 (sum_by paged_size (segments_of file))) (first_fails _ _ _ placing) in
+    let ranged = or_fails (list_any (is_out_of_range size) (segments_of file)) (nat_lt most_loaded (sum_by paged_size (segments_of file))) (first_fails _ _ _ placing) in
     let shared : any_share (segments_of file) ≡ false = first_fails _ _ _ (others_fail _ _ _ placing) in
     let inside = and_holds (e_entry file % 4 == 0) (list_any (holds_address (e_entry file)) (segments_of file)) (first_fails _ _ _ entry) in
     record {

@@ -1,7 +1,8 @@
 -- The image of a file: its first refusal, or what is to be placed in memory.
 -- docs/reference/loader.md is the page for readers.
-use Rattle.std.specs.Prelude.{◌≡◌, ◌≤◌, ◌<◌, ℕ, ◌+◌, ◌*◌, ◌%◌, ◌^◌, ◌==◌, Bool, ◌&&◌, ◌||◌, not, cond, nat_eq, nat_lt, List, [], ◌∷◌, ◌++◌, length, Option, Some, None, Result, Ok, Err, All, AllPairs, Any, sum_by, true}
+use Rattle.std.specs.Prelude.{◌≡◌, ◌≤◌, ◌<◌, ℕ, ◌+◌, ◌*◌, ◌%◌, ◌==◌, Bool, ◌&&◌, ◌||◌, not, cond, nat_eq, nat_lt, List, [], ◌∷◌, ◌++◌, length, Option, Some, None, Result, Ok, Err, All, AllPairs, Any, sum_by, true}
 use Rattle.std.specs.List.{list_any, starts_with}
+use Rattle.ddc_base.specs.Limits.{most_address, most_loaded}
 use Rattle.elf_load.specs.declared.Segment.{Segment}
 use Rattle.elf_load.specs.declared.Image.{Image}
 use Rattle.elf_load.specs.declared.refusal.ElfRefusal.{ElfRefusal}
@@ -40,7 +41,7 @@ table_rules file =
 -- each segment is in range in a file of `size` bytes, all of them together are within the limit, and no two share a page
 unfoldable pub placing_rules : ℕ → List Segment → List Rule
 placing_rules size segments =
-    (list_any (is_out_of_range size) segments || nat_lt 268435456 (sum_by paged_size segments), SegmentRange)
+    (list_any (is_out_of_range size) segments || nat_lt most_loaded (sum_by paged_size segments), SegmentRange)
     ∷ (any_share segments, Overlap)
     ∷ []
 
@@ -79,9 +80,9 @@ pub record IsLoadable (size : ℕ) (image : Image) : Type 0 where
   pub few : length image.segments.items ≤ 16
   pub placed : All (IsPlaced size) image.segments.items
   pub apart : AllPairs AreApart image.segments.items
-  pub together : sum_by paged_size image.segments.items ≤ 268435456
+  pub together : sum_by paged_size image.segments.items ≤ most_loaded
   pub entry_aligned : image.entry % 4 ≡ 0
   pub entry_inside : Any (λ segment. holds_address image.entry segment ≡ true) image.segments.items
   pub break_aligned : image.first_break % 4096 ≡ 0
   pub break_above : All (λ segment. page_end segment ≤ image.first_break) image.segments.items
-  pub break_low : image.first_break ≤ 2 ^ 37
+  pub break_low : image.first_break ≤ most_address

@@ -1,7 +1,8 @@
 -- Segments: what a file places in memory, and in which pages.
 -- docs/reference/loader.md is the page for readers.
-use Rattle.std.specs.Prelude.{◌≤◌, ◌<◌, ℕ, ◌+◌, ◌-◌, ◌*◌, ◌/◌, ◌^◌, ◌==◌, Bool, false, ◌&&◌, ◌||◌, not, nat_lt, nat_le, List, [], ◌∷◌, ◌⊎◌, max, map}
+use Rattle.std.specs.Prelude.{◌≤◌, ◌<◌, ℕ, ◌+◌, ◌-◌, ◌*◌, ◌/◌, ◌==◌, Bool, false, ◌&&◌, ◌||◌, not, nat_lt, nat_le, List, [], ◌∷◌, ◌⊎◌, max, map}
 use Rattle.std.specs.List.{filter, fold, list_any}
+use Rattle.ddc_base.specs.Limits.{most_address}
 use Rattle.paged_mem.specs.Memory.{page_up}
 use Rattle.elf_load.specs.declared.Segment.{Segment}
 use Rattle.elf_load.specs.Fields.{headers, p_type, p_offset, p_vaddr, p_filesz, p_memsz}
@@ -55,7 +56,7 @@ unfoldable pub is_out_of_range : ℕ → Segment → Bool
 is_out_of_range size segment =
     nat_lt segment.memory_size segment.file_size
     || nat_lt size (segment.offset + segment.file_size)
-    || nat_lt (2 ^ 37) (page_end segment)
+    || nat_lt most_address (page_end segment)
 
 -- whether two segments have a page in common
 abbrev pub share_page : Segment → Segment → Bool
@@ -79,7 +80,7 @@ pub record IsPlaced (size : ℕ) (segment : Segment) : Type 0 where
   pub is_there : 0 < segment.memory_size
   pub file_size : segment.file_size ≤ segment.memory_size
   pub in_range : segment.offset + segment.file_size ≤ size
-  pub low : page_end segment ≤ 2 ^ 37
+  pub low : page_end segment ≤ most_address
 
 -- all pages of one are below those of the other
 abbrev pub AreApart : Segment → Segment → Type 0

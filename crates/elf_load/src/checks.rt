@@ -1,20 +1,17 @@
 //! Checks the header, the positions of the segments, and the entry.
 
 ghost use Rattle.elf_load.specs.Fields.{e_phoff, e_phnum};
+ghost use Rattle.ddc_base.specs.Limits.{most_address};
 ghost use Rattle.elf_load.specs.Image.{header_rules, placing_rules, entry_rules};
 ghost use Rattle.elf_load.specs.Inside.Checks.{HoldsTable, Judges, IsLow};
 ghost use Rattle.paged_mem.specs.Memory.{page_up};
 ghost use Rattle.elf_load.specs.Segments.{is_out_of_range, paged_size, first_page, page_end, share_page, any_share, holds_address, break_after};
 ghost use Rattle.std.specs.List.{list_any};
-ghost use Rattle.std.specs.Prelude.{◌≡◌, ◌+◌, ◌*◌, ◌^◌, ◌<◌, ◌≤◌, length, nat_le, OnOk, All, sum_by};
+ghost use Rattle.std.specs.Prelude.{◌≡◌, ◌+◌, ◌*◌, ◌<◌, ◌≤◌, length, nat_le, OnOk, All, sum_by};
 
 use super::{ElfRefusal, Segment, fields};
+use ddc_base::limits::{MOST_ADDRESS, MOST_LOADED};
 use paged_mem::PAGE;
-
-/// The highest address at which a segment's pages may end.
-const HIGHEST: u64 = 1 << 37;
-/// The most bytes that the pages of all segments take together.
-const MOST_TOGETHER: u64 = 268_435_456;
 
 /// RISC-V and an executable file, in the numbers of the ELF standard.
 const RISC_V: u16 = 243;
@@ -70,7 +67,7 @@ pub(crate) fn check_placing(segments: &[Segment], size: u64) -> Result<(), ElfRe
     if any_out_of_range(segments, size) {
         return Err(ElfRefusal::SegmentRange);
     }
-    if pages_together(segments) > MOST_TOGETHER {
+    if pages_together(segments) > MOST_LOADED {
         return Err(ElfRefusal::SegmentRange);
     }
     if any_share(segments) {
@@ -95,8 +92,8 @@ fn is_out_of_range(segment: &Segment, size: u64) -> bool
     segment.file_size > segment.memory_size
         || segment.file_size > size
         || segment.offset > size - segment.file_size
-        || segment.memory_size > HIGHEST
-        || segment.address > HIGHEST - segment.memory_size
+        || segment.memory_size > MOST_ADDRESS
+        || segment.address > MOST_ADDRESS - segment.memory_size
 }
 
 /// The number of bytes of all the segments' pages.
@@ -117,7 +114,7 @@ fn pages_together(segments: &[Segment]) -> u64
 fn paged_size(segment: &Segment) -> u64
     requires { IsLow segment.now }
     ensures value { result ≡ paged_size segment.now }
-    ensures small { result ≤ 2 ^ 37 }
+    ensures small { result ≤ most_address }
 {
     page_end(segment) - first_page(segment)
 }
@@ -211,7 +208,7 @@ pub(crate) fn break_after(segments: &[Segment]) -> u64
 
 /// The first multiple of the page size that is not below `address`.
 fn page_up(address: u64) -> u64
-    requires { address ≤ 2 ^ 37 }
+    requires { address ≤ most_address }
     ensures { result ≡ page_up address }
 {
     (address + (PAGE - 1)) / PAGE * PAGE

@@ -6,6 +6,7 @@ use Rattle.std.specs.FinMap.{get, contains_key}
 use Rattle.std.proofs.lemmas.Bool.{cases_lt}
 use Rattle.std.proofs.lemmas.Bool.Decides.{nat_tests}
 use Rattle.std.proofs.lemmas.List.Sums.{sum_by-cons}
+use Rattle.ddc_base.specs.Limits.{most_heap, most_loaded, most_pages_apart, most_texts, page_number_end, stack_size}
 use Rattle.paged_mem.specs.Memory.{Memory, bytes_of, maps, with_bytes, zeros}
 use Rattle.paged_mem.specs.Inside.Wholeness.{get-with_bytes_below, get-with_bytes_above}
 use Rattle.paged_mem.proofs.Mapped.{length-zeros}
@@ -19,11 +20,11 @@ use Rattle.elf_load.specs.declared.Segment.{Segment}
 use Rattle.elf_load.specs.declared.Image.{Image}
 use Rattle.elf_load.specs.Segments.{first_page, page_end, paged_size, IsPlaced}
 use Rattle.elf_load.specs.Image.{IsLoadable}
-use Rattle.guest_run.specs.Stack.{addresses, gap, ended_texts, stack_bytes, stack_end, stack_pointer, stack_size, start_size, texts_at, word_count, stack_words}
+use Rattle.guest_run.specs.Stack.{addresses, gap, ended_texts, stack_bytes, stack_end, stack_pointer, start_size, texts_at, word_count, stack_words}
 use Rattle.guest_run.specs.Placed.{with_segments, with_stack}
 use Rattle.guest_run.specs.Valid.{Fits, pages_apart, pages_from}
 use Rattle.elf_load.proofs.Pages.{none_at}
-use Rattle.guest_run.proofs.Places.{first_page-is, IsApart, maps-within, page_end-is, unmapped_apart}
+use Rattle.guest_run.proofs.SegmentAddresses.{first_page-is, IsApart, maps-within, page_end-is, unmapped_apart}
 
 -- the stack's bytes end at its end
 length-addresses : (at : ℕ) (texts : List (List ℕ)) → length (addresses at texts) ≡ length texts
@@ -46,7 +47,7 @@ length-words args env =
     let two = length-append (length args ∷ addresses (texts_at args env) args) (0 ∷ addresses (texts_at args env + length (ended_texts args)) env) in
     omega (arith, a, e, one, two)
 
-pub stack_length : (args env : List (List ℕ)) → start_size args env ≤ 131072
+pub stack_length : (args env : List (List ℕ)) → start_size args env ≤ most_texts
     → stack_pointer args env + length (stack_bytes args env) ≡ stack_end
 unfolding stack_bytes
 stack_length args env fits =
@@ -58,7 +59,7 @@ stack_length args env fits =
     let nothing = length-zeros (gap args env) in
     omega (arith, one, two, three, eight, count, nothing)
 
-pub stack_low : (args env : List (List ℕ)) → start_size args env ≤ 131072 → stack_end - stack_size ≤ stack_pointer args env
+pub stack_low : (args env : List (List ℕ)) → start_size args env ≤ most_texts → stack_end - stack_size ≤ stack_pointer args env
 stack_low args env fits = omega arith
 
 -- an address below the stack
@@ -216,8 +217,8 @@ mapped_page program segments at bytes page clear placed low ends is =
 
 few_from : (program : List ℕ) (segments : List Segment) (at : ℕ) (bytes : List ℕ) (heap' : Heap) (count : ℕ)
     → All (IsPlaced (length program)) segments → stack_end - stack_size ≤ at → at + length bytes ≡ stack_end
-    → sum_by paged_size segments ≤ 268435456
-    → count_by (λ page. contains_key (with_stack (with_segments program segments) at bytes) (4096 * page) && is_apart_from_heap heap' (4096 * page)) (pages_from 0 count) ≤ 67584
+    → sum_by paged_size segments ≤ most_loaded
+    → count_by (λ page. contains_key (with_stack (with_segments program segments) at bytes) (4096 * page) && is_apart_from_heap heap' (4096 * page)) (pages_from 0 count) ≤ most_pages_apart
 few_from program segments at bytes heap' count placed low ends together =
     let both = count_le
     (λ page. contains_key (with_stack (with_segments program segments) at bytes) (4096 * page) && is_apart_from_heap heap' (4096 * page))
@@ -229,14 +230,14 @@ few_from program segments at bytes heap' count placed low ends together =
 
 few_pages : (program : List ℕ) (segments : List Segment) (at : ℕ) (bytes : List ℕ) (heap' : Heap)
     → All (IsPlaced (length program)) segments → stack_end - stack_size ≤ at → at + length bytes ≡ stack_end
-    → sum_by paged_size segments ≤ 268435456
-    → pages_apart (with_stack (with_segments program segments) at bytes) heap' ≤ 67584
+    → sum_by paged_size segments ≤ most_loaded
+    → pages_apart (with_stack (with_segments program segments) at bytes) heap' ≤ most_pages_apart
 unfolding pages_apart
 few_pages program segments at bytes heap' placed low ends together =
-    few_from program segments at bytes heap' (2 ^ 26) placed low ends together
+    few_from program segments at bytes heap' page_number_end placed low ends together
 
 -- the heap of a program that starts is empty, and free up to its limit
-heap_starts : (program : List ℕ) (image : Image) (at : ℕ) (bytes : List ℕ) (limit : ℕ) → IsLoadable (length program) image → limit ≤ 2 ^ 30
+heap_starts : (program : List ℕ) (image : Image) (at : ℕ) (bytes : List ℕ) (limit : ℕ) → IsLoadable (length program) image → limit ≤ most_heap
     → stack_end - stack_size ≤ at
     → IsHeapOf (with_stack (with_segments program image.segments.items) at bytes)
     (record { first = image.first_break; now = image.first_break; limit = limit })
@@ -258,7 +259,7 @@ heap_starts program image at bytes limit sound small low =
     }
 
 pub fits_start : (program : List ℕ) (args env : List (List ℕ)) (image : Image) (limit : ℕ) → IsLoadable (length program) image
-    → start_size args env ≤ 131072 → limit ≤ 2 ^ 30
+    → start_size args env ≤ most_texts → limit ≤ most_heap
     → Fits (with_stack (with_segments program image.segments.items) (stack_pointer args env) (stack_bytes args env))
     (record { first = image.first_break; now = image.first_break; limit = limit })
 fits_start program args env image limit sound fits small =

@@ -6,7 +6,7 @@ use Rattle.std.specs.Cmp.Lexicographic.{nat_list_cmp_total}
 use Rattle.std.specs.FinMap as fin
 use Rattle.mem_files.specs.declared.open_file.PlaceRefusal.{PlaceRefusal}
 use Rattle.mem_files.specs.declared.open_file.PlaceRefusal.TheVariants.{BadName, Twice, Full, OutOfMemory}
-use Rattle.mem_files.specs.Limits.{most_content, most_names}
+use Rattle.ddc_base.specs.Limits.{most_content, most_heap, most_names}
 use Rattle.mem_files.specs.Names.{bytes_cmp, is_file_name}
 use Rattle.mem_files.specs.Sound.{AreBytes}
 use Rattle.mem_files.proofs.Keeping.{neither}
@@ -18,7 +18,7 @@ no_entries : (es : List (List ℕ × List ℕ)) → length es ≡ 0 → All IsBo
 no_entries [] none = All-nil IsBoxFile
 no_entries (e ∷ es) none = absurd (omega arith)
 
-pub empty-box : (heap : ℕ) → heap ≤ 2 ^ 30 → IsBox (record { args = []; env = []; files = fin.empty; heap = heap })
+pub empty-box : (heap : ℕ) → heap ≤ most_heap → IsBox (record { args = []; env = []; files = fin.empty; heap = heap })
 empty-box heap small = record {
   args = All-nil IsText;
   arg_bytes = All-nil AreBytes;
@@ -46,7 +46,7 @@ few_more files name content fits =
     by_tests false false false t f e =
         let more : fin.len (fin.insert files name content) ≡ fin.len files + 1 =
         fin.len-insert nat_list_cmp_total files name content ∙ ap (λ b. cond b (fin.len files) (fin.len files + 1)) t in
-        let room = leb-false most_names (fin.len files) (neither (nat_lt most_content (length content)) (nat_le most_names (fin.len files)) f).1 in
+        let capacity = leb-false most_names (fin.len files) (neither (nat_lt most_content (length content)) (nat_le most_names (fin.len files)) f).1 in
         omega arith
 
 pub placed-box : (box : Setting) (name content : List ℕ) (result : Result (Unit {0}) PlaceRefusal) (files : FileMap) → IsBox box

@@ -1,5 +1,6 @@
 -- Counts of pages in a row, and what a search of a memory finds.
 use Rattle.std.proofs.Common.{◌≡◌, ℕ, zero, suc, ◌+◌, ◌-◌, ◌*◌, ◌/◌, ◌%◌, ◌^◌, ◌<◌, ◌≤◌, Bool, true, false, cond, ◌&&◌, None, is_some, [], ◌∷◌, ◌++◌, sum_by, inl, inr, refl, sym, ap, ◌∙◌, arith}
+use Rattle.ddc_base.specs.Limits.{page_number_end}
 use mir.Val.{bool_byte}
 use Rattle.std.specs.Prelude.{count_by}
 use Rattle.std.specs.FinMap.{contains_key, get}
@@ -92,7 +93,7 @@ module _ (m : Memory) (heap : Heap) where
   mapped page is = ap (λ b. b && clear page) is
 
   -- a run that is found, after what was counted
-  pub run_counted : (page first pages : ℕ) → page ≤ 2 ^ 26 → IsRun m (4096 * page) first pages
+  pub run_counted : (page first pages : ℕ) → page ≤ page_number_end → IsRun m (4096 * page) first pages
       → count_by (λ page. contains_key m (4096 * page) && is_apart_from_heap heap (4096 * page)) (pages_from 0 (first / 4096 + pages))
       ≡ count_by (λ page. contains_key m (4096 * page) && is_apart_from_heap heap (4096 * page)) (pages_from 0 page) + count_by (λ page. is_apart_from_heap heap (4096 * page)) (pages_from (first / 4096) pages)
   run_counted page first pages low run =
@@ -105,21 +106,21 @@ module _ (m : Memory) (heap : Heap) where
       same_count counted (λ page. false) (0 + page) gap (λ k less. unmapped (0 + page + k) (run.before (4096 * (0 + page + k)) (omega arith) (omega arith))) ∙ nothing (0 + page) gap in
       let all : count_by counted (pages_from (0 + page + gap) pages) ≡ count_by clear (pages_from (0 + page + gap) pages) =
       same_count counted clear (0 + page + gap) pages (λ k less. mapped (0 + page + gap + k) (each_by_maps m first (4096 * pages) run.mapped (4096 * (0 + page + gap + k)) (omega arith) (omega arith))) in
-      let place : count_by clear (pages_from (0 + page + gap) pages) ≡ count_by clear (pages_from (first / 4096) pages) = ap (count_by clear) (same_row (0 + page + gap) (first / 4096) pages pages (omega arith) refl) in
-      ap (count_by counted) (same_row 0 0 (first / 4096 + pages) (page + (gap + pages)) refl (omega arith)) ∙ omega (arith, split, again, none, all, place)
+      let shifted : count_by clear (pages_from (0 + page + gap) pages) ≡ count_by clear (pages_from (first / 4096) pages) = ap (count_by clear) (same_row (0 + page + gap) (first / 4096) pages pages (omega arith) refl) in
+      ap (count_by counted) (same_row 0 0 (first / 4096 + pages) (page + (gap + pages)) refl (omega arith)) ∙ omega (arith, split, again, none, all, shifted)
 
-  pub run_low : (page first pages : ℕ) → IsRun m (4096 * page) first pages → first / 4096 + pages ≤ 2 ^ 26
+  pub run_low : (page first pages : ℕ) → IsRun m (4096 * page) first pages → first / 4096 + pages ≤ page_number_end
   run_low page first pages run = omega (arith, run.low)
 
   -- no run is left
-  pub none_counted : (page : ℕ) → page ≤ 2 ^ 26 → RunsFrom m (4096 * page) None → pages_apart m heap ≡ count_by (λ page. contains_key m (4096 * page) && is_apart_from_heap heap (4096 * page)) (pages_from 0 page)
+  pub none_counted : (page : ℕ) → page ≤ page_number_end → RunsFrom m (4096 * page) None → pages_apart m heap ≡ count_by (λ page. contains_key m (4096 * page) && is_apart_from_heap heap (4096 * page)) (pages_from 0 page)
   unfolding pages_apart
   none_counted page low free =
-      let left : ℕ = 2 ^ 26 - page in
+      let left : ℕ = page_number_end - page in
       let split : count_by counted (pages_from 0 (page + left)) ≡ count_by counted (pages_from 0 page) + count_by counted (pages_from (0 + page) left) = count_row counted 0 page left in
       let none : count_by counted (pages_from (0 + page) left) ≡ 0 =
       same_count counted (λ page. false) (0 + page) left (λ k less. unmapped (0 + page + k) (free (4096 * (0 + page + k)) (omega arith))) ∙ nothing (0 + page) left in
-      ap (count_by counted) (same_row 0 0 (2 ^ 26) (page + left) refl (omega arith)) ∙ omega (arith, split, none)
+      ap (count_by counted) (same_row 0 0 page_number_end (page + left) refl (omega arith)) ∙ omega (arith, split, none)
 
 -- a truth value as a number
 pub byte_is : (b : Bool) → bool_byte b ≡ cond b 1 0

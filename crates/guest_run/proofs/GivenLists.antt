@@ -15,7 +15,7 @@ use Rattle.std.proofs.lemmas.List.Sums.{sum_by-cons}
 use Rattle.mem_files.specs.Names.{begins_with_dot_slash, bytes_cmp, is_file_name, is_stripped_name, stripped}
 use Rattle.mem_files.specs.World.{World, content_of, lowest_unused, total}
 use Rattle.mem_files.specs.Calls.{first_world, is_full, placed, placed_as, with_file}
-use Rattle.mem_files.specs.Limits.{most_content, most_names, most_total}
+use Rattle.ddc_base.specs.Limits.{most_content, most_names, most_total}
 use Rattle.mem_files.proofs.Directory.{from_sorted-put, len-from_sorted}
 use Rattle.mem_files.specs.Sound.{IsSound}
 use Rattle.mem_files.proofs.KeepingCalls.{stripped-is}
@@ -142,7 +142,7 @@ pub record CanPlace (world : World) (files : List File) : Type 0 where
   pub small : All (λ file. length file.1 ≤ most_content) files
   pub fresh : All (λ file. fin.get world.names file.0 ≡ None) files
   pub few : fin.len world.names + length files ≤ most_names
-  pub room : total world + sum_by file_size files ≤ most_total
+  pub capacity : total world + sum_by file_size files ≤ most_total
 
 -- a stripped name stays as it is
 and_true : (a b : Bool) → (a && b) ≡ true → (a ≡ true) × (b ≡ true)
@@ -170,16 +170,16 @@ good_name name is =
 -- the place of a file that no rule refuses
 placed_well : (world : World) (name content : List ℕ) → is_file_name name ≡ true → fin.contains_key world.names name ≡ false
     → is_full world (length content) ≡ false → placed_as world name content ≡ (Ok tt, with_file world name content)
-placed_well world name content is absent room =
+placed_well world name content is absent capacity =
     λ i. cond (not (is i)) (Err BadName, world)
-    (cond (absent i) (Err Twice, world) (cond (room i) (Err Full, world) (Ok tt, with_file world name content)))
+    (cond (absent i) (Err Twice, world) (cond (capacity i) (Err Full, world) (Ok tt, with_file world name content)))
 
 not_full : (world : World) (len : ℕ) → len ≤ most_content → total world + len ≤ most_total → fin.len world.names < most_names → is_full world len ≡ false
-not_full world len small room few = full_of (total world) len (fin.len world.names) small room few
+not_full world len small capacity few = full_of (total world) len (fin.len world.names) small capacity few
   where
-    full_of : (t l n : ℕ) → l ≤ 268435456 → t + l ≤ 536870912 → n < 4096
-        → (nat_lt 268435456 l || nat_lt 536870912 (t + l) || nat_le 4096 n) ≡ false
-    full_of t l n small' room' few' = grind (arith, nat_tests)
+    full_of : (t l n : ℕ) → l ≤ most_content → t + l ≤ most_total → n < most_names
+        → (nat_lt most_content l || nat_lt most_total (t + l) || nat_le most_names n) ≡ false
+    full_of t l n small' capacity' few' = grind (arith, nat_tests)
 
 -- what the first of the files leaves
 size_of_more : (file : File) (files : List File) → sum_by file_size (file ∷ files) ≡ length file.1 + sum_by file_size files
@@ -192,7 +192,7 @@ place_next world file files can =
     let fresh : fin.get world.names file.0 ≡ None = All-head (λ f. fin.get world.names f.0 ≡ None) file files can.fresh in
     let small : length file.1 ≤ most_content = All-head (λ f. length f.1 ≤ most_content) file files can.small in
     let more = size_of_more file files in
-    let room = can.room in
+    let capacity = can.capacity in
     let few = can.few in
     ap (λ name. placed_as world name file.1) (stripped_stays file.0 named)
     ∙ placed_well world file.0 file.1 ((and_true (is_file_name file.0) (not (begins_with_dot_slash file.0)) named).0) (ap is_some fresh)
@@ -228,7 +228,7 @@ placed_next world file files can =
     fin.len-insert nat_list_cmp_total world.names file.0 (lowest_unused world.files)
     ∙ ap (λ o. cond (is_some o) (fin.len world.names) (fin.len world.names + 1)) fresh in
     let few = can.few in
-    let room = can.room in
+    let capacity = can.capacity in
     record {
       sorted = parts.1;
       named = All-tail (λ f. IsTrue (is_stripped_name f.0)) file files can.named;
@@ -241,7 +241,7 @@ placed_next world file files can =
           (below_at file.0 files (of_true (below_all bytes_cmp file.0 files) parts.0) k d lt))
           ∙ All-tail (λ f. fin.get world.names f.0 ≡ None) file files can.fresh k d lt;
       few = omega (arith, longer);
-      room = omega (arith, more, grown);
+      capacity = omega (arith, more, grown);
     }
 
 -- a world with no file takes all that are given
@@ -261,7 +261,7 @@ sizes_of files each = All-weaker IsBoxFile (λ file. length file.1 ≤ most_cont
 
 pub can_start : (files : List File) (size : ℕ) → IsTrue (fin.is_sorted bytes_cmp files) → All IsBoxFile files → length files ≤ most_names
     → size ≡ sum_by file_size files → size ≤ most_total → CanPlace first_world files
-can_start files size sorted each few counted room =
+can_start files size sorted each few counted capacity =
     let none = no_bytes in
     let names : fin.len first_world.names ≡ 0 = fin.len-empty bytes_cmp ℕ in
     record {
@@ -270,7 +270,7 @@ can_start files size sorted each few counted room =
       small = sizes_of files each;
       fresh = λ k d lt. fin.get-empty bytes_cmp (get_or files k d).0;
       few = omega (arith, names);
-      room = omega (arith, none);
+      capacity = omega (arith, none);
     }
 
 -- the files of a start keep their rules

@@ -1,6 +1,6 @@
 pub mod Beginnings
 pub mod GivenLists
-pub mod Places
+pub mod SegmentAddresses
 pub mod RunLaws
 pub mod Running
 pub mod Starting

@@ -11,7 +11,7 @@ use Rattle.std.proofs.lemmas.Option.{none-some}
 use Rattle.paged_mem.specs.Memory.{Memory, IsWhole, bytes_of, with_bytes, zeros}
 use Rattle.paged_mem.proofs.Mapped.{length-zeros}
 use Rattle.paged_mem.proofs.Numbers.{bytes_of-small}
-use Rattle.mem_files.specs.Limits.{most_total}
+use Rattle.ddc_base.specs.Limits.{address_end, most_texts, most_total, stack_size}
 use Rattle.mem_files.specs.Sound.{AreBytes}
 use Rattle.elf_load.specs.declared.Image.{Image}
 use Rattle.elf_load.specs.declared.Segment.{Segment}
@@ -20,7 +20,7 @@ use Rattle.elf_load.proofs.Images.{image-sound}
 use Rattle.elf_load.specs.Image.{image_of, IsLoadable}
 use Rattle.elf_load.specs.Segments.{first_page, holds_address, paged_size, IsPlaced}
 use Rattle.paged_mem.proofs.Wholes.{whole-mapped, whole-written}
-use Rattle.guest_run.specs.Stack.{zero_ended, gap, ended_texts, stack_bytes, stack_end, stack_pointer, stack_size, start_size, stack_words}
+use Rattle.guest_run.specs.Stack.{zero_ended, gap, ended_texts, stack_bytes, stack_end, stack_pointer, start_size, stack_words}
 use Rattle.guest_run.specs.Placed.{segment_bytes, with_segment, with_segments, with_stack}
 use Rattle.guest_run.specs.Setting.{Setting, files_size, IsBox}
 use Rattle.guest_run.specs.State.{GuestState}
@@ -30,7 +30,7 @@ use Rattle.guest_run.proofs.Beginnings.{fits_start, stack_length, stack_low}
 use Rattle.guest_run.proofs.GivenLists.{start-sound}
 use Rattle.guest_run.proofs.Starting.{judge, starts_are}
 use borrow.Author.Tests.{ltb-false}
-use Rattle.guest_run.proofs.Places.{first_page-is, maps-within, page_end-is}
+use Rattle.guest_run.proofs.SegmentAddresses.{first_page-is, maps-within, page_end-is}
 
 abbrev IsByte : ℕ → Type 0
 IsByte = λ byte. byte < 256
@@ -70,7 +70,7 @@ empty-whole = record {
 }
 
 -- pages of zeros with bytes among them
-paged-whole : (m : Memory) (first size at : ℕ) (bytes : List ℕ) → IsWhole m → first % 4096 ≡ 0 → size % 4096 ≡ 0 → first + size ≤ 2 ^ 38
+paged-whole : (m : Memory) (first size at : ℕ) (bytes : List ℕ) → IsWhole m → first % 4096 ≡ 0 → size % 4096 ≡ 0 → first + size ≤ address_end
     → first ≤ at → at + length bytes ≤ first + size → AreBytes bytes → IsWhole (with_bytes (with_bytes m first (zeros size)) at bytes)
 paged-whole m first size at bytes whole aligned pages high from to are =
     let long = length-zeros size in
@@ -99,7 +99,7 @@ segments-whole program (segment ∷ segments) m are placed whole =
     (segment-whole program m segment are (All-head (IsPlaced (length program)) segment segments placed) whole)
 
 memory-whole : (program : List ℕ) (segments : List Segment) (args env : List (List ℕ)) → AreBytes program → All (IsPlaced (length program)) segments
-    → All AreBytes args → All AreBytes env → start_size args env ≤ 131072
+    → All AreBytes args → All AreBytes env → start_size args env ≤ most_texts
     → IsWhole (with_stack (with_segments program segments) (stack_pointer args env) (stack_bytes args env))
 unfolding with_stack
 memory-whole program segments args env are placed of_args of_env fits =
@@ -123,7 +123,7 @@ entry_low size segments entry placed inside =
 
 -- the state of a start
 pub start-valid : (program : List ℕ) (setting : Setting) (image : Image) → AreBytes program → IsBox setting → IsLoadable (length program) image
-    → start_size setting.args setting.env ≤ 131072 → files_size setting.files ≤ most_total → IsValid (start_state program setting image)
+    → start_size setting.args setting.env ≤ most_texts → files_size setting.files ≤ most_total → IsValid (start_state program setting image)
 unfolding start_state
 start-valid program setting image are box sound fits small = record {
   hart = record {
@@ -147,16 +147,16 @@ unfolding start_of
 starts-valid program setting guest are box e = (by_image (image_of program) refl e, starts_are program setting guest e)
   where
     by_tests : (image : Image) → image_of program ≡ Ok image → (long large : Bool)
-        → nat_lt 131072 (start_size setting.args setting.env) ≡ long → nat_lt most_total (files_size setting.files) ≡ large
+        → nat_lt most_texts (start_size setting.args setting.env) ≡ long → nat_lt most_total (files_size setting.files) ≡ large
         → judge long large (start_state program setting image) ≡ Ok guest → IsValid guest
     by_tests image was true large l r e = cc
     by_tests image was false true l r e = cc
     by_tests image was false false l r e =
         let same : start_state program setting image ≡ guest = cc in
         subst IsValid same (start-valid program setting image are box (image-sound program image was)
-        (ltb-false 131072 (start_size setting.args setting.env) l) (ltb-false most_total (files_size setting.files) r))
+        (ltb-false most_texts (start_size setting.args setting.env) l) (ltb-false most_total (files_size setting.files) r))
 
     by_image : (r : Result Image ElfRefusal) → image_of program ≡ r → started program setting r ≡ Ok guest → IsValid guest
     by_image (Err refusal) was e = cc
     by_image (Ok image) was e =
-        by_tests image was (nat_lt 131072 (start_size setting.args setting.env)) (nat_lt most_total (files_size setting.files)) refl refl e
+        by_tests image was (nat_lt most_texts (start_size setting.args setting.env)) (nat_lt most_total (files_size setting.files)) refl refl e

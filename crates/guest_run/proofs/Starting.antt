@@ -2,7 +2,7 @@
 use Rattle.std.proofs.Common.{◌≡◌, ℕ, ◌<◌, ◌≤◌, Bool, true, false, cond, List, Result, Ok, Err, refl, sym, ap, ◌∙◌, arith}
 use Rattle.std.specs.Prelude.{nat_le, nat_lt}
 use Rattle.std.proofs.lemmas.Bool.Decides.{nat_tests}
-use Rattle.mem_files.specs.Limits.{most_total}
+use Rattle.ddc_base.specs.Limits.{most_texts, most_total}
 use Rattle.elf_load.specs.declared.Image.{Image}
 use Rattle.elf_load.specs.declared.refusal.ElfRefusal.{ElfRefusal}
 use Rattle.elf_load.specs.Image.{image_of}
@@ -22,42 +22,42 @@ judge long large state = cond long (Err ArgsTooLong) (cond large (Err BoxTooLarg
 
 judged_by : (program : List ℕ) (setting : Setting) (image : Image) → image_of program ≡ Ok image
     → start_of program setting
-    ≡ judge (nat_lt 131072 (start_size setting.args setting.env)) (nat_lt most_total (files_size setting.files)) (start_state program setting image)
+    ≡ judge (nat_lt most_texts (start_size setting.args setting.env)) (nat_lt most_total (files_size setting.files)) (start_state program setting image)
 unfolding start_of
 judged_by program setting image is = ap (started program setting) is
 
 pub args_too_long : (program : List ℕ) (setting : Setting) (image : Image) → image_of program ≡ Ok image
-    → nat_le (start_size setting.args setting.env) 131072 ≡ false → start_of program setting ≡ Err ArgsTooLong
+    → nat_le (start_size setting.args setting.env) most_texts ≡ false → start_of program setting ≡ Err ArgsTooLong
 args_too_long program setting image is long =
     judged_by program setting image is
     ∙ ap (λ b. judge b (nat_lt most_total (files_size setting.files)) (start_state program setting image)) (above (start_size setting.args setting.env) long)
   where
-    above : (n : ℕ) → nat_le n 131072 ≡ false → nat_lt 131072 n ≡ true
+    above : (n : ℕ) → nat_le n most_texts ≡ false → nat_lt most_texts n ≡ true
     above n h = grind (arith, nat_tests)
 
-not_above : (n : ℕ) → n ≤ 131072 → nat_lt 131072 n ≡ false
+not_above : (n : ℕ) → n ≤ most_texts → nat_lt most_texts n ≡ false
 not_above n h = grind (arith, nat_tests)
 
 pub box_too_large : (program : List ℕ) (setting : Setting) (image : Image) → image_of program ≡ Ok image
-    → start_size setting.args setting.env ≤ 131072 → most_total < files_size setting.files → start_of program setting ≡ Err BoxTooLarge
+    → start_size setting.args setting.env ≤ most_texts → most_total < files_size setting.files → start_of program setting ≡ Err BoxTooLarge
 box_too_large program setting image is fits large =
     judged_by program setting image is
     ∙ (λ i. judge (not_above (start_size setting.args setting.env) fits i) (above (files_size setting.files) large i) (start_state program setting image))
   where
-    above : (n : ℕ) → 536870912 < n → nat_lt 536870912 n ≡ true
+    above : (n : ℕ) → most_total < n → nat_lt most_total n ≡ true
     above n h = grind (arith, nat_tests)
 
 pub starts : (program : List ℕ) (setting : Setting) (image : Image) → image_of program ≡ Ok image
-    → start_size setting.args setting.env ≤ 131072 → files_size setting.files ≤ most_total
+    → start_size setting.args setting.env ≤ most_texts → files_size setting.files ≤ most_total
     → start_of program setting ≡ Ok (start_state program setting image)
 starts program setting image is fits small =
     judged_by program setting image is
     ∙ (λ i. judge (not_above (start_size setting.args setting.env) fits i) (below (files_size setting.files) small i) (start_state program setting image))
   where
-    below : (n : ℕ) → n ≤ 536870912 → nat_lt 536870912 n ≡ false
+    below : (n : ℕ) → n ≤ most_total → nat_lt most_total n ≡ false
     below n h = grind (arith, nat_tests)
 
-pub fits_if : (n : ℕ) → nat_le n 131072 ≡ true → n ≤ 131072
+pub fits_if : (n : ℕ) → nat_le n most_texts ≡ true → n ≤ most_texts
 fits_if n h = grind (arith, nat_tests)
 
 pub steps_at_start : (program : List ℕ) (setting : Setting) (image : Image) → (start_state program setting image).steps ≡ 0
@@ -76,4 +76,4 @@ starts_are program setting start is = by_image (image_of program) is
 
     by_image : (r : Result Image ElfRefusal) → started program setting r ≡ Ok start → start.steps ≡ 0
     by_image (Err refusal) e = cc
-    by_image (Ok image) e = by_tests (nat_lt 131072 (start_size setting.args setting.env)) (nat_lt most_total (files_size setting.files)) (start_state program setting image) refl e
+    by_image (Ok image) e = by_tests (nat_lt most_texts (start_size setting.args setting.env)) (nat_lt most_total (files_size setting.files)) (start_state program setting image) refl e

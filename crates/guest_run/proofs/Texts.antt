@@ -4,6 +4,7 @@ use Rattle.std.specs.Prelude.{sum_by, nat_le, SomeIff}
 use Rattle.std.specs.Int.{to_le_bytes}
 use Rattle.std.proofs.lemmas.Bool.{cases_lt}
 use Rattle.std.proofs.lemmas.Bool.Decides.{nat_tests}
+use Rattle.ddc_base.specs.Limits.{most_texts}
 use Rattle.paged_mem.proofs.Numbers.{take-to_le_bytes}
 use Rattle.std.specs.List.{flat_map}
 use Rattle.std.proofs.lemmas.Grind.{flat_map-append}
@@ -49,24 +50,24 @@ pub some_le : (o : Option ℕ) (a b v : ℕ) → SomeIff o (a ≤ b) v → is_so
 some_le None a b v above = grind (arith, nat_tests)
 some_le (Some x) a b v within = let le : a ≤ b = within.0 in grind (arith, nat_tests)
 
-pub fits-first : (args env : List (List ℕ)) → ¬ (sum_by cost args ≤ 131032) → false ≡ nat_le (start_size args env) 131072
+pub fits-first : (args env : List (List ℕ)) → ¬ (sum_by cost args ≤ 131032) → false ≡ nat_le (start_size args env) most_texts
 fits-first args env above =
     let a = costs-are args in
     grind (arith, nat_tests)
 
 pub fits-second : (args env : List (List ℕ)) → sum_by cost args ≤ 131032
-    → nat_le (sum_by cost env) (131032 - sum_by cost args) ≡ nat_le (start_size args env) 131072
+    → nat_le (sum_by cost env) (131032 - sum_by cost args) ≡ nat_le (start_size args env) most_texts
 fits-second args env within =
     let a = costs-are args in
     let e = costs-are env in
-    elim (cases_lt 131072 (start_size args env)) [
+    elim (cases_lt most_texts (start_size args env)) [
       | inl above ↦
           (let left : nat_le (sum_by cost env) (131032 - sum_by cost args) ≡ false = grind (arith, nat_tests) in
-          let right : nat_le (start_size args env) 131072 ≡ false = grind (arith, nat_tests) in
+          let right : nat_le (start_size args env) most_texts ≡ false = grind (arith, nat_tests) in
           left ∙ sym right)
       | inr below ↦
           (let left : nat_le (sum_by cost env) (131032 - sum_by cost args) ≡ true = grind (arith, nat_tests) in
-          let right : nat_le (start_size args env) 131072 ≡ true = grind (arith, nat_tests) in
+          let right : nat_le (start_size args env) most_texts ≡ true = grind (arith, nat_tests) in
           left ∙ sym right)
     ]
 

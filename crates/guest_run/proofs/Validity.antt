@@ -3,6 +3,7 @@ use Rattle.std.proofs.Common.{◌≡◌, ◌<◌, ℕ, zero, suc, ◌+◌, ◌-�
 use Rattle.std.specs.Prelude.{count_by, nat_le, nat_lt}
 use Rattle.std.specs.FinMap.{contains_key}
 use Rattle.std.proofs.lemmas.Bool.Decides.{nat_tests}
+use Rattle.ddc_base.specs.Limits.{page_number_end, stack_size}
 use Rattle.paged_mem.specs.Memory.{Memory, page_up}
 use Rattle.paged_mem.proofs.Maps.{each_by_maps, maps_by_each}
 use Rattle.rv64_machine.specs.Hart.{Act, IsHart, act}
@@ -15,7 +16,7 @@ use Rattle.linux_calls.specs.Calls as call
 use Rattle.linux_calls.proofs.Heaps.{IsHeapOf-same}
 use Rattle.linux_calls.proofs.StateLaw.{syscall-state}
 use Rattle.linux_calls.proofs.SmallAnswers.{syscall-small}
-use Rattle.guest_run.specs.Stack.{stack_end, stack_size}
+use Rattle.guest_run.specs.Stack.{stack_end}
 use Rattle.guest_run.specs.State.{GuestState}
 use Rattle.guest_run.specs.Valid.{Fits, IsValid, pages_apart, pages_from}
 use Rattle.guest_run.specs.Run.{End, Exited, Trapped, UnknownCall, Next, Goes, Ends, after, step_of_act, step_of_call, next, outcome_of, call_number, call_arguments}
@@ -37,7 +38,7 @@ unfolding pages_apart
 same_pages m n one other first limit same =
     let each : (page : ℕ) → (contains_key n (4096 * page) && is_apart_from_heap other (4096 * page)) ≡ (contains_key m (4096 * page) && is_apart_from_heap one (4096 * page)) =
     λ page. at (is_apart_from_heap one (4096 * page)) refl page in
-    λ i. count_by (λ page. each page i) (pages_from 0 (2 ^ 26))
+    λ i. count_by (λ page. each page i) (pages_from 0 page_number_end)
   where
     both : (a b c : Bool) → (b ≡ true → a ≡ c) → (a && b) ≡ (c && b)
     both a true c eq = ap (λ x. x && true) (eq refl)

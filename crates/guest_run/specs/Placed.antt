@@ -3,10 +3,11 @@
 use Rattle.std.specs.Prelude.{ℕ, ◌-◌, List, take, drop}
 use Rattle.std.specs.List.{fold}
 use Rattle.std.specs.FinMap.{empty}
+use Rattle.ddc_base.specs.Limits.{stack_size}
 use Rattle.paged_mem.specs.Memory.{Memory, with_bytes, zeros}
 use Rattle.elf_load.specs.declared.Segment.{Segment}
 use Rattle.elf_load.specs.Segments.{first_page, paged_size}
-use Rattle.guest_run.specs.Stack.{stack_end, stack_size}
+use Rattle.guest_run.specs.Stack.{stack_end}
 
 -- the segment's bytes in the file
 abbrev pub segment_bytes : List ℕ → Segment → List ℕ

@@ -1,11 +1,11 @@
 -- The execution context of a program.
 -- docs/reference/running.md says the same for people.
-use Rattle.std.specs.Prelude.{◌≡◌, ℕ, ◌^◌, ◌≤◌, ◌==◌, Bool, ◌||◌, nat_le, nat_lt, not, if◌then◌else◌, IsTrue, Option, Some, None, List, length, All, Result, Ok, Err, sum_by}
+use Rattle.std.specs.Prelude.{◌≡◌, ℕ, ◌≤◌, ◌==◌, Bool, ◌||◌, nat_le, nat_lt, not, if◌then◌else◌, IsTrue, Option, Some, None, List, length, All, Result, Ok, Err, sum_by}
 use Rattle.std.specs.List.{list_any}
 use Rattle.std.specs.FinMap as map
 use Rattle.mem_files.specs.declared.open_file.PlaceRefusal.{PlaceRefusal}
 use Rattle.mem_files.specs.declared.open_file.PlaceRefusal.TheVariants.{BadName, Twice, Full, OutOfMemory}
-use Rattle.mem_files.specs.Limits.{most_content, most_names}
+use Rattle.ddc_base.specs.Limits.{most_content, most_heap, most_names}
 use Rattle.mem_files.specs.Names.{bytes_cmp, is_file_name, is_stripped_name}
 use Rattle.mem_files.specs.Sound.{AreBytes}
 
@@ -49,7 +49,7 @@ pub record IsBox (setting : Setting) : Type 0 where
   pub env_bytes : All AreBytes setting.env
   pub files : All IsBoxFile (map.entries setting.files)
   pub few : map.len setting.files ≤ most_names
-  pub heap : setting.heap ≤ 2 ^ 30
+  pub heap : setting.heap ≤ most_heap
 
 -- why a file is not placed under its name, which has no leading `./`
 abbrev pub place_refusal : FileMap → List ℕ → List ℕ → Option PlaceRefusal

@@ -1,15 +1,13 @@
 -- The stack of a starting program: its texts, and below them the words with their addresses.
 -- Public source: System V ABI, "Process Initialization". docs/reference/running.md says the same for people, with a picture.
-use Rattle.std.specs.Prelude.{ℕ, ◌+◌, ◌-◌, ◌*◌, ◌/◌, ◌^◌, List, [], ◌∷◌, ◌++◌, length}
+use Rattle.std.specs.Prelude.{ℕ, ◌+◌, ◌-◌, ◌*◌, ◌/◌, List, [], ◌∷◌, ◌++◌, length}
 use Rattle.std.specs.List.{flat_map}
+use Rattle.ddc_base.specs.Limits.{address_end}
 use Rattle.paged_mem.specs.Memory.{bytes_of, zeros}
 
--- the address of the stack's end, and the stack's size in bytes
+-- the address of the stack's end, which is that of all addresses
 abbrev pub stack_end : ℕ
-stack_end = 2 ^ 38
-
-abbrev pub stack_size : ℕ
-stack_size = 2048 * 4096
+stack_end = address_end
 
 -- a text with the zero byte that ends it
 abbrev pub zero_ended : List ℕ → List ℕ

@@ -5,7 +5,7 @@ use Rattle.std.specs.List.{fold}
 use Rattle.std.specs.FinMap as map
 use Rattle.mem_files.specs.World.{World}
 use Rattle.mem_files.specs.Calls.{first_world, with_file}
-use Rattle.mem_files.specs.Limits.{most_total}
+use Rattle.ddc_base.specs.Limits.{most_texts, most_total}
 use Rattle.elf_load.specs.declared.Image.{Image}
 use Rattle.elf_load.specs.declared.refusal.ElfRefusal.{ElfRefusal}
 use Rattle.elf_load.specs.Image.{image_of}
@@ -48,7 +48,7 @@ pub data Refusal : Type 0 where
 abbrev pub started : List ℕ → Setting → Result Image ElfRefusal → Result GuestState Refusal
 started program setting (Err refusal) = Err (Elf refusal)
 started program setting (Ok image) =
-    if nat_lt 131072 (start_size setting.args setting.env) then Err ArgsTooLong
+    if nat_lt most_texts (start_size setting.args setting.env) then Err ArgsTooLong
     else (if nat_lt most_total (files_size setting.files) then Err BoxTooLarge
     else Ok (start_state program setting image))
 

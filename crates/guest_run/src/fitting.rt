@@ -1,22 +1,17 @@
 //! Whether a memory and a heap fit together.
 
 ghost use Rattle.guest_run.specs.Valid.{Fits, pages_apart, pages_from};
+ghost use Rattle.ddc_base.specs.Limits.{address_end, page_number_end};
 ghost use Rattle.guest_run.specs.Inside.Bounds.{HasBounds};
 ghost use Rattle.linux_calls.specs.HeapOf.{IsHeapOf, is_apart_from_heap};
 ghost use Rattle.paged_mem.specs.Memory.{IsFree, page_up};
-ghost use Rattle.std.specs.Prelude.{◌≡◌, ◌+◌, ◌-◌, ◌*◌, ◌%◌, ◌^◌, ◌≤◌, ◌↔◌, count_by, true, IsTrue};
+ghost use Rattle.std.specs.Prelude.{◌≡◌, ◌+◌, ◌-◌, ◌*◌, ◌%◌, ◌≤◌, ◌↔◌, count_by, true, IsTrue};
 
 use crate::stack;
+use ddc_base::limits::{MOST_HEAP, MOST_PAGES_APART, STACK_SIZE};
 use linux_calls::Heap;
 use paged_mem::{PAGE, Ram};
 use rv64_machine::Hart;
-
-/// The largest size of a heap, in bytes.
-const MAX_HEAP: u64 = 1 << 30;
-/// The size of the stack's pages, in bytes.
-const STACK_SIZE: u64 = 2_048 * PAGE;
-/// The largest number of pages outside the heap.
-const MAX_PAGES: u64 = 67_584;
 
 /// Whether a hart's memory and a heap fit together, as in a valid state.
 pub fn fit_together<R: Ram>(hart: &Hart<R>, heap: &Heap) -> bool
@@ -32,14 +27,14 @@ pub fn fit_together<R: Ram>(hart: &Hart<R>, heap: &Heap) -> bool
     if !ram.mapped(stack::END - STACK_SIZE, STACK_SIZE) {
         return false;
     }
-    pages_apart(ram, heap) <= MAX_PAGES
+    pages_apart(ram, heap) <= MOST_PAGES_APART
 }
 
 /// Whether a heap's numbers are within their bounds.
 fn has_bounds(heap: &Heap) -> bool
     ensures { IsTrue result ↔ HasBounds heap.entry.now }
 {
-    if heap.first % PAGE != 0 || heap.limit > MAX_HEAP {
+    if heap.first % PAGE != 0 || heap.limit > MOST_HEAP {
         return false;
     }
     if heap.first > stack::END - STACK_SIZE - heap.limit {
@@ -64,7 +59,7 @@ fn is_heap_of<R: Ram>(ram: &R, heap: &Heap) -> bool
 /// Whether no byte of these whole pages is mapped.
 fn is_free<R: Ram>(ram: &R, at: u64, count: u64) -> bool
     requires aligned { at % 4096 ≡ 0 }
-    requires low { at + count ≤ 2 ^ 38 }
+    requires low { at + count ≤ address_end }
     ensures { IsTrue result ↔ IsFree (R.bytes ram.now) at count }
 {
     match ram.run_from(at) {
@@ -75,7 +70,7 @@ fn is_free<R: Ram>(ram: &R, at: u64, count: u64) -> bool
 
 /// Rounds an address up to a multiple of the page size.
 fn page_up(address: u64) -> u64
-    requires { address ≤ 2 ^ 38 }
+    requires { address ≤ address_end }
     ensures { result ≡ page_up address }
 {
     address.next_multiple_of(PAGE)
@@ -98,7 +93,7 @@ fn pages_apart<R: Ram>(ram: &R, heap: &Heap) -> u64
 /// The number of pages outside a heap among `pages` consecutive ones from page number `first`.
 fn apart_in_row(heap: &Heap, first: u64, pages: u64) -> u64
     requires bounds { HasBounds heap.now }
-    requires low { first + pages ≤ 2 ^ 26 }
+    requires low { first + pages ≤ page_number_end }
     ensures value { result ≡ count_by (λ page. is_apart_from_heap heap.entry.now (4096 * page)) (pages_from first pages) }
     ensures few { result ≤ pages }
 {

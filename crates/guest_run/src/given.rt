@@ -3,7 +3,7 @@
 ghost use Rattle.guest_run.specs.Setting.{files_size, IsBoxFile};
 ghost use Rattle.guest_run.specs.Start.{start_world};
 ghost use Rattle.mem_files.specs.Calls.{placed, with_file};
-ghost use Rattle.mem_files.specs.Limits.{most_content, most_names, most_total};
+ghost use Rattle.ddc_base.specs.Limits.{most_content, most_names, most_total};
 ghost use Rattle.mem_files.specs.Names.{is_stripped_name};
 ghost use Rattle.std.specs.FinMap as map;
 ghost use Rattle.std.specs.Prelude.{◌≡◌, ◌<◌, ◌≤◌, false, length, All, IsTrue, Ok, IfOk, OnErr, OnOk};

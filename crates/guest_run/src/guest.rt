@@ -6,7 +6,7 @@ ghost use Rattle.guest_run.specs.Start.{start_of, start_state, Starts};
 ghost use Rattle.guest_run.specs.State.{guest_state};
 ghost use Rattle.guest_run.specs.Travels.{Travels};
 ghost use Rattle.guest_run.specs.Valid.{Fits, IsValid};
-ghost use Rattle.mem_files.specs.Limits.{most_total};
+ghost use Rattle.ddc_base.specs.Limits.{most_texts, most_total};
 ghost use Rattle.paged_mem.specs.Memory.{bytes_at, maps};
 ghost use Rattle.std.specs.Prelude.{◌≡◌, ◌+◌, ◌^◌, ◌<◌, ◌≤◌, length, slice_index, unwrap_or, Ok, Err, IfErr, IfOk, OnOk};
 
@@ -15,9 +15,10 @@ use crate::run::{Process, RunEnd};
 use crate::run_box::RunBox;
 use crate::stack;
 use ddc_base::OutOfMemory;
+use ddc_base::limits::MOST_TOTAL;
 use elf_load::{ElfRefusal, Image, read_image};
 use linux_calls::Heap;
-use mem_files::{Files, MAX_TOTAL};
+use mem_files::Files;
 use paged_mem::Ram;
 use rv64_machine::Hart;
 use std::alloc::Global;
@@ -180,7 +181,7 @@ pub enum StartRefusal {
 /// The image of a program that can start, or the first refusal.
 fn judged(program: &[u8], setting: &RunBox) -> Result<Image, StartRefusal>
     ensures sound { IfOk result (IsLoadable (length program.now)) }
-    ensures texts { OnOk result (start_size setting.now.args setting.now.env ≤ 131072) }
+    ensures texts { OnOk result (start_size setting.now.args setting.now.env ≤ most_texts) }
     ensures files { OnOk result (files_size setting.now.files ≤ most_total) }
     ensures state { IfOk result (λ image. start_of program.now setting.now ≡ Ok (start_state program.now setting.now image)) }
     ensures refusal { IfErr result (λ refusal. Starts (start_of program.now setting.now) (Err refusal)) }
@@ -192,7 +193,7 @@ fn judged(program: &[u8], setting: &RunBox) -> Result<Image, StartRefusal>
     if !stack::fits(setting.args(), setting.env()) {
         return Err(StartRefusal::ArgsTooLong);
     }
-    if setting.files().size() > MAX_TOTAL {
+    if setting.files().size() > MOST_TOTAL {
         return Err(StartRefusal::BoxTooLarge);
     }
     Ok(image)
@@ -206,7 +207,7 @@ fn started<R: Ram>(
     image: &Image,
 ) -> Result<Guest<R>, OutOfMemory>
     requires sound { IsLoadable (length program.now) image.now }
-    requires texts { start_size setting.now.args setting.now.env ≤ 131072 }
+    requires texts { start_size setting.now.args setting.now.env ≤ most_texts }
     requires files { files_size setting.now.files ≤ most_total }
     ensures { IfOk result (λ guest. guest ≡ start_state program.now setting.now image.now) }
 {

@@ -1,8 +1,9 @@
 //! The memory of a starting program.
 
 ghost use Rattle.elf_load.specs.Segments.{first_page, paged_size, AreApart, IsPlaced};
+ghost use Rattle.ddc_base.specs.Limits.{stack_size};
 ghost use Rattle.guest_run.specs.Placed.{with_segment, with_segments, with_stack};
-ghost use Rattle.guest_run.specs.Stack.{stack_end, stack_size};
+ghost use Rattle.guest_run.specs.Stack.{stack_end};
 ghost use Rattle.paged_mem.specs.Memory.{with_bytes, maps, IsFree};
 ghost use Rattle.std.specs.FinMap as map;
 ghost use Rattle.std.specs.Prelude.{◌≡◌, ◌+◌, ◌-◌, ◌*◌, ◌<◌, ◌≤◌, length, true, All, AllPairs, OnOk};
@@ -33,7 +34,7 @@ pub(crate) fn place_segments<R: Ram>(
 }
 
 /// Maps the pages of a segment and writes its bytes there. Error: out of memory.
-#[tactic(auto, using(crate::proofs::Places::placed_low))]
+#[tactic(auto, using(crate::proofs::SegmentAddresses::placed_low))]
 fn place_segment<R: Ram>(ram: &mut R, program: &[u8], segment: &Segment) -> Result<(), OutOfMemory>
     requires placed { IsPlaced (length program.now) segment.now }
     requires free { IsFree (R.bytes ram.old) (first_page segment.now) (paged_size segment.now) }

@@ -1,12 +1,14 @@
 ghost use Rattle.guest_run.specs.Setting.{IsBox, IsBoxFile, IsText, PlacesIn};
+ghost use Rattle.ddc_base.specs.Limits.{most_heap};
 ghost use Rattle.mem_files.specs.Names.{is_file_name, stripped};
 ghost use Rattle.std.specs.FinMap as map;
-ghost use Rattle.std.specs.Prelude.{◌≡◌, ◌^◌, ◌≤◌, [], ◌∷◌, ◌++◌, All, OnErr, OnOk};
+ghost use Rattle.std.specs.Prelude.{◌≡◌, ◌≤◌, [], ◌∷◌, ◌++◌, All, OnErr, OnOk};
 
 use crate::borrowed::Borrowed;
 use crate::given::GivenFiles;
 use ddc_base::OutOfMemory;
-use mem_files::{MAX_CONTENT, MAX_NAMES, PlaceRefusal, is_file_name, strip};
+use ddc_base::limits::{MOST_CONTENT, MOST_NAMES};
+use mem_files::{PlaceRefusal, is_file_name, strip};
 use std::alloc::Global;
 use std::marker::Model;
 
@@ -38,7 +40,7 @@ impl<'a> Model for RunBox<'a> {
 impl<'a> RunBox<'a> {
     /// An execution context without arguments, environment and files, with a heap of at most `heap` bytes (0 to 2^30). Allocates nothing.
     pub fn new(alloc: Global, heap: u64) -> RunBox<'a>
-        requires { heap ≤ 2 ^ 30 }
+        requires { heap ≤ most_heap }
         ensures { result ≡ record { args = []; env = []; files = map.empty; heap = heap } }
     {
         RunBox {
@@ -128,7 +130,7 @@ fn place_in<'a>(
     if files.holds(name) {
         return Err(PlaceRefusal::Twice);
     }
-    if content.len() as u64 > MAX_CONTENT || files.len() >= MAX_NAMES {
+    if content.len() as u64 > MOST_CONTENT || files.len() >= MOST_NAMES {
         return Err(PlaceRefusal::Full);
     }
     match files.insert(name, content) {

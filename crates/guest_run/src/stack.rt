@@ -1,6 +1,7 @@
 //! The stack of a starting program.
 
 ghost use Rattle.guest_run.specs.Stack.{addresses, ended_texts, stack_bytes, stack_pointer, start_size};
+ghost use Rattle.ddc_base.specs.Limits.{most_texts};
 ghost use Rattle.guest_run.specs.Inside.Bounds.{cost};
 ghost use Rattle.paged_mem.specs.Memory.{bytes_of, zeros};
 ghost use Rattle.std.specs.List.{flat_map};
@@ -8,12 +9,11 @@ ghost use Rattle.std.specs.Prelude.{◌≡◌, ◌+◌, ◌*◌, ◌^◌, ◌<�
 
 use crate::borrowed::Borrowed;
 use ddc_base::OutOfMemory;
+use ddc_base::limits::{ADDRESS_END, MOST_TEXTS};
 use std::alloc::Global;
 
 /// The address after the stack's last byte.
-pub(crate) const END: u64 = 1 << 38;
-/// The largest size of texts and words together, in bytes.
-const MOST: u64 = 131_072;
+pub(crate) const END: u64 = ADDRESS_END;
 /// The number of words that are not the address of a text: the count of arguments, and four zeros.
 const OTHER_WORDS: u64 = 5;
 
@@ -26,27 +26,27 @@ pub(crate) struct Stack {
 
 /// Whether texts and words take at most 131,072 bytes.
 pub(crate) fn fits(args: &[Borrowed], env: &[Borrowed]) -> bool
-    ensures { result ≡ nat_le (start_size args.now env.now) 131072 }
+    ensures { result ≡ nat_le (start_size args.now env.now) most_texts }
 {
-    match left_after(args, MOST - 8 * OTHER_WORDS) {
+    match remaining_after(args, MOST_TEXTS - 8 * OTHER_WORDS) {
         None => false,
-        Some(left) => left_after(env, left).is_some(),
+        Some(remaining) => remaining_after(env, remaining).is_some(),
     }
 }
 
 /// What is left of `most` bytes after each text's bytes, its zero byte and its address. `None` if they take more.
-fn left_after(texts: &[Borrowed], most: u64) -> Option<u64>
+fn remaining_after(texts: &[Borrowed], most: u64) -> Option<u64>
     ensures { SomeIff result (sum_by cost texts.now ≤ most) (most - sum_by cost texts.now) }
 {
-    let mut left = most;
+    let mut remaining = most;
     for text in texts {
         let len = text.len() as u64;
-        if len > left || left - len < 9 {
+        if len > remaining || remaining - len < 9 {
             return None;
         }
-        left -= len + 9;
+        remaining -= len + 9;
     }
-    Some(left)
+    Some(remaining)
 }
 
 /// The stack of a program with these texts, which must fit. Error: out of memory.
@@ -55,7 +55,7 @@ pub(crate) fn stack_of(
     args: &[Borrowed],
     env: &[Borrowed],
 ) -> Result<Stack, OutOfMemory>
-    requires { start_size args.now env.now ≤ 131072 }
+    requires { start_size args.now env.now ≤ most_texts }
     ensures { IfOk result (λ stack. (stack.at ≡ stack_pointer args.now env.now) × (stack.bytes.items ≡ stack_bytes args.now env.now)) }
 {
     let args_size = joined_size(args);

@@ -126,8 +126,8 @@ fn put_texts(guest: &mut Guest) {
     for &(at, text) in &PLACED {
         guest.put(at.cast_unsigned(), text);
     }
-    for place in 0..128u64 {
-        guest.put(DOTS_ALONE as u64 + 2 * place, b"./");
+    for index in 0..128u64 {
+        guest.put(DOTS_ALONE as u64 + 2 * index, b"./");
     }
 }
 

@@ -17,8 +17,8 @@ pub static EXIT: [u8; 132] = [
 pub fn altered(offset: usize, word: u32) -> [u8; 132] {
     let mut file = EXIT;
     let bytes = word.to_le_bytes();
-    for (place, byte) in file.iter_mut().skip(offset).zip(bytes) {
-        *place = byte;
+    for (target, byte) in file.iter_mut().skip(offset).zip(bytes) {
+        *target = byte;
     }
     file
 }

@@ -102,8 +102,8 @@ fn refuses_repeated_headers(rt: HostRuntime) -> Result<(), Fail> {
 /// exit.elf with one byte changed.
 fn altered(index: usize, byte: u8) -> [u8; 132] {
     let mut file = EXIT;
-    if let Some(place) = file.get_mut(index) {
-        *place = byte;
+    if let Some(target) = file.get_mut(index) {
+        *target = byte;
     }
     file
 }

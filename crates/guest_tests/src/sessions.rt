@@ -247,11 +247,11 @@ fn leaves_of(
     prompt: &mut MemPrompt,
     failing: u64,
     count: usize,
-    left: &[u8],
+    unread: &[u8],
 ) -> bool {
     prompt.fail_line(failing).is_ok()
         && pieces(rt, alloc, prompt) == Some(count)
-        && prompt.left() == left
+        && prompt.unread() == unread
 }
 
 /// The same over lines.
@@ -261,10 +261,10 @@ fn leaves(
     lines: &[u8],
     failing: u64,
     count: usize,
-    left: &[u8],
+    unread: &[u8],
 ) -> bool {
     let mut prompt = MemPrompt::new(alloc, lines).expect(rt, "memory");
-    leaves_of(rt, alloc, &mut prompt, failing, count, left)
+    leaves_of(rt, alloc, &mut prompt, failing, count, unread)
 }
 
 #[test]

@@ -10,7 +10,7 @@ mod token;
 mod words;
 
 pub use item::{Item, Kind, LabelName};
-pub use items::{Items, MOST_ITEMS};
-pub use reader::{HexRefusal, LONGEST_SOURCE, items1, items2};
+pub use items::Items;
+pub use reader::{HexRefusal, items1, items2};
 pub use token::{Dialect, Token, TokenFault, byte_of, gap_length, is_blank, token_at};
 pub use words::{Begun, Halt, Open, take, take_byte, take_four};

@@ -6,10 +6,11 @@ use Rattle.std.proofs.lemmas.Bool.Decides.{nat_tests}
 use Rattle.std.proofs.lemmas.List.{length-append, take-append-drop}
 use Rattle.std.proofs.lemmas.List.Elements.{All-cons, All-drop, All-head, All-nil, All-tail}
 use Rattle.std.proofs.lemmas.List.Splits.{slice_split_at, slice_split_none}
+use Rattle.ddc_base.specs.Limits.{most_commands, most_words}
 use Rattle.kaem_script.specs.declared.refusal.ScriptFault.{ScriptFault}
 use Rattle.kaem_script.specs.declared.refusal.ScriptFault.TheVariants.{BadWord, LongWord, OpenQuote, TooMany, TooManyWords}
 use Rattle.kaem_script.specs.ByLines.{LineWords, WordOfLine, and_word, and_words, after_blanks, commands_by_line, commands_of_lines, fitting_of, is_double_quote, plain_of, quoted_of, read_of, unless_over, words_of_line}
-use Rattle.kaem_script.specs.Script.{Commands, ScriptWord, begins, after_word, between_quotes, commands_from, commands_of, ends_line, ends_or_begins, ends_quoted, ends_word, fitting, is_wrong, most_commands, most_words, names_nothing, next_word, parts_words, plain_text, plain_word, quoted_word, with_line, word_at}
+use Rattle.kaem_script.specs.Script.{Commands, ScriptWord, begins, after_word, between_quotes, commands_from, commands_of, ends_line, ends_or_begins, ends_quoted, ends_word, fitting, is_wrong, names_nothing, next_word, parts_words, plain_text, plain_word, quoted_word, with_line, word_at}
 
 abbrev Lists : Type 0
 Lists = List (List ℕ)
@@ -56,17 +57,17 @@ module _ (p : ℕ → Bool) where
     by true = refl
     by false = ends
 
-  place : (line later : List ℕ) → IsLine line → AreLater later → position_or_len or_end (line ++ later) ≡ position_or_len p line
-  place [] [] is ends = refl
-  place [] (byte ∷ rest) is ends = first-yes or_end byte rest (at-end byte ends)
-  place (byte ∷ line) later is ends = by (p byte) refl (place line later (All-tail NoEnd byte line is) ends) where
+  ends_at : (line later : List ℕ) → IsLine line → AreLater later → position_or_len or_end (line ++ later) ≡ position_or_len p line
+  ends_at [] [] is ends = refl
+  ends_at [] (byte ∷ rest) is ends = first-yes or_end byte rest (at-end byte ends)
+  ends_at (byte ∷ line) later is ends = by (p byte) refl (ends_at line later (All-tail NoEnd byte line is) ends) where
     by : (b : Bool) → p byte ≡ b → position_or_len or_end (line ++ later) ≡ position_or_len p line → position_or_len or_end (byte ∷ line ++ later) ≡ position_or_len p (byte ∷ line)
     by true here rest = first-yes or_end byte (line ++ later) (in-line byte (All-head NoEnd byte line is) ∙ here) ∙ sym (first-yes p byte line here)
     by false here rest = first-no or_end byte (line ++ later) (in-line byte (All-head NoEnd byte line is) ∙ here) ∙ ap suc rest ∙ sym (first-no p byte line here)
 
-  front : (line later : List ℕ) → take (position_or_len p line) (line ++ later) ≡ before_first p line
-  front [] later = refl
-  front (byte ∷ line) later = by (p byte) refl (front line later) where
+  prefix : (line later : List ℕ) → take (position_or_len p line) (line ++ later) ≡ before_first p line
+  prefix [] later = refl
+  prefix (byte ∷ line) later = by (p byte) refl (prefix line later) where
     by : (b : Bool) → p byte ≡ b → take (position_or_len p line) (line ++ later) ≡ before_first p line
         → take (position_or_len p (byte ∷ line)) (byte ∷ line ++ later) ≡ take (position_or_len p (byte ∷ line)) (byte ∷ line)
     by true here rest = let at = first-yes p byte line here in ap (λ n. take n (byte ∷ line ++ later)) at ∙ ap (λ n. take n (byte ∷ line)) (sym at)
@@ -81,10 +82,10 @@ module _ (p : ℕ → Bool) where
     by false here rest = let at = first-no p byte line here in ap (λ n. drop n (byte ∷ line ++ later)) at ∙ rest ∙ ap (λ n. drop n (byte ∷ line) ++ later) (sym at)
 
   taken : (line later : List ℕ) → IsLine line → AreLater later → take (position_or_len or_end (line ++ later)) (line ++ later) ≡ before_first p line
-  taken line later is ends = ap (λ n. take n (line ++ later)) (place line later is ends) ∙ front line later
+  taken line later is ends = ap (λ n. take n (line ++ later)) (ends_at line later is ends) ∙ prefix line later
 
   left : (line later : List ℕ) → IsLine line → AreLater later → drop (position_or_len or_end (line ++ later)) (line ++ later) ≡ drop (position_or_len p line) line ++ later
-  left line later is ends = ap (λ n. drop n (line ++ later)) (place line later is ends) ∙ following line later
+  left line later is ends = ap (λ n. drop n (line ++ later)) (ends_at line later is ends) ∙ following line later
 
 -- ---- a word
 
@@ -337,10 +338,10 @@ is-first (suc n) =
     many ∙ sym some
 
 no-more : (n : ℕ) → 0 + n ≡ most_words → (n == most_words) ≡ true
-no-more n room = grind (arith, nat_tests)
+no-more n capacity = grind (arith, nat_tests)
 
 some-more : (more n : ℕ) → suc more + n ≡ most_words → (n == most_words) ≡ false
-some-more more n room = grind (arith, nat_tests)
+some-more more n capacity = grind (arith, nat_tests)
 
 following-line : (more rest : List ℕ) → IsLine (more ++ rest) → IsLine rest
 following-line [] rest is = is
@@ -362,9 +363,9 @@ module _ (n : ℕ) (reads : Reads n) (byte : ℕ) (line later : List ℕ) (few :
 
   at-blank : (most : ℕ) → most + length words ≡ most_words → parts_words byte ≡ true
       → from_here at commands words (byte ∷ line ++ later) ≡ by_line most end commands words (byte ∷ line) later
-  at-blank most room parts =
+  at-blank most capacity parts =
       reads-blank at commands words byte (line ++ later) inside parts
-      ∙ reads line later few (All-tail NoEnd byte line is) ends most (at + 1) commands words room
+      ∙ reads line later few (All-tail NoEnd byte line is) ends most (at + 1) commands words capacity
       ∙ ap (λ e. by_line most e commands words line later) next_end
       ∙ sym (ap (λ w. and_words w (line_end end commands later)) (line-blank (length commands) end words most byte line parts))
 
@@ -381,35 +382,35 @@ module _ (n : ℕ) (reads : Reads n) (byte : ℕ) (line later : List ℕ) (few :
   found : (more : ℕ) → suc more + length words ≡ most_words → (word : Result ScriptWord ScriptFault) (other : Result WordOfLine ScriptFault) → Alike line word other
       → after_word at word (after_here at commands words (line ++ later))
       ≡ and_words (and_word (end - length (byte ∷ line)) other (λ w. words_of_line more (length commands) end (words ++ w.text ∷ []) w.following)) (line_end end commands later)
-  found more room (Ok word) (Err other) alike = absurd alike
-  found more room (Err fault) (Ok other) alike = absurd alike
-  found more room (Err fault) (Err other) alike =
+  found more capacity (Ok word) (Err other) alike = absurd alike
+  found more capacity (Err fault) (Ok other) alike = absurd alike
+  found more capacity (Err fault) (Err other) alike =
       let first : ◌≡◌ {A = Commands} (Err (fault, at)) (Err (other, at)) = ap (λ (f : ScriptFault). Err (f, at)) alike in
       let second : ◌≡◌ {A = Commands} (Err (other, at)) (Err (other, end - length (byte ∷ line))) = ap (λ (k : ℕ). Err (other, k)) (sym starts) in
       first ∙ second
-  found more room (Ok word) (Ok other) (text, (front, parts, size)) =
-      let taken : word.size - 1 ≡ length front = omega (arith, size) in
-      let long : length line ≡ length front + length other.following = ap length parts ∙ length-append front other.following in
-      let last : at + 1 + length front + length other.following ≡ end = omega (arith, long) in
-      let left : more + length (words ++ other.text ∷ []) ≡ most_words = omega (arith, room, length-append words (other.text ∷ [])) in
-      let after : IsLine other.following = following-line front other.following (subst IsLine parts (All-tail NoEnd byte line is)) in
+  found more capacity (Ok word) (Ok other) (text, (prefix, parts, size)) =
+      let taken : word.size - 1 ≡ length prefix = omega (arith, size) in
+      let long : length line ≡ length prefix + length other.following = ap length parts ∙ length-append prefix other.following in
+      let last : at + 1 + length prefix + length other.following ≡ end = omega (arith, long) in
+      let left : more + length (words ++ other.text ∷ []) ≡ most_words = omega (arith, capacity, length-append words (other.text ∷ [])) in
+      let after : IsLine other.following = following-line prefix other.following (subst IsLine parts (All-tail NoEnd byte line is)) in
       ap (λ k. commands_from (at + 1) k commands (words ++ word.text ∷ []) (line ++ later)) taken
-      ∙ ap (λ l. commands_from (at + 1) (length front) commands (words ++ word.text ∷ []) (l ++ later)) parts
-      ∙ ap (λ l. commands_from (at + 1) (length front) commands (words ++ word.text ∷ []) l) (append_assoc front other.following later)
-      ∙ skips front (other.following ++ later) (at + 1) commands (words ++ word.text ∷ [])
-      ∙ ap (λ t. from_here (at + 1 + length front) commands (words ++ t ∷ []) (other.following ++ later)) text
-      ∙ reads other.following later (omega (arith, long, few)) after ends more (at + 1 + length front) commands (words ++ other.text ∷ []) left
+      ∙ ap (λ l. commands_from (at + 1) (length prefix) commands (words ++ word.text ∷ []) (l ++ later)) parts
+      ∙ ap (λ l. commands_from (at + 1) (length prefix) commands (words ++ word.text ∷ []) l) (append_assoc prefix other.following later)
+      ∙ skips prefix (other.following ++ later) (at + 1) commands (words ++ word.text ∷ [])
+      ∙ ap (λ t. from_here (at + 1 + length prefix) commands (words ++ t ∷ []) (other.following ++ later)) text
+      ∙ reads other.following later (omega (arith, long, few)) after ends more (at + 1 + length prefix) commands (words ++ other.text ∷ []) left
       ∙ ap (λ e. by_line more e commands (words ++ other.text ∷ []) other.following later) last
 
   at-word : (most : ℕ) → most + length words ≡ most_words → parts_words byte ≡ false → (byte == 35) ≡ false
       → after_word at (next_word (length commands) (length words) (byte ∷ line ++ later)) (after_here at commands words (line ++ later)) ≡ by_line most end commands words (byte ∷ line) later
   unfolding next_word
-  at-word zero room parts comment =
-      ap (λ (w : Result ScriptWord ScriptFault). after_word at w (after_here at commands words (line ++ later))) (when (length words == most_words) _ _ (no-more (length words) room))
+  at-word zero capacity parts comment =
+      ap (λ (w : Result ScriptWord ScriptFault). after_word at w (after_here at commands words (line ++ later))) (when (length words == most_words) _ _ (no-more (length words) capacity))
       ∙ ap (λ k. Err (TooManyWords, k)) (sym starts)
       ∙ sym (ap (λ w. and_words w (line_end end commands later)) (line-full (length commands) end words byte line parts comment))
-  at-word (suc more) room parts comment =
-      ap (λ (w : Result ScriptWord ScriptFault). after_word at w (after_here at commands words (line ++ later))) (unless (length words == most_words) _ _ (some-more more (length words) room))
+  at-word (suc more) capacity parts comment =
+      ap (λ (w : Result ScriptWord ScriptFault). after_word at w (after_here at commands words (line ++ later))) (unless (length words == most_words) _ _ (some-more more (length words) capacity))
       ∙ ap (λ (first : Bool). after_word at (cond (first && length commands == most_commands) (Err TooMany) (word_at first (byte ∷ line ++ later))) (after_here at commands words (line ++ later))) (is-first (length words))
       ∙ by (length words == 0 && length commands == most_commands)
       ∙ sym (ap (λ w. and_words w (line_end end commands later)) (line-word (length commands) end words more byte line parts comment))
@@ -418,25 +419,25 @@ module _ (n : ℕ) (reads : Reads n) (byte : ℕ) (line later : List ℕ) (few :
           ≡ and_words (cond full (Err (TooMany, end - length (byte ∷ line)))
           (and_word (end - length (byte ∷ line)) (fitting_of (length words == 0) (read_of (byte ∷ line))) (λ w. words_of_line more (length commands) end (words ++ w.text ∷ []) w.following))) (line_end end commands later)
       by true = ap (λ k. Err (TooMany, k)) (sym starts)
-      by false = found more room (word_at (length words == 0) (byte ∷ line ++ later)) (fitting_of (length words == 0) (read_of (byte ∷ line))) (word-alike (length words == 0) byte line later is ends parts)
+      by false = found more capacity (word_at (length words == 0) (byte ∷ line ++ later)) (fitting_of (length words == 0) (read_of (byte ∷ line))) (word-alike (length words == 0) byte line later is ends parts)
 
   at-byte : (most : ℕ) → most + length words ≡ most_words → from_here at commands words (byte ∷ line ++ later) ≡ by_line most end commands words (byte ∷ line) later
-  at-byte most room = by (parts_words byte) refl (byte == 35) refl where
+  at-byte most capacity = by (parts_words byte) refl (byte == 35) refl where
     by : (parts : Bool) → parts_words byte ≡ parts → (comment : Bool) → (byte == 35) ≡ comment
         → from_here at commands words (byte ∷ line ++ later) ≡ by_line most end commands words (byte ∷ line) later
-    by true parts comment is_comment = at-blank most room parts
+    by true parts comment is_comment = at-blank most capacity parts
     by false parts true comment = at-comment most parts comment
-    by false parts false comment = reads-word at commands words byte (line ++ later) inside parts comment ∙ at-word most room parts comment
+    by false parts false comment = reads-word at commands words byte (line ++ later) inside parts comment ∙ at-word most capacity parts comment
 
 reads-line : (n : ℕ) → Reads n
-reads-line n [] later few is ends most at commands words room =
+reads-line n [] later few is ends most at commands words capacity =
     let same : at ≡ at + 0 = omega arith in
     ended at commands words later ends
     ∙ ap (λ e. line_end e commands later words) same
     ∙ sym (ap (λ w. and_words w (line_end (at + 0) commands later)) (no-word (length commands) (at + 0) words most))
-reads-line zero (byte ∷ line) later few is ends most at commands words room = let never : ⊥ = omega (arith, few) in absurd never
-reads-line (suc n) (byte ∷ line) later few is ends most at commands words room =
-    at-byte n (reads-line n) byte line later (omega (arith, few)) is ends at commands words most room
+reads-line zero (byte ∷ line) later few is ends most at commands words capacity = let never : ⊥ = omega (arith, few) in absurd never
+reads-line (suc n) (byte ∷ line) later few is ends most at commands words capacity =
+    at-byte n (reads-line n) byte line later (omega (arith, few)) is ends at commands words most capacity
 
 -- ---- all lines
 

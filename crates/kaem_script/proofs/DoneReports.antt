@@ -3,6 +3,7 @@ use Rattle.std.proofs.Common.{◌≡◌, ℕ, ◌+◌, ◌≤◌, ◌^◌, List,
 use Rattle.std.specs.FinMap as fin
 use Rattle.std.proofs.lemmas.List.{length-map}
 use Rattle.std.proofs.lemmas.List.Elements.{All-head, All-map, All-nil, All-push, All-tail, All-weaker}
+use Rattle.ddc_base.specs.Limits.{most_steps}
 use Rattle.mem_files.specs.Names.{bytes_cmp}
 use Rattle.mem_files.specs.Outputs.{AtPath, left}
 use Rattle.mem_files.specs.Sound.{AreBytes, IsSound}
@@ -48,7 +49,7 @@ record Leave (count : ℕ) (all : List Ran) (last : World) : Type 0 where
   lines : All (λ ran. IsCommandLine (command_line ran)) all
   length_is : length all ≡ count
 
-fold-leaves : (most : ℕ) (done : List Ran) (w : World) (commands : List (List (List ℕ))) (all : List Ran) (last : World) → most ≤ 2 ^ 48 → IsSound w
+fold-leaves : (most : ℕ) (done : List Ran) (w : World) (commands : List (List (List ℕ))) (all : List Ran) (last : World) → most ≤ most_steps → IsSound w
     → All IsCommand commands → All (All AreBytes) commands → All (λ ran. IsCommandLine (command_line ran)) done → fold_from most done w commands ≡ RanAll all last
     → Leave (length done + length commands) all last
 fold-leaves most done w [] all last few sound are bytes lines is =
@@ -72,10 +73,10 @@ fold-leaves most done w (words ∷ commands) all last few sound are bytes lines 
         record { sound = rest.sound; lines = rest.lines; length_is = omega (arith, rest.length_is, length-append done (ran ∷ [])) }
 
 -- a script of bytes over listed files that keep their rules
-pub done-report : (most : ℕ) (said : ScriptContents) (listed : FilesListed) (ran : List Ran) (world : World) → most ≤ 2 ^ 48 → IsScript said → All (All AreBytes) said.commands
-    → IsList listed → IsSound listed.world → folded most listed.world said.commands ≡ RanAll ran world → IsScriptReport (script_report said listed ran world)
+pub done-report : (most : ℕ) (parsed : ScriptContents) (listed : FilesListed) (ran : List Ran) (world : World) → most ≤ most_steps → IsScript parsed → All (All AreBytes) parsed.commands
+    → IsList listed → IsSound listed.world → folded most listed.world parsed.commands ≡ RanAll ran world → IsScriptReport (script_report parsed listed ran world)
 unfolding folded script_report
-done-report most said listed ran world few is bytes list sound all_ran =
-    let leave = fold-leaves most [] listed.world said.commands ran world few sound is.commands.each bytes (All-nil (λ ran. IsCommandLine (command_line ran))) all_ran in
-    good-report (script_report said listed ran world) listed world is.digest list sound leave.sound refl refl
+done-report most parsed listed ran world few is bytes list sound all_ran =
+    let leave = fold-leaves most [] listed.world parsed.commands ran world few sound is.commands.each bytes (All-nil (λ ran. IsCommandLine (command_line ran))) all_ran in
+    good-report (script_report parsed listed ran world) listed world is.digest list sound leave.sound refl refl
     (All-map IsCommandLine command_line ran leave.lines) (omega (arith, length-map ran command_line, leave.length_is, is.commands.few))

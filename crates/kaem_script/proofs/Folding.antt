@@ -53,8 +53,8 @@ module _ (most : ℕ) (first : World) (xs : List (List (List ℕ))) (i : ℕ) (l
   unfolding folded
   rest = ap (fold_from most [] first) (sym (take-append-drop i xs)) ∙ further most [] going.done first world (take i xs) (drop i xs) going.before
 
-  front : (x : List (List ℕ)) → i < length xs → x ≡ get_or xs i x → drop i xs ≡ x ∷ drop (i + 1) xs
-  front x less is = at_drop_more (λ (l : List (List (List ℕ))). l) xs i x less ∙ ap (λ (y : List (List ℕ)). y ∷ drop (i + 1) xs) (sym is)
+  prefix : (x : List (List ℕ)) → i < length xs → x ≡ get_or xs i x → drop i xs ≡ x ∷ drop (i + 1) xs
+  prefix x less is = at_drop_more (λ (l : List (List (List ℕ))). l) xs i x less ∙ ap (λ (y : List (List ℕ)). y ∷ drop (i + 1) xs) (sym is)
 
   pub goes_on : (more : List CommandLine) (line : CommandLine) (left : World) (x : List (List ℕ)) → i < length xs → x ≡ get_or xs i x
       → IsRun (command most world x) line left → more ≡ lines ++ line ∷ [] → Going most first xs (i + 1) more left
@@ -73,7 +73,7 @@ module _ (most : ℕ) (first : World) (xs : List (List (List ℕ))) (i : ℕ) (l
   pub stops : (x : List (List ℕ)) (why : CommandCause × ℕ) → i < length xs → x ≡ get_or xs i x → command most world x ≡ Err why
       → folded most first xs ≡ Stopped (i + 1) why.0 why.1
   stops x why less is err =
-      rest ∙ ap (fold_from most going.done world) (front x less is)
+      rest ∙ ap (fold_from most going.done world) (prefix x less is)
       ∙ ap (λ c. after_command (length going.done + 1) c (λ r. fold_from most (going.done ++ r ∷ []) r.world (drop (i + 1) xs))) err
       ∙ ap (λ (n : ℕ). Stopped (n + 1) why.0 why.1) going.count
 
@@ -84,7 +84,7 @@ module _ (most : ℕ) (first : World) (xs : List (List (List ℕ))) (i : ℕ) (l
     left = world;
     number_is = ap (λ (n : ℕ). n + 1) (sym going.count);
     before = subst (λ (n : ℕ). folded most first (take n xs) ≡ RanAll going.done world) (sym going.count) going.before;
-    here = subst (λ (n : ℕ). FirstHasProgram world (drop n xs)) (sym going.count) (subst (FirstHasProgram world) (sym (front x less is)) has);
+    here = subst (λ (n : ℕ). FirstHasProgram world (drop n xs)) (sym going.count) (subst (FirstHasProgram world) (sym (prefix x less is)) has);
   }
 
   pub finishes : length xs ≤ i → Finishes (folded most first xs) lines world

@@ -6,10 +6,11 @@ use Rattle.std.proofs.lemmas.Bool.Decides.{nat_tests}
 use Rattle.std.proofs.lemmas.List.Elements.{All-push}
 use Rattle.std.proofs.lemmas.List.{length-append}
 use Rattle.std.specs.Prelude.{nat_le, nat_lt, IsTrue}
+use Rattle.ddc_base.specs.Limits.{most_commands, most_words}
 use Rattle.mem_files.specs.Names.{is_file_name, stripped}
 use Rattle.kaem_script.specs.declared.refusal.ScriptFault.{ScriptFault}
 use Rattle.kaem_script.specs.declared.refusal.ScriptFault.TheVariants.{BadWord, LongWord, OpenQuote, TooMany, TooManyWords}
-use Rattle.kaem_script.specs.Script.{ScriptWord, begins, after_word, commands_from, ends_line, ends_or_begins, ends_quoted, ends_word, fitting, parts_words, is_wrong, most_commands, most_words, names_nothing, next_word, plain_word, quoted_word, with_line, word_at}
+use Rattle.kaem_script.specs.Script.{ScriptWord, begins, after_word, commands_from, ends_line, ends_or_begins, ends_quoted, ends_word, fitting, parts_words, is_wrong, names_nothing, next_word, plain_word, quoted_word, with_line, word_at}
 use Rattle.kaem_script.specs.Kept.{AreCommands, IsCommand, IsLine, IsWord, NamesProgram}
 
 abbrev has_zero : List ℕ → Bool
@@ -134,9 +135,9 @@ word-fits first here word is = by (begins (λ byte. byte == 34) here) is
 -- one more word of a line
 record Follows (commands words : ℕ) (word : ScriptWord) : Type 0 where
   is : IsWord word.text
-  room : words ≢ 64
+  capacity : words ≢ 64
   named : words ≡ 0 → IsTrue (is_file_name (stripped word.text))
-  new_room : words ≡ 0 → commands ≢ 4096
+  new_capacity : words ≡ 0 → commands ≢ most_commands
 
 next-follows : (commands words : ℕ) (here : List ℕ) (word : ScriptWord) → next_word commands words here ≡ Ok word → Follows commands words word
 unfolding next_word
@@ -148,25 +149,25 @@ next-follows commands words here word is = by (words == most_words) (nat_le word
     by false true true many empty full it = absurd (cc)
     by false true false many empty full it =
         let fits = word-fits true here word it in
-        record { is = fits.is; room = λ w. eqb-false _ _ many w; named = λ _. fits.named refl; new_room = λ _ c. eqb-false _ _ full c }
+        record { is = fits.is; capacity = λ w. eqb-false _ _ many w; named = λ _. fits.named refl; new_capacity = λ _ c. eqb-false _ _ full c }
     by false false f many empty full it =
         let fits = word-fits false here word it in
         let some : 0 < words = leb-false _ _ empty in
-        record { is = fits.is; room = λ w. eqb-false _ _ many w; named = λ zero. absurd (omega arith); new_room = λ zero. absurd (omega arith) }
+        record { is = fits.is; capacity = λ w. eqb-false _ _ many w; named = λ zero. absurd (omega arith); new_capacity = λ zero. absurd (omega arith) }
 
 -- ---- a line and all commands
 
 -- the words so far of a line: there is room for their command
 record IsOpen (commands : List (List (List ℕ))) (words : List (List ℕ)) : Type 0 where
   line : IsLine words
-  room : 0 < length words → length commands < most_commands
+  capacity : 0 < length words → length commands < most_commands
 
 line-kept : (commands : List (List (List ℕ))) (words : List (List ℕ)) → AreCommands commands → IsOpen commands words → AreCommands (with_line commands words)
 line-kept commands [] are begun = are
 line-kept commands (word ∷ words) are begun =
     let some : 0 < length (word ∷ words) = omega arith in
     record {
-      few = rw length-append (omega (arith, begun.room some));
+      few = rw length-append (omega (arith, begun.capacity some));
       each = All-push IsCommand commands (word ∷ words) are.each (record { some = omega arith; line = begun.line });
     }
 
@@ -178,19 +179,19 @@ word-kept : (commands : List (List (List ℕ))) (words : List (List ℕ)) (word 
     → Follows (length commands) (length words) word → IsOpen commands (words ++ word.text ∷ [])
 word-kept commands words word are begun follows = record {
   line = record {
-    few = rw length-append (omega (arith, begun.line.few, follows.room));
+    few = rw length-append (omega (arith, begun.line.few, follows.capacity));
     each = All-push IsWord words word.text begun.line.each follows.is;
     named = named-more words word.text begun.line.named follows.named;
   };
-  room = λ some. by (length words == 0) refl;
+  capacity = λ some. by (length words == 0) refl;
 }
   where
     by : (e : Bool) → (length words == 0) ≡ e → length commands < most_commands
-    by true empty = omega (arith, are.few, follows.new_room (eqb-true _ _ empty))
-    by false more = begun.room (omega (arith, eqb-false (length words) 0 more))
+    by true empty = omega (arith, are.few, follows.new_capacity (eqb-true _ _ empty))
+    by false more = begun.capacity (omega (arith, eqb-false (length words) 0 more))
 
 begun-none : (commands : List (List (List ℕ))) → IsOpen commands []
-begun-none commands = record { line = record { few = omega arith; each = λ k d less. absurd (omega arith); named = tt }; room = λ some. absurd (omega arith) }
+begun-none commands = record { line = record { few = omega arith; each = λ k d less. absurd (omega arith); named = tt }; capacity = λ some. absurd (omega arith) }
 
 kept : (at inside : ℕ) (commands : List (List (List ℕ))) (words : List (List ℕ)) (rest : List ℕ) (found : List (List (List ℕ)))
     → AreCommands commands → IsOpen commands words → commands_from at inside commands words rest ≡ Ok found → AreCommands found

@@ -190,7 +190,7 @@ module _ (most : ℕ) (world : World) (earlier : List (List (List ℕ))) (words 
   unfolding left_of_command
   stopped_here others why step is = by (folded most world earlier) refl
     where
-      by : (front : Folded) → folded most world earlier ≡ front → StopsThere (length earlier + 1) why step (after_earlier most (length earlier + 1) words front)
+      by : (prefix : Folded) → folded most world earlier ≡ prefix → StopsThere (length earlier + 1) why step (after_earlier most (length earlier + 1) words prefix)
       by (Stopped at cause before) same =
           let stays = kept_whole most world earlier (words ∷ others) at cause before same in
           let one = same_number at (length earlier + 1) cause why before step (sym stays.0 ∙ is) in
@@ -207,7 +207,7 @@ module _ (most : ℕ) (world : World) (earlier : List (List (List ℕ))) (words 
   unfolding left_of_command
   all_ran ran left is = by (folded most world earlier) refl
     where
-      by : (front : Folded) → folded most world earlier ≡ front → IsLast (after_earlier most (length earlier + 1) words front) ran left
+      by : (prefix : Folded) → folded most world earlier ≡ prefix → IsLast (after_earlier most (length earlier + 1) words prefix) ran left
       by (Stopped at cause before) same =
           let stays = kept_whole most world earlier (words ∷ []) at cause before same in
           not_both at cause before ran left (sym stays.0 ∙ is)
@@ -228,9 +228,9 @@ ran_over meant number left (Err want) is same = tt
 
 -- ---- where memory was wanting
 
-front_program : (world : World) (xs more : List (List (List ℕ))) → 1 ≤ length xs → FirstHasProgram world xs → FirstHasProgram world (xs ++ more)
-front_program world [] more some has = absurd (omega arith)
-front_program world (x ∷ xs) more some has = has
+prefix_program : (world : World) (xs more : List (List (List ℕ))) → 1 ≤ length xs → FirstHasProgram world xs → FirstHasProgram world (xs ++ more)
+prefix_program world [] more some has = absurd (omega arith)
+prefix_program world (x ∷ xs) more some has = has
 
 -- one of the commands before, as one of them and the command that follows
 pub wants_before : (most : ℕ) (world : World) (earlier more : List (List (List ℕ))) (number : ℕ) → number ≤ length earlier → WantsAt most world earlier number
@@ -243,7 +243,7 @@ wants_before most world earlier more number within at =
       number_is = at.number_is;
       before = ap (folded most world) (take-append-le (length at.ran) earlier more (omega (arith, less))) ∙ at.before;
       here = subst (FirstHasProgram at.left) (sym (drop-append-le (length at.ran) earlier more (omega (arith, less))))
-          (front_program at.left (drop (length at.ran) earlier) more (omega (arith, less, length-drop (length at.ran) earlier)) at.here);
+          (prefix_program at.left (drop (length at.ran) earlier) more (omega (arith, less, length-drop (length at.ran) earlier)) at.here);
     }
 
 -- the command itself, after those before it

@@ -5,6 +5,7 @@ use Rattle.std.specs.Prelude.{bytes_eq, nat_le, option_map}
 use Rattle.std.proofs.lemmas.Bool.{and_parts, and_from, eqb-true, eq-eqb, leb-true, le-leb}
 use Rattle.std.proofs.lemmas.List.{append-nil}
 use Rattle.std.proofs.lemmas.Slice.Eq.{bytes_eq-Decides}
+use Rattle.ddc_base.specs.Limits.{most_steps}
 use Rattle.sha2.specs.Sha256.{sha256}
 use Rattle.mem_files.specs.World.{World}
 use Rattle.mem_files.specs.Outputs.{left}
@@ -58,33 +59,33 @@ wrong-none : (b : Bool) (rest : Option ℕ) (number : ℕ) → cond b rest (Some
 wrong-none true rest number e = (refl, e)
 wrong-none false rest number e = absurd cc
 
-files-said : (number : ℕ) (files : List (List ℕ × List ℕ)) (lines : List LeftLine) → wrong_file number files lines ≡ None → lines ≡ map marked files
-files-said number [] [] e = refl
-files-said number [] (line ∷ lines) e = absurd cc
-files-said number (file ∷ files) [] e = absurd cc
-files-said number (file ∷ files) (line ∷ lines) e =
+files-reported : (number : ℕ) (files : List (List ℕ × List ℕ)) (lines : List LeftLine) → wrong_file number files lines ≡ None → lines ≡ map marked files
+files-reported number [] [] e = refl
+files-reported number [] (line ∷ lines) e = absurd cc
+files-reported number (file ∷ files) [] e = absurd cc
+files-reported number (file ∷ files) (line ∷ lines) e =
     let parts = wrong-none (says_file line file) (wrong_file (number + 1) files lines) number e in
     let first = (file-Decides line file).0 parts.0 in
-    let rest = files-said (number + 1) files lines parts.1 in
+    let rest = files-reported (number + 1) files lines parts.1 in
     λ i. first i ∷ rest i
 
-said-files : (number : ℕ) (files : List (List ℕ × List ℕ)) → wrong_file number files (map marked files) ≡ None
-said-files number [] = refl
-said-files number (file ∷ files) = rw ((file-Decides (marked file) file).1 refl) (said-files (number + 1) files)
+reported-files : (number : ℕ) (files : List (List ℕ × List ℕ)) → wrong_file number files (map marked files) ≡ None
+reported-files number [] = refl
+reported-files number (file ∷ files) = rw ((file-Decides (marked file) file).1 refl) (reported-files (number + 1) files)
 
-left-said : (lines : List LeftLine) (files : List (List ℕ × List ℕ)) → says_files lines files ≡ true → lines ≡ map marked files
-left-said [] [] e = refl
-left-said [] (file ∷ files) e = absurd cc
-left-said (line ∷ lines) [] e = absurd cc
-left-said (line ∷ lines) (file ∷ files) e =
+left-reported : (lines : List LeftLine) (files : List (List ℕ × List ℕ)) → says_files lines files ≡ true → lines ≡ map marked files
+left-reported [] [] e = refl
+left-reported [] (file ∷ files) e = absurd cc
+left-reported (line ∷ lines) [] e = absurd cc
+left-reported (line ∷ lines) (file ∷ files) e =
     let parts = and_parts (says_file line file) (says_files lines files) e in
     let first = (file-Decides line file).0 parts.0 in
-    let rest = left-said lines files parts.1 in
+    let rest = left-reported lines files parts.1 in
     λ i. first i ∷ rest i
 
-said-left : (files : List (List ℕ × List ℕ)) → says_files (map marked files) files ≡ true
-said-left [] = refl
-said-left (file ∷ files) = and_from (says_file (marked file) file) (says_files (map marked files) files) ((file-Decides (marked file) file).1 refl) (said-left files)
+reported-left : (files : List (List ℕ × List ℕ)) → says_files (map marked files) files ≡ true
+reported-left [] = refl
+reported-left (file ∷ files) = and_from (says_file (marked file) file) (says_files (map marked files) files) ((file-Decides (marked file) file).1 refl) (reported-left files)
 
 -- ---- one command, within more steps or fewer
 
@@ -105,7 +106,7 @@ taken most world words ran is =
 -- what stands after a command's line that is right
 record Replays (world : World) (words : List (List ℕ)) (line : CommandLine) (after : World) : Type 0 where
   ran : Ran
-  run : command (2 ^ 48) world words ≡ Ok ran
+  run : command most_steps world words ≡ Ok ran
   line_is : line ≡ command_line ran
   leaves : ran.world ≡ after
 
@@ -119,26 +120,26 @@ right-streams false found after e = absurd cc
 
 record LeftAt (world : World) (words : List (List ℕ)) (step : ℕ) (after : World) : Type 0 where
   ran : Ran
-  run : command (2 ^ 48) world words ≡ Ok ran
+  run : command most_steps world words ≡ Ok ran
   step_is : ran.steps ≡ step
   leaves : ran.world ≡ after
 
 left-run : (world : World) (words : List (List ℕ)) (step : ℕ) (after : World) → left_at_step world words step ≡ Some after → LeftAt world words step after
 unfolding left_at_step
-left-run world words step after is = by_limits (nat_le 1 step && nat_le step (2 ^ 48)) refl is
+left-run world words step after is = by_limits (nat_le 1 step && nat_le step most_steps) refl is
   where
-    by_result : (c : CommandResult) → command step world words ≡ c → step ≤ 2 ^ 48 → left_after_steps step c ≡ Some after → LeftAt world words step after
+    by_result : (c : CommandResult) → command step world words ≡ c → step ≤ most_steps → left_after_steps step c ≡ Some after → LeftAt world words step after
     by_result (Err why) was few here = absurd cc
     by_result (Ok ran) was few here =
         let same = same-world (ran.steps == step) ran.world after here in
         let steps_are = taken step world words ran was in
-        record { ran = ran; run = within step (2 ^ 48) world words ran was (omega (arith, steps_are.1, few)); step_is = eqb-true ran.steps step same.0; leaves = same.1 }
+        record { ran = ran; run = within step most_steps world words ran was (omega (arith, steps_are.1, few)); step_is = eqb-true ran.steps step same.0; leaves = same.1 }
 
-    by_limits : (b : Bool) → (nat_le 1 step && nat_le step (2 ^ 48)) ≡ b → cond b (left_after_steps step (command step world words)) None ≡ Some after
+    by_limits : (b : Bool) → (nat_le 1 step && nat_le step most_steps) ≡ b → cond b (left_after_steps step (command step world words)) None ≡ Some after
         → LeftAt world words step after
     by_limits false limits here = absurd cc
     by_limits true limits here =
-        by_result (command step world words) refl (leb-true step (2 ^ 48) (and_parts (nat_le 1 step) (nat_le step (2 ^ 48)) limits).1) here
+        by_result (command step world words) refl (leb-true step most_steps (and_parts (nat_le 1 step) (nat_le step most_steps) limits).1) here
 
 replayed_command-run : (world : World) (words : List (List ℕ)) (line : CommandLine) (after : World) → replayed_command world words line ≡ Ok after → Replays world words line after
 unfolding replayed_command
@@ -161,13 +162,13 @@ replayed_command-run world words line after is = on (left_at_step world words li
           leaves = found_is.leaves ∙ right.1;
         }
 
-run-replayed_command : (world : World) (words : List (List ℕ)) (ran : Ran) → command (2 ^ 48) world words ≡ Ok ran → replayed_command world words (command_line ran) ≡ Ok ran.world
+run-replayed_command : (world : World) (words : List (List ℕ)) (ran : Ran) → command most_steps world words ≡ Ok ran → replayed_command world words (command_line ran) ≡ Ok ran.world
 unfolding replayed_command left_at_step
 run-replayed_command world words ran is =
-    let steps_are = taken (2 ^ 48) world words ran is in
-    let exact : command ran.steps world words ≡ Ok ran = within (2 ^ 48) ran.steps world words ran is (omega arith) in
-    let limits : (nat_le 1 ran.steps && nat_le ran.steps (2 ^ 48)) ≡ true =
-    and_from (nat_le 1 ran.steps) (nat_le ran.steps (2 ^ 48)) (le-leb 1 ran.steps steps_are.0) (le-leb ran.steps (2 ^ 48) steps_are.1) in
+    let steps_are = taken most_steps world words ran is in
+    let exact : command ran.steps world words ≡ Ok ran = within most_steps ran.steps world words ran is (omega arith) in
+    let limits : (nat_le 1 ran.steps && nat_le ran.steps most_steps) ≡ true =
+    and_from (nat_le 1 ran.steps) (nat_le ran.steps most_steps) (le-leb 1 ran.steps steps_are.0) (le-leb ran.steps most_steps steps_are.1) in
     let marks : says_streams (command_line ran) ran.world ≡ true =
     and_from (is_mark_of (mark_of ran.world.stream1) ran.world.stream1) (is_mark_of (mark_of ran.world.stream2) ran.world.stream2)
     ((mark-Decides (mark_of ran.world.stream1) ran.world.stream1).1 refl) ((mark-Decides (mark_of ran.world.stream2) ran.world.stream2).1 refl) in
@@ -231,7 +232,7 @@ run-folded most done world (words ∷ commands) (ran ∷ rans) last are =
 record Right (f : World → Option (ScriptPart × ℕ)) (world : World) (commands : List (List (List ℕ))) (lines : List CommandLine) : Type 0 where
   rans : List Ran
   last : World
-  are : AreRun (2 ^ 48) world commands rans last
+  are : AreRun most_steps world commands rans last
   lines_are : lines ≡ map command_line rans
   rest : f last ≡ None
 
@@ -250,13 +251,13 @@ lines-right f number world (words ∷ commands) (line ∷ lines) is =
     on (Ok after) was further here =
         let rest = further after here in
         let first = replayed_command-run world words line after was in
-        let are : AreRun (2 ^ 48) first.ran.world commands rest.rans rest.last = subst (λ (w : World). AreRun (2 ^ 48) w commands rest.rans rest.last) (sym first.leaves) rest.are in
+        let are : AreRun most_steps first.ran.world commands rest.rans rest.last = subst (λ (w : World). AreRun most_steps w commands rest.rans rest.last) (sym first.leaves) rest.are in
         let line_is = first.line_is in
         let lines_are = rest.lines_are in
         record { rans = first.ran ∷ rest.rans; last = rest.last; are = (first.run, are); lines_are = λ i. line_is i ∷ lines_are i; rest = rest.rest }
 
 right-lines : (f : World → Option (ScriptPart × ℕ)) (number : ℕ) (world : World) (commands : List (List (List ℕ))) (rans : List Ran) (last : World)
-    → AreRun (2 ^ 48) world commands rans last → f last ≡ None → commands_fault f number world commands (map command_line rans) ≡ None
+    → AreRun most_steps world commands rans last → f last ≡ None → commands_fault f number world commands (map command_line rans) ≡ None
 right-lines f number world [] [] last are rest = ap f are ∙ rest
 right-lines f number world [] (ran ∷ rans) last are rest = absurd are
 right-lines f number world (words ∷ commands) [] last are rest = absurd are
@@ -286,7 +287,7 @@ headed : (b : Bool) (rest : Option (ScriptPart × ℕ)) → cond b rest (Some (p
 headed true rest e = (refl, e)
 headed false rest e = absurd cc
 
-pub no_fault_reports : (script : ScriptContents) (listed : FilesListed) (report : ScriptReport) → first_script_fault script listed report ≡ None → end_of_script (2 ^ 48) script listed ≡ Ok report
+pub no_fault_reports : (script : ScriptContents) (listed : FilesListed) (report : ScriptReport) → first_script_fault script listed report ≡ None → end_of_script most_steps script listed ≡ Ok report
 unfolding first_script_fault folded script_report
 no_fault_reports script listed report is =
     let files = files_fault (listed_files listed) report.files in
@@ -294,11 +295,11 @@ no_fault_reports script listed report is =
     let head = headed (bytes_eq script.digest.0 report.script.0) (fault_or files commands) is in
     let parts = none-of-both files commands head.1 in
     let digest_is = (bytes_eq-Decides script.digest.0 report.script.0).0 head.0 in
-    let files_are = files-said 1 (listed_files listed) report.files (no-number (wrong_file 1 (listed_files listed) report.files) parts.0) in
+    let files_are = files-reported 1 (listed_files listed) report.files (no-number (wrong_file 1 (listed_files listed) report.files) parts.0) in
     let right = lines-right (left_fault report.left) 1 listed.world script.commands report.commands parts.1 in
-    let left_is = left-said report.left (left right.last) (left-none report.left right.last right.rest) in
+    let left_is = left-reported report.left (left right.last) (left-none report.left right.last right.rest) in
     let lines_are = right.lines_are in
-    ap (script_ended script listed) (run-folded (2 ^ 48) [] listed.world script.commands right.rans right.last right.are)
+    ap (script_ended script listed) (run-folded most_steps [] listed.world script.commands right.rans right.last right.are)
     ∙ (λ i. Ok (record { script = record { 0 = digest_is i }; files = sym files_are i; commands = sym lines_are i; left = sym left_is i }))
 
 -- the report of an audit that is done
@@ -320,21 +321,21 @@ done-is most script listed report is = on (folded most listed.world script.comma
         record { rans = all; last = last; are = are; is = cc }
 
 -- a report that the commands give has no fault
-run_has_none : (script : ScriptContents) (listed : FilesListed) (rans : List Ran) (last : World) → AreRun (2 ^ 48) listed.world script.commands rans last
+run_has_none : (script : ScriptContents) (listed : FilesListed) (rans : List Ran) (last : World) → AreRun most_steps listed.world script.commands rans last
     → first_script_fault script listed (script_report script listed rans last) ≡ None
 unfolding first_script_fault script_report
 run_has_none script listed rans last are =
     let lines = map command_line rans in
     let at_end = left_fault (map marked (left last)) in
-    let none_left : at_end last ≡ None = ap (λ (b : Bool). cond b None (Some (part.Left, 0))) (said-left (left last)) in
+    let none_left : at_end last ≡ None = ap (λ (b : Bool). cond b None (Some (part.Left, 0))) (reported-left (left last)) in
     ap (λ (b : Bool). cond b (fault_or (files_fault (listed_files listed) (map marked (listed_files listed))) (commands_fault at_end 1 listed.world script.commands lines))
     (Some (part.Header, 0))) ((bytes_eq-Decides script.digest.0 script.digest.0).1 refl)
-    ∙ ap (λ (o : Option ℕ). fault_or (option_map (λ number. (part.File, number)) o) (commands_fault at_end 1 listed.world script.commands lines)) (said-files 1 (listed_files listed))
+    ∙ ap (λ (o : Option ℕ). fault_or (option_map (λ number. (part.File, number)) o) (commands_fault at_end 1 listed.world script.commands lines)) (reported-files 1 (listed_files listed))
     ∙ right-lines at_end 1 listed.world script.commands rans last are none_left
 
-pub reported_without_fault : (most : ℕ) (script : ScriptContents) (listed : FilesListed) (report : ScriptReport) → most ≤ 2 ^ 48 → end_of_script most script listed ≡ Ok report
+pub reported_without_fault : (most : ℕ) (script : ScriptContents) (listed : FilesListed) (report : ScriptReport) → most ≤ most_steps → end_of_script most script listed ≡ Ok report
     → first_script_fault script listed report ≡ None
 reported_without_fault most script listed report few is =
     let done = done-is most script listed report is in
     ap (first_script_fault script listed) (sym done.is)
-    ∙ run_has_none script listed done.rans done.last (within-all most (2 ^ 48) listed.world script.commands done.rans done.last few done.are)
+    ∙ run_has_none script listed done.rans done.last (within-all most most_steps listed.world script.commands done.rans done.last few done.are)

@@ -87,20 +87,20 @@ left-ends : (w : World) (last : Option (List ℕ)) → name_after w last ≡ Non
 left-ends w last none = ap (map (named_in w)) (walk-end last (fin.keys w.names) none)
 
 -- the next line says the next file, and so on
-pub next-said : (w : World) (last : Option (List ℕ)) (name : List ℕ) (ahead rest : List LeftLine) (line : LeftLine) (says : Bool)
+pub next-reported : (w : World) (last : Option (List ℕ)) (name : List ℕ) (ahead rest : List LeftLine) (line : LeftLine) (says : Bool)
     → ahead ≡ line ∷ rest → name_after w last ≡ Some name → says_file line (named_in w name) ≡ says
     → says_files ahead (files_after w last) ≡ (says && says_files rest (files_after w (Some name)))
-next-said w last name ahead rest line says is found said =
-    (λ i. says_files (is i) (left-turns w last name found i)) ∙ ap (λ (b : Bool). b && says_files rest (files_after w (Some name))) said
+next-reported w last name ahead rest line says is found parsed =
+    (λ i. says_files (is i) (left-turns w last name found i)) ∙ ap (λ (b : Bool). b && says_files rest (files_after w (Some name))) parsed
 
 -- a line without a file
-pub no-file-said : (w : World) (last : Option (List ℕ)) (ahead rest : List LeftLine) (line : LeftLine) → ahead ≡ line ∷ rest → name_after w last ≡ None
+pub no-file-reported : (w : World) (last : Option (List ℕ)) (ahead rest : List LeftLine) (line : LeftLine) → ahead ≡ line ∷ rest → name_after w last ≡ None
     → says_files ahead (files_after w last) ≡ false
-no-file-said w last ahead rest line is none = λ i. says_files (is i) (left-ends w last none i)
+no-file-reported w last ahead rest line is none = λ i. says_files (is i) (left-ends w last none i)
 
 -- after the last line there is no further file, or one without a line
-pub all-said : (w : World) (last : Option (List ℕ)) → says_files [] (files_after w last) ≡ is_none (name_after w last)
-all-said w last = by_next (name_after w last) refl
+pub all-reported : (w : World) (last : Option (List ℕ)) → says_files [] (files_after w last) ≡ is_none (name_after w last)
+all-reported w last = by_next (name_after w last) refl
   where
     by_next : (next : Option (List ℕ)) → name_after w last ≡ next → says_files [] (files_after w last) ≡ is_none next
     by_next None none = ap (says_files []) (left-ends w last none)

@@ -46,15 +46,15 @@ is-run most world words ran is = at_program (content_at world (program_name word
         let ends = by-end most ran (first_end start most) here in
         let last = ends.0 in
         let run : ProgramRun program (command_box world words) (last.steps + 1) 0 last.world = exit-run program (command_box world words) start last most 0 begins ends.1 in
-        let place = first_end-at start most (Exited 0, last) ends.1 in
-        let counted : start.steps + place.0 ≡ last.steps + 1 = end-counted start last place.0 (Exited 0) place.2 in
+        let at_step = first_end-at start most (Exited 0, last) ends.1 in
+        let counted : start.steps + at_step.0 ≡ last.steps + 1 = end-counted start last at_step.0 (Exited 0) at_step.2 in
         let none : start.steps ≡ 0 = starts_are program (command_box world words) start begins in
         record {
           program = program;
           there = there;
           run = subst (λ (w : World). ProgramRun program (command_box world words) ran.steps 0 w) ends.3
               (subst (λ (n : ℕ). ProgramRun program (command_box world words) n 0 last.world) ends.2 run);
-          within = omega (arith, counted, none, place.1, ends.2);
+          within = omega (arith, counted, none, at_step.1, ends.2);
         }
 
     at_program : (program : Option (List ℕ)) → content_at world (program_name words) ≡ program → by_program most world words program ≡ Ok ran

@@ -3,10 +3,11 @@ use Rattle.std.proofs.Common.{ℕ, zero, suc, ◌+◌, ◌-◌, ◌<◌, ◌==�
 use Rattle.std.specs.List.{list_any, position_or_len}
 use Rattle.std.specs.Prelude.{nat_le, nat_lt}
 use Rattle.std.proofs.lemmas.List.Elements.{All-drop, All-nil, All-push, All-tail, All-take}
+use Rattle.ddc_base.specs.Limits.{most_commands, most_words}
 use Rattle.mem_files.specs.Sound.{AreBytes}
 use Rattle.kaem_script.specs.declared.refusal.ScriptFault.{ScriptFault}
 use Rattle.kaem_script.specs.declared.refusal.ScriptFault.TheVariants.{BadWord, LongWord, OpenQuote, TooMany, TooManyWords}
-use Rattle.kaem_script.specs.Script.{Commands, ScriptWord, begins, after_word, commands_from, commands_of, ends_line, ends_or_begins, ends_quoted, ends_word, fitting, is_wrong, most_commands, most_words, names_nothing, next_word, parts_words, plain_word, quoted_word, with_line, word_at}
+use Rattle.kaem_script.specs.Script.{Commands, ScriptWord, begins, after_word, commands_from, commands_of, ends_line, ends_or_begins, ends_quoted, ends_word, fitting, is_wrong, names_nothing, next_word, parts_words, plain_word, quoted_word, with_line, word_at}
 
 abbrev IsByte : ℕ → Type 0
 IsByte byte = byte < 256

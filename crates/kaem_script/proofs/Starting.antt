@@ -10,7 +10,7 @@ use Rattle.elf_load.specs.declared.Image.{Image}
 use Rattle.elf_load.specs.declared.refusal.ElfRefusal.{ElfRefusal}
 use Rattle.elf_load.specs.Image.{image_of}
 use Rattle.mem_files.specs.Calls.{content_at, first_world}
-use Rattle.mem_files.specs.Limits.{most_total}
+use Rattle.ddc_base.specs.Limits.{most_texts, most_total}
 use Rattle.mem_files.specs.Names.{bytes_cmp, is_stripped_name}
 use Rattle.mem_files.specs.Outputs.{left}
 use Rattle.mem_files.specs.Sound.{IsSound}
@@ -42,7 +42,7 @@ text-size (word ∷ words) each =
     let all = length-append (zero_ended word) (ended_texts words) in
     omega (arith, first, rest, long, all)
 
-pub texts-fit : (words : List (List ℕ)) → IsCommand words → start_size words [] ≤ 131072
+pub texts-fit : (words : List (List ℕ)) → IsCommand words → start_size words [] ≤ most_texts
 texts-fit words is =
     let size = text-size words is.line.each in
     let few = is.line.few in
@@ -69,19 +69,19 @@ passes most size fits = grind (arith, nat_tests)
 
 -- a setting that fits
 record Fits (setting : Setting) : Type 0 where
-  texts : nat_lt 131072 (start_size setting.args setting.env) ≡ false
+  texts : nat_lt most_texts (start_size setting.args setting.env) ≡ false
   files : nat_lt most_total (files_size setting.files) ≡ false
 
 texts-of-fit : (words : List (List ℕ)) → IsCommand words → Fits (texts_of words)
 texts-of-fit words is = record {
-  texts = passes 131072 (start_size words []) (texts-fit words is);
+  texts = passes most_texts (start_size words []) (texts-fit words is);
   files = passes most_total (files_size fin.empty) (omega (arith, no-files));
 }
 
 box-fits : (w : World) (words : List (List ℕ)) → IsSound w → IsCommand words → Fits (command_box w words)
 unfolding command_box
 box-fits w words sound is = record {
-  texts = passes 131072 (start_size words []) (texts-fit words is);
+  texts = passes most_texts (start_size words []) (texts-fit words is);
   files = passes most_total (files_size (fin.from_entries (left w))) (files-fit w sound);
 }
 

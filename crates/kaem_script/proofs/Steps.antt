@@ -7,8 +7,8 @@ use Rattle.kaem_script.specs.declared.refusal.ScriptFault.{ScriptFault}
 use Rattle.kaem_script.specs.Script.{ScriptWord, commands_from, ends_line, parts_words, next_word, with_line}
 
 -- what begins at a place
-pub front : (script : List ℕ) (at : ℕ) → at < length script → drop at script ≡ get_or script at 0 ∷ drop (at + 1) script
-front script at within = at_drop_more (λ (l : List ℕ). l) script at 0 within
+pub prefix : (script : List ℕ) (at : ℕ) → at < length script → drop at script ≡ get_or script at 0 ∷ drop (at + 1) script
+prefix script at within = at_drop_more (λ (l : List ℕ). l) script at 0 within
 
 -- bytes that were read already are passed over
 pub passed : (at inside : ℕ) (commands : List (List (List ℕ))) (words : List (List ℕ)) (rest : List ℕ)
@@ -22,7 +22,7 @@ passed at (suc inside) commands words (byte ∷ rest) =
 
 -- the first byte of what begins at a place
 first-byte : (script here : List ℕ) (at : ℕ) → at < length script → here ≡ drop at script → get_or here 0 0 ≡ get_or script at 0
-first-byte script here at within is = ap (λ (l : List ℕ). get_or l 0 0) (is ∙ front script at within)
+first-byte script here at within is = ap (λ (l : List ℕ). get_or l 0 0) (is ∙ prefix script at within)
 
 pub at-line-end : (script here : List ℕ) (at : ℕ) (commands : List (List (List ℕ))) (words : List (List ℕ)) → at < length script
     → here ≡ drop at script → get_or here 0 0 ≡ 10
@@ -30,7 +30,7 @@ pub at-line-end : (script here : List ℕ) (at : ℕ) (commands : List (List (Li
 unfolding commands_from
 at-line-end script here at commands words within is ends =
     let byte : get_or script at 0 ≡ 10 = sym (first-byte script here at within is) ∙ ends in
-    rw (front script at within) (rw byte refl)
+    rw (prefix script at within) (rw byte refl)
 
 pub at-blank : (script here : List ℕ) (at : ℕ) (commands : List (List (List ℕ))) (words : List (List ℕ)) → at < length script
     → here ≡ drop at script → (get_or here 0 0 ≡ 10 → ⊥) → parts_words (get_or here 0 0) ≡ true
@@ -40,7 +40,7 @@ at-blank script here at commands words within is other blank =
     let same = first-byte script here at within is in
     let ends : ends_line (get_or script at 0) ≡ false = ne_eqb _ _ (λ e. other (same ∙ e)) in
     let passes : parts_words (get_or script at 0) ≡ true = ap parts_words (sym same) ∙ blank in
-    rw (front script at within) (rw ends (rw passes refl))
+    rw (prefix script at within) (rw ends (rw passes refl))
 
 pub at-comment : (script here following : List ℕ) (at size : ℕ) (commands : List (List (List ℕ))) (words : List (List ℕ)) → at < length script
     → here ≡ drop at script → following ≡ drop (at + 1) script → get_or here 0 0 ≡ 35 → size ≡ position_or_len ends_line following
@@ -50,7 +50,7 @@ at-comment script here following at size commands words within is later begins s
     let byte : get_or script at 0 ≡ 35 = sym (first-byte script here at within is) ∙ begins in
     let moved : at + 1 + size ≡ at + (1 + size) = omega arith in
     let same : position_or_len ends_line (drop (at + 1) script) ≡ size = ap (position_or_len ends_line) (sym later) ∙ sym size_is in
-    rw (front script at within) (rw byte (rw same (
+    rw (prefix script at within) (rw byte (rw same (
     passed (at + 1) size commands words (drop (at + 1) script)
     ∙ ap (commands_from (at + 1 + size) 0 commands words) (drop-drop size (at + 1) script)
     ∙ ap (λ (n : ℕ). commands_from n 0 commands words (drop n script)) moved)))
@@ -69,14 +69,14 @@ pub at-word : (script here : List ℕ) (at : ℕ) (commands : List (List (List �
 unfolding commands_from
 at-word script here at commands words word b found some =
     let same = first-byte script here at b.within b.is in
-    let front_is = front script at b.within in
+    let prefix_is = prefix script at b.within in
     let ends : ends_line (get_or script at 0) ≡ false = ne_eqb _ _ (λ e. b.not_end (same ∙ e)) in
     let blank : parts_words (get_or script at 0) ≡ false = ap parts_words (sym same) ∙ b.not_blank in
     let comment : (get_or script at 0 == 35) ≡ false = ne_eqb _ _ (λ e. b.not_comment (same ∙ e)) in
     let taken : next_word (length commands) (length words) (get_or script at 0 ∷ drop (at + 1) script) ≡ Ok word =
-    ap (next_word (length commands) (length words)) (sym (b.is ∙ front_is)) ∙ found in
+    ap (next_word (length commands) (length words)) (sym (b.is ∙ prefix_is)) ∙ found in
     let moved : at + 1 + (word.size - 1) ≡ at + word.size = omega arith in
-    rw front_is (rw ends (rw blank (rw comment (rw taken (
+    rw prefix_is (rw ends (rw blank (rw comment (rw taken (
     passed (at + 1) (word.size - 1) commands (words ++ word.text ∷ []) (drop (at + 1) script)
     ∙ ap (commands_from (at + 1 + (word.size - 1)) 0 commands (words ++ word.text ∷ [])) (drop-drop (word.size - 1) (at + 1) script)
     ∙ ap (λ (n : ℕ). commands_from n 0 commands (words ++ word.text ∷ []) (drop n script)) moved)))))
@@ -87,13 +87,13 @@ pub at-fault : (script here : List ℕ) (at : ℕ) (commands : List (List (List 
 unfolding commands_from
 at-fault script here at commands words fault b found =
     let same = first-byte script here at b.within b.is in
-    let front_is = front script at b.within in
+    let prefix_is = prefix script at b.within in
     let ends : ends_line (get_or script at 0) ≡ false = ne_eqb _ _ (λ e. b.not_end (same ∙ e)) in
     let blank : parts_words (get_or script at 0) ≡ false = ap parts_words (sym same) ∙ b.not_blank in
     let comment : (get_or script at 0 == 35) ≡ false = ne_eqb _ _ (λ e. b.not_comment (same ∙ e)) in
     let taken : next_word (length commands) (length words) (get_or script at 0 ∷ drop (at + 1) script) ≡ Err fault =
-    ap (next_word (length commands) (length words)) (sym (b.is ∙ front_is)) ∙ found in
-    rw front_is (rw ends (rw blank (rw comment (rw taken refl))))
+    ap (next_word (length commands) (length words)) (sym (b.is ∙ prefix_is)) ∙ found in
+    rw prefix_is (rw ends (rw blank (rw comment (rw taken refl))))
 
 pub at-end : (script : List ℕ) (at : ℕ) (commands : List (List (List ℕ))) (words : List (List ℕ)) → length script ≤ at
     → commands_from at 0 commands words (drop at script) ≡ Ok (with_line commands words)

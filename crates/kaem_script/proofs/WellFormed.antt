@@ -11,7 +11,7 @@ use Rattle.std.proofs.lemmas.List.Elements.{All-map, All-nil, All-weaker}
 use Rattle.sha2.specs.Sha256.{sha256}
 use Rattle.ddc_base.specs.declared.digests.Digest.{Digest}
 use Rattle.mem_files.specs.Calls.{content_at}
-use Rattle.mem_files.specs.Limits.{most_name}
+use Rattle.ddc_base.specs.Limits.{most_commands, most_name, most_steps}
 use Rattle.mem_files.specs.Names.{begins_with_dot_slash, bytes_cmp, is_file_name, is_stripped_name}
 use Rattle.mem_files.specs.Outputs.{AtPath, IsContent, IsLeftFile, left}
 use Rattle.mem_files.specs.Sound.{IsSound}
@@ -50,7 +50,7 @@ some-step : (start : GuestState) (number : ℕ) (end : End × GuestState) → en
 some-step start zero end is = absurd (no_end_at-zero start end is)
 some-step start (suc number) end is = omega arith
 
-pub good-line : (most : ℕ) (w after : World) (words : List (List ℕ)) (line : CommandLine) → most ≤ 2 ^ 48 → IsSound after
+pub good-line : (most : ℕ) (w after : World) (words : List (List ℕ)) (line : CommandLine) → most ≤ most_steps → IsSound after
     → IsRun (command most w words) line after → IsCommandLine line
 good-line most w after words line few sound run =
     let is = is-run most w words (ran_with line after) run.0 in
@@ -112,7 +112,7 @@ listed-lines listed is sound =
 
 -- a report with these lines
 pub good-report : (report : ScriptReport) (listed : FilesListed) (world : World) → IsDigest report.script → IsList listed → IsSound listed.world → IsSound world
-    → report.files ≡ map marked (listed_files listed) → report.left ≡ map marked (left world) → All IsCommandLine report.commands → length report.commands ≤ 4096
+    → report.files ≡ map marked (listed_files listed) → report.left ≡ map marked (left world) → All IsCommandLine report.commands → length report.commands ≤ most_commands
     → IsScriptReport report
 good-report report listed world digest list listed_sound sound files_are left_is commands few =
     let are = left-are world sound in

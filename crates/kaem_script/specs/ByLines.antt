@@ -2,9 +2,10 @@
 -- says that this is what `commands_of` of Script.antt reads in one pass. docs/reference/kaem.md says the same for people.
 use Rattle.std.specs.Prelude.{ℕ, zero, suc, ◌+◌, ◌-◌, ◌==◌, nat_lt, Bool, ◌&&◌, not, if◌then◌else◌, List, [], ◌∷◌, ◌++◌, length, drop, Result, Ok, Err}
 use Rattle.std.specs.List.{after_first, before_first, list_any, position_or_len, prefix_len, slice_split}
+use Rattle.ddc_base.specs.Limits.{most_commands, most_words}
 use Rattle.kaem_script.specs.declared.refusal.ScriptFault.{ScriptFault}
 use Rattle.kaem_script.specs.declared.refusal.ScriptFault.TheVariants.{OpenQuote, BadWord, LongWord, TooManyWords, TooMany}
-use Rattle.kaem_script.specs.Script.{Commands, ends_line, ends_or_begins, is_wrong, most_commands, most_words, names_nothing, parts_words, with_line}
+use Rattle.kaem_script.specs.Script.{Commands, ends_line, ends_or_begins, is_wrong, names_nothing, parts_words, with_line}
 
 -- ---- a word, with which the rest of a line begins
 

@@ -1,7 +1,8 @@
 -- The first fault of a script's report, part by part in the order of docs/reference/kaem.md, which says the same for people. A command's
 -- recorded step is checked and not searched for. Its program and its files are the bytes that the commands before it left. Digests are
 -- SHA-256 (FIPS 180-4).
-use Rattle.std.specs.Prelude.{ℕ, ◌+◌, ◌^◌, ◌==◌, Bool, true, false, ◌&&◌, if◌then◌else◌, nat_le, bytes_eq, Option, None, Some, Result, Ok, Err, List, [], ◌∷◌, option_map}
+use Rattle.std.specs.Prelude.{ℕ, ◌+◌, ◌==◌, Bool, true, false, ◌&&◌, if◌then◌else◌, nat_le, bytes_eq, Option, None, Some, Result, Ok, Err, List, [], ◌∷◌, option_map}
+use Rattle.ddc_base.specs.Limits.{most_steps}
 use Rattle.mem_files.specs.World.{World}
 use Rattle.mem_files.specs.Outputs.{left}
 use Rattle.report.specs.declared.types.LeftLine.{LeftLine}
@@ -35,7 +36,7 @@ left_after_steps step (Err why) = None
 
 -- the files that a command leaves, if its run ends with an exit with 0 at exactly this step, which is from 1 to 2^48
 unfoldable pub left_at_step : World → List (List ℕ) → ℕ → Option World
-left_at_step world words step = if nat_le 1 step && nat_le step (2 ^ 48) then left_after_steps step (command step world words) else None
+left_at_step world words step = if nat_le 1 step && nat_le step most_steps then left_after_steps step (command step world words) else None
 
 -- a command's line agrees with what it wrote to its streams
 abbrev pub says_streams : CommandLine → World → Bool

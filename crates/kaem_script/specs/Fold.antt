@@ -1,6 +1,7 @@
 -- The commands of a script in order, in one file system. docs/reference/kaem.md says the same for people.
 use Rattle.std.specs.Prelude.{◌≡◌, ℕ, ◌+◌, ◌==◌, if◌then◌else◌, Option, None, Some, Result, Ok, Err, List, [], ◌∷◌, ◌++◌, length}
 use Rattle.std.specs.FinMap as files
+use Rattle.ddc_base.specs.Limits.{usual_heap}
 use Rattle.mem_files.specs.World.{World}
 use Rattle.mem_files.specs.Calls.{content_at}
 use Rattle.mem_files.specs.Names.{stripped}
@@ -18,7 +19,7 @@ use Rattle.kaem_script.specs.declared.fold.ScriptStop.TheVariants.{Failed, OutOf
 
 -- the execution context of a command's program: all words as they are written, no environment, and all files that exist
 unfoldable pub command_box : World → List (List ℕ) → Setting
-command_box world words = record { args = words; env = []; files = files.from_entries (left world); heap = 536_870_912 }
+command_box world words = record { args = words; env = []; files = files.from_entries (left world); heap = usual_heap }
 
 -- the first word names the program
 abbrev pub program_name : List (List ℕ) → List ℕ

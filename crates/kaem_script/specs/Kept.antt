@@ -1,9 +1,10 @@
 -- What holds of every script. docs/reference/kaem.md says the same for people.
 use Rattle.std.specs.Prelude.{ℕ, ◌≤◌, ◌==◌, not, IsTrue, List, [], ◌∷◌, length, All}
 use Rattle.std.specs.List.{list_any}
+use Rattle.ddc_base.specs.Limits.{most_commands, most_words}
 use Rattle.mem_files.specs.Names.{is_file_name, stripped}
 use Rattle.report.specs.Reports.{IsDigest}
-use Rattle.kaem_script.specs.Script.{ScriptContents, most_commands, most_words}
+use Rattle.kaem_script.specs.Script.{ScriptContents}
 
 -- a word has no zero byte, and at most 255 bytes
 pub record IsWord (text : List ℕ) : Type 0 where
@@ -29,6 +30,6 @@ pub record AreCommands (commands : List (List (List ℕ))) : Type 0 where
   pub each : All IsCommand commands
 
 -- a script that was read: the digest of its bytes, and commands that obey the rules
-pub record IsScript (said : ScriptContents) : Type 0 where
-  pub digest : IsDigest said.digest
-  pub commands : AreCommands said.commands
+pub record IsScript (parsed : ScriptContents) : Type 0 where
+  pub digest : IsDigest parsed.digest
+  pub commands : AreCommands parsed.commands

@@ -3,6 +3,7 @@ use Rattle.std.specs.Prelude.{◌≡◌, ℕ, zero, suc, ◌+◌, ◌-◌, ◌==
 use Rattle.std.specs.List.{list_any, position_or_len}
 use Rattle.sha2.specs.Sha256.{sha256}
 use Rattle.ddc_base.specs.declared.digests.Digest.{Digest}
+use Rattle.ddc_base.specs.Limits.{most_commands, most_words}
 use Rattle.mem_files.specs.Names.{stripped}
 use Rattle.kaem_script.specs.declared.refusal.ScriptFault.{ScriptFault}
 use Rattle.kaem_script.specs.declared.refusal.ScriptFault.TheVariants.{OpenQuote, BadWord, LongWord, TooManyWords, TooMany}
@@ -78,12 +79,6 @@ word_at first here = fitting first (if begins (λ byte. byte == 34) here then qu
 
 -- ---- a script
 
-abbrev pub most_words : ℕ
-most_words = 64
-
-abbrev pub most_commands : ℕ
-most_commands = 4096
-
 -- the words of a line as a command; a line without words adds no command
 abbrev pub with_line : List (List (List ℕ)) → List (List ℕ) → List (List (List ℕ))
 with_line commands [] = commands
@@ -135,6 +130,6 @@ pub record ScriptContents : Type 0 where
 
 -- the answer of a call: the contents of a script, its first fault, or out of memory
 abbrev pub ReadsScript : List ℕ → Result ScriptContents ScriptRefusal → Type 0
-ReadsScript script (Ok said) = (commands_of script ≡ Ok said.commands) × (said.digest.0 ≡ sha256 script)
+ReadsScript script (Ok parsed) = (commands_of script ≡ Ok parsed.commands) × (parsed.digest.0 ≡ sha256 script)
 ReadsScript script (Err (At fault at)) = commands_of script ≡ Err (fault, at)
 ReadsScript script (Err OutOfMemory) = Unit {0}

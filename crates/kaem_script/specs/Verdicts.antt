@@ -1,5 +1,6 @@
 -- What a replay answers by the first fault of a script's report. docs/reference/kaem.md says the same for people.
-use Rattle.std.specs.Prelude.{◌≡◌, ◌≤◌, ◌^◌, ℕ, zero, suc, true, bytes_eq, Option, None, Some, Ok, List, ◌∷◌}
+use Rattle.std.specs.Prelude.{◌≡◌, ◌≤◌, ℕ, zero, suc, true, bytes_eq, Option, None, Some, Ok, List, ◌∷◌}
+use Rattle.ddc_base.specs.Limits.{most_steps}
 use Rattle.mem_files.specs.World.{World}
 use Rattle.report.specs.declared.script.types.CommandLine.{CommandLine}
 use Rattle.report.specs.declared.script.types.ScriptReport.{ScriptReport}
@@ -28,7 +29,7 @@ OnVerdictWant answer fact = Unit {0}
 -- what is judged of a command's line before memory is allocated: its step is from 1 to 2^48, and its program exists and starts
 pub record CanReplay (world : World) (words : List (List ℕ)) (step : ℕ) : Type 0 where
   pub some : 1 ≤ step
-  pub few : step ≤ 2 ^ 48
+  pub few : step ≤ most_steps
   pub program : HasProgram world words
 
 -- Memory may run out at the command of this number, from 1, of the remaining commands with their lines, over these files. The lines of all commands

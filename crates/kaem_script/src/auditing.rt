@@ -1,13 +1,14 @@
 //! The audit of a script.
 
 ghost use Rattle.kaem_script.specs.FilesListed.{listed_files};
+ghost use Rattle.ddc_base.specs.Limits.{most_commands, most_steps};
 ghost use Rattle.kaem_script.specs.Fold.{AnswersScript};
 ghost use Rattle.kaem_script.specs.Reported.{end_of_script, marked};
 ghost use Rattle.mem_files.specs.Outputs.{left};
 ghost use Rattle.report.specs.Reports.{IsDigest};
 ghost use Rattle.report.specs.Script.Reports.{IsCommandLine, IsScriptReport};
 ghost use Rattle.kaem_script.specs.Wants.{OnScriptWant, WantsAt};
-ghost use Rattle.std.specs.Prelude.{◌≡◌, ◌≤◌, ◌^◌, All, IfErr, IfOk, length, map};
+ghost use Rattle.std.specs.Prelude.{◌≡◌, ◌≤◌, All, IfErr, IfOk, length, map};
 
 use crate::files::FileList;
 use crate::fold::{ScriptStop, fold};
@@ -35,7 +36,7 @@ pub fn audit(
     most: u64,
 ) -> Result<ScriptReport, ScriptStop>
     requires some { 1 ≤ most }
-    requires few { most ≤ 2 ^ 48 }
+    requires few { most ≤ most_steps }
     ensures answer { AnswersScript (end_of_script most script.now files.now) result }
     ensures memory { IfErr result (λ stop. OnScriptWant stop (WantsAt most files.now.world script.now.commands)) }
     // A returned report has a text.
@@ -60,7 +61,7 @@ fn report_of(
 ) -> Result<ScriptReport, OutOfMemory>
     requires digest { IsDigest script.now.digest }
     requires each { All IsCommandLine commands }
-    requires few { length commands ≤ 4_096 }
+    requires few { length commands ≤ most_commands }
     ensures value { IfOk result (λ report. report ≡ record { script = script.now.digest; files = map marked (listed_files list.now); commands = commands; left = map marked (left world.now) }) }
     ensures text { IfOk result IsScriptReport }
 {

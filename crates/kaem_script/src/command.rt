@@ -1,6 +1,7 @@
 //! One command of a script.
 
 ghost use Rattle.elf_load.specs.Image.{image_of};
+ghost use Rattle.ddc_base.specs.Limits.{most_steps};
 ghost use Rattle.guest_run.specs.Run.{first_end};
 ghost use Rattle.guest_run.specs.Start.{start_of};
 ghost use Rattle.kaem_script.specs.Fold.{by_first_end, command, program_name};
@@ -14,15 +15,13 @@ use crate::cause::CommandCause;
 use crate::present::{Present, files_in, renewed};
 use crate::reading::Command;
 use ddc_base::OutOfMemory;
+use ddc_base::limits::USUAL_HEAP;
 use elf_load::read_image;
 use guest_run::{Guest, RunBox, RunEnd, RunRam, StartRefusal};
 use mem_files::{Files, strip};
 use report::Mark;
 use report::script::CommandLine;
 use std::alloc::Global;
-
-/// The largest size of a program's heap, in bytes.
-const HEAP: u64 = 536_870_912;
 
 /// A command that ran: its line of the report, and the files that it left.
 pub(crate) type Exited = (CommandLine, Files);
@@ -39,7 +38,7 @@ pub(crate) fn run_command(
 ) -> Result<Result<Exited, CommandStop>, OutOfMemory>
     requires words { IsCommand words.now }
     requires some { 1 ≤ most }
-    requires few { most ≤ 2 ^ 48 }
+    requires few { most ≤ most_steps }
     ensures comes { IfOk result (Comes (command most (world_in present.entry) words.now)) }
     ensures program { UnlessStopped result (HasProgram (world_in present.entry) words.now) }
 {
@@ -84,7 +83,7 @@ fn run_over(
 ) -> Result<Result<Exited, CommandStop>, OutOfMemory>
     requires fresh { guest.steps ≡ 0 }
     requires some { 1 ≤ most }
-    requires few { most ≤ 2 ^ 48 }
+    requires few { most ≤ most_steps }
     ensures { IfOk result (Comes (by_first_end most (first_end (record guest { world = renewed (world_in present.entry) }) most))) }
 {
     let files = renewed(alloc, present)?;
@@ -108,7 +107,7 @@ fn start(alloc: Global, program: &[u8], words: &Command) -> Result<Guest<RunRam>
     ensures meant { IfOk result (λ guest. start_of program.now (texts_of words.now) ≡ Ok guest) }
     ensures fresh { IfOk result (λ guest. guest.steps ≡ 0) }
 {
-    let mut given = RunBox::new(alloc, HEAP);
+    let mut given = RunBox::new(alloc, USUAL_HEAP);
     for word in words.as_slice() {
         given.push_arg(word.as_slice())?;
     }
@@ -125,7 +124,7 @@ fn start(alloc: Global, program: &[u8], words: &Command) -> Result<Guest<RunRam>
 fn run(guest: Guest<RunRam>, most: u64) -> Result<Result<Exited, CommandStop>, OutOfMemory>
     requires fresh { guest.steps ≡ 0 }
     requires some { 1 ≤ most }
-    requires few { most ≤ 2 ^ 48 }
+    requires few { most ≤ most_steps }
     ensures { IfOk result (Comes (by_first_end most (first_end guest most))) }
 {
     let mut guest = guest;
@@ -142,7 +141,7 @@ fn exit(
 ) -> Result<Result<CommandLine, CommandStop>, OutOfMemory>
     requires fresh { guest.old.steps ≡ 0 }
     requires some { 1 ≤ most }
-    requires few { most ≤ 2 ^ 48 }
+    requires few { most ≤ most_steps }
     ensures { IfOk result (Exits (by_first_end most (first_end guest.old most)) guest.new.world) }
 {
     match guest.run(most) {

@@ -1,11 +1,12 @@
 //! All commands of a script, in order.
 
 ghost use Rattle.kaem_script.specs.Fold.{folded};
+ghost use Rattle.ddc_base.specs.Limits.{most_steps};
 ghost use Rattle.kaem_script.specs.Inside.Commands.{Folds, WantsWithin};
 ghost use Rattle.kaem_script.specs.Kept.{AreCommands};
 ghost use Rattle.kaem_script.specs.Wants.{OnScriptWant, WantsAt};
 ghost use Rattle.report.specs.Script.Reports.{IsCommandLine};
-ghost use Rattle.std.specs.Prelude.{◌≤◌, ◌^◌, All, IfErr, IfOk, length};
+ghost use Rattle.std.specs.Prelude.{◌≤◌, All, IfErr, IfOk, length};
 
 use crate::cause::CommandCause;
 use crate::command::run_command;
@@ -43,7 +44,7 @@ pub(crate) fn fold<'a>(
 ) -> Result<(CommandLines, Present<'a>), ScriptStop>
     requires kept { AreCommands commands.now }
     requires some { 1 ≤ most }
-    requires few { most ≤ 2 ^ 48 }
+    requires few { most ≤ most_steps }
     ensures folds { Folds (folded most files.now commands.now) result }
     ensures memory { IfErr result (λ stop. OnScriptWant stop (WantsAt most files.now commands.now)) }
     ensures within { IfErr result (WantsWithin (length commands.now)) }

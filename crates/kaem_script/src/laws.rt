@@ -1,5 +1,6 @@
 //! Laws of scripts. Each law is the contract of a function that does nothing.
-ghost use Rattle.std.specs.Prelude.{◌≡◌, ◌≤◌, ◌^◌, ◌+◌, ◌++◌, ◌∷◌, [], ◌↔◌, ℕ, List, None, Ok, Err, length};
+ghost use Rattle.std.specs.Prelude.{◌≡◌, ◌≤◌, ◌+◌, ◌++◌, ◌∷◌, [], ◌↔◌, ℕ, List, None, Ok, Err, length};
+ghost use Rattle.ddc_base.specs.Limits.{most_steps};
 ghost use Rattle.elf_load.specs.declared.refusal.ElfRefusal.{ElfRefusal};
 ghost use Rattle.guest_run.specs.Start.{Elf, Refusal, start_of};
 ghost use Rattle.mem_files.specs.Sound.{IsSound};
@@ -59,11 +60,11 @@ pub fn what_is_left_is_folded()
 
 /// A report has no fault exactly if it is that of the script's commands on the listed files, which each exit with 0 within 2^48 steps.
 pub fn one_report()
-    ensures { (script : ScriptContents) (listed : FilesListed) (report : ScriptReport) → (first_script_fault script listed report ≡ None) ↔ (end_of_script (2 ^ 48) script listed ≡ Ok report) }
+    ensures { (script : ScriptContents) (listed : FilesListed) (report : ScriptReport) → (first_script_fault script listed report ≡ None) ↔ (end_of_script most_steps script listed ≡ Ok report) }
 {}
 
 /// The report of an audit has no fault, whatever the limit of steps of its commands, up to 2^48.
 pub fn what_is_audited_is_verified()
-    ensures { (most : ℕ) (script : ScriptContents) (listed : FilesListed) (report : ScriptReport) → most ≤ 2 ^ 48
+    ensures { (most : ℕ) (script : ScriptContents) (listed : FilesListed) (report : ScriptReport) → most ≤ most_steps
         → end_of_script most script listed ≡ Ok report → first_script_fault script listed report ≡ None }
 {}

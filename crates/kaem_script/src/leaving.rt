@@ -1,12 +1,13 @@
 //! What a command left when its run ended, for whatever cause.
 
 ghost use Rattle.guest_run.specs.Run.{first_end};
+ghost use Rattle.ddc_base.specs.Limits.{most_steps};
 ghost use Rattle.kaem_script.specs.Fold.{AnswersScript};
 ghost use Rattle.kaem_script.specs.Inside.Commands.{LeavesOver, UnlessStopped, renewed, world_in};
 ghost use Rattle.kaem_script.specs.Kept.{AreCommands, IsCommand};
 ghost use Rattle.kaem_script.specs.Leaving.{command_left, left_of_command, end_of_run};
 ghost use Rattle.kaem_script.specs.Wants.{HasProgram, OnScriptWant, WantsAt};
-ghost use Rattle.std.specs.Prelude.{◌≡◌, ◌∷◌, ◌++◌, ◌≤◌, ◌^◌, [], ℕ, IfErr, IfOk, length};
+ghost use Rattle.std.specs.Prelude.{◌≡◌, ◌∷◌, ◌++◌, ◌≤◌, [], ℕ, IfErr, IfOk, length};
 
 use crate::cause::CommandCause;
 use crate::command::begun;
@@ -39,7 +40,7 @@ pub fn left(
     most: u64,
 ) -> Result<CommandLeft, ScriptStop>
     requires some { 1 ≤ most }
-    requires few { most ≤ 2 ^ 48 }
+    requires few { most ≤ most_steps }
     requires earlier { AreCommands earlier.now }
     requires command { IsCommand command.now }
     ensures answer { AnswersScript (left_of_command most files.now.world earlier.now command.now) result }
@@ -67,7 +68,7 @@ fn left_over(
 ) -> Result<Result<CommandLeft, CommandCause>, OutOfMemory>
     requires words { IsCommand words.now }
     requires some { 1 ≤ most }
-    requires few { most ≤ 2 ^ 48 }
+    requires few { most ≤ most_steps }
     ensures leaves { (number : ℕ) → IfOk result (LeavesOver (command_left most number (world_in present.entry) words.now) number) }
     ensures program { UnlessStopped result (HasProgram (world_in present.entry) words.now) }
 {
@@ -86,7 +87,7 @@ fn run_over(
 ) -> Result<Result<CommandLeft, CommandCause>, OutOfMemory>
     requires fresh { guest.steps ≡ 0 }
     requires some { 1 ≤ most }
-    requires few { most ≤ 2 ^ 48 }
+    requires few { most ≤ most_steps }
     ensures { IfOk result (λ left. left ≡ Ok (end_of_run (record guest { world = renewed (world_in present.entry) }) most)) }
 {
     let files = renewed(alloc, present)?;
@@ -98,7 +99,7 @@ fn run_over(
 fn run_out(guest: Guest<RunRam>, most: u64) -> Result<CommandLeft, OutOfMemory>
     requires fresh { guest.steps ≡ 0 }
     requires some { 1 ≤ most }
-    requires few { most ≤ 2 ^ 48 }
+    requires few { most ≤ most_steps }
     ensures { IfOk result (λ left. left ≡ end_of_run guest most) }
 {
     let mut guest = guest;
@@ -115,7 +116,7 @@ fn run_out(guest: Guest<RunRam>, most: u64) -> Result<CommandLeft, OutOfMemory>
 fn end_of(guest: &mut Guest<RunRam>, most: u64) -> Result<(CommandCause, u64), OutOfMemory>
     requires fresh { guest.old.steps ≡ 0 }
     requires some { 1 ≤ most }
-    requires few { most ≤ 2 ^ 48 }
+    requires few { most ≤ most_steps }
     ensures { IfOk result (λ end. end_of_run guest.old most ≡ record { cause = end.0; step = end.1; files = guest.new.world }) }
 {
     match guest.run(most) {

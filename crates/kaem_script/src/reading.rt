@@ -5,14 +5,10 @@ ghost use Rattle.kaem_script.specs.Script.{Reads, commands_of, ends_or_begins, e
 
 use crate::refusal::{ScriptFault, ScriptRefusal};
 use crate::words::{ScriptWord, parts_words, until_line_end, word_at};
+use ddc_base::limits::{MOST_COMMANDS, MOST_WORDS};
 use ddc_base::{Bytes, ListOf, OutOfMemory};
 use std::alloc::Global;
 use std::mem;
-
-/// The largest number of words of a line.
-const MAX_WORDS: usize = 64;
-/// The largest number of commands of a script.
-const MAX_COMMANDS: usize = 4_096;
 
 /// The words of a command, in order. There is at least one, and the first names the program.
 pub type Command = ListOf<Bytes>;
@@ -74,10 +70,10 @@ fn next_word<'s>(
     ensures value { result ≡ next_word (length commands.now) (length words.now) here.now }
     ensures within { IfOk result (λ word. (1 ≤ word.size) × (word.size ≤ length here.now)) }
 {
-    if words.len() == MAX_WORDS {
+    if words.len() == MOST_WORDS {
         return Err(ScriptFault::TooManyWords);
     }
-    if words.is_empty() && commands.len() == MAX_COMMANDS {
+    if words.is_empty() && commands.len() == MOST_COMMANDS {
         return Err(ScriptFault::TooMany);
     }
     word_at(words.is_empty(), here)

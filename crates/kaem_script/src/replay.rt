@@ -1,6 +1,7 @@
 //! Replays a command to check its line. A command starts as in the audit; its end and what it left are found here.
 
 ghost use Rattle.guest_run.specs.Run.{first_end};
+ghost use Rattle.ddc_base.specs.Limits.{most_steps};
 ghost use Rattle.kaem_script.specs.Faults.{left_after_steps, left_at_step, replayed_command, says_streams};
 ghost use Rattle.kaem_script.specs.Fold.{by_first_end, command};
 ghost use Rattle.kaem_script.specs.Inside.Commands.{renewed, world_in};
@@ -9,19 +10,17 @@ ghost use Rattle.kaem_script.specs.Kept.{IsCommand};
 ghost use Rattle.kaem_script.specs.Verdicts.{CanReplay};
 ghost use Rattle.kaem_script.specs.Wants.{HasProgram};
 ghost use Rattle.kaem_script.specs.declared.replay.ReplayStop.TheVariants.{OutOfMemory};
-ghost use Rattle.std.specs.Prelude.{◌≡◌, ◌≤◌, ◌^◌};
+ghost use Rattle.std.specs.Prelude.{◌≡◌, ◌≤◌};
 
 use crate::command::begun;
 use crate::present::{Present, files_in, renewed};
 use crate::reading::Command;
 use crate::verdict::ScriptPart;
+use ddc_base::limits::MOST_STEPS;
 use guest_run::{Guest, RunEnd, RunRam};
 use mem_files::Files;
 use report::script::CommandLine;
 use std::alloc::Global;
-
-/// The largest number of steps that a report records of a command.
-const MOST_STEPS: u64 = 1 << 48;
 
 /// What stops the replay of a command.
 #[derive(Clone, Copy)]
@@ -86,7 +85,7 @@ fn run_command(
 ) -> Result<Guest<RunRam>, ReplayStop>
     requires words { IsCommand words.now }
     requires some { 1 ≤ step }
-    requires few { step ≤ 2 ^ 48 }
+    requires few { step ≤ most_steps }
     ensures value { Judged (λ guest. guest.world) (or_no_run (left_after_steps step (command step (world_in present.entry) words.now))) result }
     ensures memory { OnReplayWant result (HasProgram (world_in present.entry) words.now) }
 {
@@ -105,7 +104,7 @@ fn run_over(
 ) -> Result<Guest<RunRam>, ReplayStop>
     requires fresh { guest.steps ≡ 0 }
     requires some { 1 ≤ step }
-    requires few { step ≤ 2 ^ 48 }
+    requires few { step ≤ most_steps }
     ensures { Judged (λ guest. guest.world) (or_no_run (left_after_steps step (by_first_end step (first_end (record guest { world = renewed (world_in present.entry) }) step)))) result }
 {
     let files = renewed(alloc, present)?;
@@ -116,7 +115,7 @@ fn run_over(
 fn run_to(guest: Guest<RunRam>, step: u64) -> Result<Guest<RunRam>, ReplayStop>
     requires fresh { guest.steps ≡ 0 }
     requires some { 1 ≤ step }
-    requires few { step ≤ 2 ^ 48 }
+    requires few { step ≤ most_steps }
     ensures { Judged (λ guest. guest.world) (or_no_run (left_after_steps step (by_first_end step (first_end guest step)))) result }
 {
     let mut guest = guest;
@@ -128,7 +127,7 @@ fn run_to(guest: Guest<RunRam>, step: u64) -> Result<Guest<RunRam>, ReplayStop>
 fn exit_at(guest: &mut Guest<RunRam>, step: u64) -> Result<(), ReplayStop>
     requires fresh { guest.old.steps ≡ 0 }
     requires some { 1 ≤ step }
-    requires few { step ≤ 2 ^ 48 }
+    requires few { step ≤ most_steps }
     ensures { Judged (λ _. guest.new.world) (or_no_run (left_after_steps step (by_first_end step (first_end guest.old step)))) result }
 {
     match guest.run(step) {

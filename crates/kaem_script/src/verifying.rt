@@ -1,6 +1,7 @@
 //! The verdict on a script's report: checks its parts in order, up to the first that is not true.
 
 ghost use Rattle.kaem_script.specs.Faults.{commands_fault, first_script_fault, left_fault, says_file, says_files, wrong_file};
+ghost use Rattle.ddc_base.specs.Limits.{most_names};
 ghost use Rattle.kaem_script.specs.Kept.{AreCommands};
 ghost use Rattle.kaem_script.specs.FilesListed.{listed_files};
 ghost use Rattle.kaem_script.specs.Verdicts.{CanWantFrom, JudgesScript, OnVerdictWant, WantsAtCommand, script_verdict};
@@ -60,7 +61,7 @@ fn wrong_file(list: &FileList, lines: &[LeftLine]) -> Option<u32>
 
 /// The same number as `wrong_file`, for a list that is known to be short.
 fn wrong_name(list: &FileList, lines: &[LeftLine]) -> Option<u32>
-    requires few { length list.now.names ≤ 4096 }
+    requires few { length list.now.names ≤ most_names }
     ensures { result ≡ wrong_file 1 (listed_files list.now) lines.now }
 {
     let mut names = list.names();

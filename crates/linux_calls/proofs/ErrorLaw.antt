@@ -11,9 +11,9 @@ use Rattle.mem_files.specs.World.{World}
 use Rattle.mem_files.specs.declared.open_file.Access.{Access}
 use Rattle.mem_files.specs.declared.open_file.OpenFile.{OpenFile}
 use Rattle.mem_files.specs.declared.open_file.OpenFile.TheVariants.{Input, Stream1, Stream2, File}
-use Rattle.mem_files.specs.Limits.{most_descriptors, most_names}
+use Rattle.ddc_base.specs.Limits.{most_descriptors, most_names}
 use Rattle.mem_files.specs.Linux.{ebadf, einval, o_accmode, o_creat, o_excl}
-use Rattle.mem_files.specs.Calls.{removed, removed_at, opened, opened_at, closed, closed_at, sought, sought_at, with_file_offset, write_place, written, written_if, fits, has}
+use Rattle.mem_files.specs.Calls.{removed, removed_at, opened, opened_at, closed, closed_at, sought, sought_at, with_file_offset, write_offset, written, written_if, fits, has}
 use Rattle.linux_calls.specs.Linux.{efault, sys_unlinkat, sys_faccessat, sys_fchmodat, sys_openat, sys_close, sys_lseek, sys_read, sys_write, sys_exit, sys_exit_group, sys_brk}
 use Rattle.linux_calls.specs.Paths.{low, name_in_directory, name_at, in_directory}
 use Rattle.linux_calls.specs.Calls.{CallState, CallOutcome, is_unknown, or_same_state, answering, back, moved_break, opened_as, or_same_files, read_at, syscall, unlinked, written_at}
@@ -91,7 +91,7 @@ leaves-opened_as m w directory path flags =
 
 leaves-written_at : (m : Memory) (w : World) (fd buffer count : ℕ) → Leaves w (written_at m w fd buffer count)
 leaves-written_at m w fd buffer count =
-    leaves-left w _ (found ebadf (write_place w (map.get w.open_files fd)) _ (λ place there.
+    leaves-left w _ (found ebadf (write_offset w (map.get w.open_files fd)) _ (λ offset there.
     either (count == 0) _ _ (λ none. record { is = λ e. refl })
     (found efault (bytes_at m buffer count) _ (λ bytes are.
     record { is = leaves-answering w (length bytes) (written w fd bytes).0 (written w fd bytes).1 (leaves-written w fd bytes) }))))

@@ -14,10 +14,10 @@ use Rattle.mem_files.specs.declared.open_file.Access.{Access}
 use Rattle.mem_files.specs.declared.open_file.OpenFile.{OpenFile}
 use Rattle.mem_files.specs.declared.open_file.OpenFile.TheVariants.{Input, Stream1, Stream2, File}
 use Rattle.mem_files.specs.Access.{is_read}
-use Rattle.mem_files.specs.Limits.{most_descriptors, most_names}
+use Rattle.ddc_base.specs.Limits.{most_descriptors, most_names}
 use Rattle.mem_files.specs.Linux.{ebadf, eexist, einval, emfile, enoent, enospc, o_accmode, o_creat, o_excl, o_trunc}
 use Rattle.mem_files.specs.World.{World, content_of, lowest_unused}
-use Rattle.mem_files.specs.Calls.{as_file_offset, closed, emptied_if, has, opened, opened_at, ready, ready_at, removed, seek_base, sought, sought_at, with_file_offset, with_descriptor, with_file, write_place, written}
+use Rattle.mem_files.specs.Calls.{as_file_offset, closed, emptied_if, has, opened, opened_at, ready, ready_at, removed, seek_base, sought, sought_at, with_file_offset, with_descriptor, with_file, write_offset, written}
 use Rattle.mem_files.specs.Sound.{IsSound}
 use Rattle.mem_files.proofs.KeepingCalls.{content_small}
 use Rattle.mem_files.proofs.Maps.{lowest_unused-le-len}
@@ -169,7 +169,7 @@ mapped-small m at (suc count) bytes whole e =
 
 written-small : (m : Memory) (w : World) (fd buffer count : ℕ) → IsWhole m → Value (written_at m w fd buffer count).0
 written-small m w fd buffer count whole =
-    left-small w _ (found ebadf (write_place w (get w.open_files fd)) _ (λ place there.
+    left-small w _ (found ebadf (write_offset w (get w.open_files fd)) _ (λ offset there.
     either (count == 0) _ _ (λ none. record { is = a_value 0 (omega arith) })
     (found efault (bytes_at m buffer count) _ (λ bytes are.
     record { is = answering-small (length bytes) (written w fd bytes).0 (written w fd bytes).1 (mapped-small m buffer count bytes whole are) }))))

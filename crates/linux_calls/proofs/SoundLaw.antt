@@ -15,7 +15,7 @@ use Rattle.mem_files.specs.Linux.{ebadf, einval, o_accmode}
 use Rattle.mem_files.specs.Access.{is_read}
 use Rattle.mem_files.specs.Names.{stripped, is_stripped_name}
 use Rattle.mem_files.specs.World.{World, content_of}
-use Rattle.mem_files.specs.Calls.{closed, ready, ready_at, removed, write_place, written}
+use Rattle.mem_files.specs.Calls.{closed, ready, ready_at, removed, write_offset, written}
 use Rattle.mem_files.specs.Sound.{AreBytes, IsSound}
 use Rattle.mem_files.proofs.Rules.{closed-sound, removed-sound, opened-sound, skipped-sound, sought-sound, stripped-bytes, written-sound}
 use Rattle.linux_calls.specs.Linux.{at_fdcwd, efault, enotdir, sys_unlinkat, sys_faccessat, sys_fchmodat, sys_openat, sys_close, sys_lseek, sys_read, sys_write, sys_exit, sys_exit_group, sys_brk}
@@ -119,7 +119,7 @@ opened-as-sound m w directory path flags whole sound =
 written-at-sound : (m : Memory) (w : World) (fd buffer count : ℕ) → IsWhole m → IsSound w → IsSound (written_at m w fd buffer count).1
 written-at-sound m w fd buffer count whole sound =
     left-sound w _ sound
-    (found ebadf (write_place w (get w.open_files fd)) _ (λ place there.
+    (found ebadf (write_offset w (get w.open_files fd)) _ (λ offset there.
     either (count == 0) _ _ (λ none. record { is = sound })
     (found efault (bytes_at m buffer count) _ (λ bytes are.
     record { is = answering-sound (length bytes) (written w fd bytes).0 (written w fd bytes).1 (written-sound w fd bytes sound (bytes_at-bytes m buffer count bytes whole are)) }))))

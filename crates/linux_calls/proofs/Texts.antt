@@ -29,13 +29,13 @@ after-push read byte rest ne = ap (λ b. after read (cond b (Ok []) (rest >>= λ
     joined (Err errno) = refl
     joined (Ok text) = ap Ok (sym (append_assoc read (byte ∷ []) text))
 
-pub text_at-step : (m : Memory) (at most left byte : ℕ) → most ≡ suc left → get m at ≡ Some byte → text_at m at most ≡ text_from byte (text_at m (suc at) left)
+pub text_at-step : (m : Memory) (at most remaining byte : ℕ) → most ≡ suc remaining → get m at ≡ Some byte → text_at m at most ≡ text_from byte (text_at m (suc at) remaining)
 unfolding text_at
-text_at-step m at most left byte e found = ap (text_at m at) e ∙ ap (λ o. text_or_fault o (text_at m (suc at) left)) found
+text_at-step m at most remaining byte e found = ap (text_at m at) e ∙ ap (λ o. text_or_fault o (text_at m (suc at) remaining)) found
 
-pub text_at-unmapped : (m : Memory) (at most left : ℕ) → most ≡ suc left → get m at ≡ None → text_at m at most ≡ Err efault
+pub text_at-unmapped : (m : Memory) (at most remaining : ℕ) → most ≡ suc remaining → get m at ≡ None → text_at m at most ≡ Err efault
 unfolding text_at
-text_at-unmapped m at most left e gone = ap (text_at m at) e ∙ ap (λ o. text_or_fault o (text_at m (suc at) left)) gone
+text_at-unmapped m at most remaining e gone = ap (text_at m at) e ∙ ap (λ o. text_or_fault o (text_at m (suc at) remaining)) gone
 
 pub text_at-none : (m : Memory) (at : ℕ) → text_at m at 0 ≡ Err enametoolong
 unfolding text_at

@@ -6,7 +6,7 @@ use Rattle.ddc_base.specs.Results.{◌>>=◌, or_error}
 use Rattle.paged_mem.specs.Memory.{Memory, bytes_at, maps}
 use Rattle.paged_mem.proofs.Maps.{length_of_bytes_at}
 use Rattle.mem_files.specs.World.{World}
-use Rattle.mem_files.specs.Calls.{fits, write_place, written, written_if}
+use Rattle.mem_files.specs.Calls.{fits, write_offset, written, written_if}
 use Rattle.linux_calls.specs.declared.Heap.{Heap}
 use Rattle.linux_calls.specs.declared.CallEnd.{CallEnd}
 use Rattle.linux_calls.specs.declared.CallEnd.TheVariants.{Back, OutOfMemory}
@@ -15,7 +15,7 @@ use Rattle.linux_calls.specs.Linux.{efault, sys_write}
 use Rattle.linux_calls.specs.Calls.{state, CallOutcome, back, answer_of, answering, or_same_files, written_at}
 use Rattle.linux_calls.specs.Answer.{IsAnswer}
 
-module _ (m : Memory) (w : World) (fd buffer count : ℕ) (writable : is_some (write_place w (get w.open_files fd)) ≡ true) (some : count ≢ 0) (heap : Heap) where
+module _ (m : Memory) (w : World) (fd buffer count : ℕ) (writable : is_some (write_offset w (get w.open_files fd)) ≡ true) (some : count ≢ 0) (heap : Heap) where
   abbrev meant : CallOutcome
   meant = back (state m w heap) (written_at m w fd buffer count)
 
@@ -24,21 +24,21 @@ module _ (m : Memory) (w : World) (fd buffer count : ℕ) (writable : is_some (w
   meant_is bytes there = ap (back (state m w heap)) is
     where
       through : Bool → Option (ℕ × ℕ) → Option (List ℕ) → Result ℕ ℕ × World
-      through empty place there = or_same_files w do
-        _ ← or_error ebadf place
+      through empty offset there = or_same_files w do
+        _ ← or_error ebadf offset
         if empty then Ok (Ok 0, w) else (do
           bytes ← or_error efault there
           Ok (answering (length bytes) (written w fd bytes)))
 
-      by_place : (p : Option (ℕ × ℕ)) → is_some p ≡ true → through false p (Some bytes) ≡ answering (length bytes) (written w fd bytes)
-      by_place None e = cc
-      by_place (Some place) e = refl
+      by_offset : (p : Option (ℕ × ℕ)) → is_some p ≡ true → through false p (Some bytes) ≡ answering (length bytes) (written w fd bytes)
+      by_offset None e = cc
+      by_offset (Some offset) e = refl
 
       is : written_at m w fd buffer count ≡ answering count (written w fd bytes)
       is =
-          ap (λ t. through t (write_place w (get w.open_files fd)) (bytes_at m buffer count)) (ne_eqb count 0 some)
-          ∙ ap (through false (write_place w (get w.open_files fd))) there
-          ∙ by_place (write_place w (get w.open_files fd)) writable
+          ap (λ t. through t (write_offset w (get w.open_files fd)) (bytes_at m buffer count)) (ne_eqb count 0 some)
+          ∙ ap (through false (write_offset w (get w.open_files fd))) there
+          ∙ by_offset (write_offset w (get w.open_files fd)) writable
           ∙ ap (λ n. answering n (written w fd bytes)) (length_of_bytes_at m buffer count bytes there)
 
   pub write_done : (bytes : List ℕ) (done : Unit {0}) (new : World) → bytes_at m buffer count ≡ Some bytes → written w fd bytes ≡ (Ok done, new) → IsAnswer sys_write (state m w heap) (state m new heap) meant (Back count)

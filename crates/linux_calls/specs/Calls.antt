@@ -7,7 +7,7 @@ use Rattle.std.specs.FinMap.{get, contains_key}
 use Rattle.ddc_base.specs.Results.{◌>>=◌, ◌>>◌, or_error, error_unless}
 use Rattle.paged_mem.specs.Memory.{Memory, bytes_at, maps, with_bytes}
 use Rattle.mem_files.specs.World.{World}
-use Rattle.mem_files.specs.Calls.{removed, opened, closed, sought, ready, skipped, write_place, written}
+use Rattle.mem_files.specs.Calls.{removed, opened, closed, sought, ready, skipped, write_offset, written}
 use Rattle.mem_files.specs.Linux.{enoent, ebadf, einval, o_accmode}
 use Rattle.linux_calls.specs.declared.Heap.{Heap}
 use Rattle.linux_calls.specs.Linux.{efault, sys_unlinkat, sys_faccessat, sys_fchmodat, sys_openat, sys_close, sys_lseek, sys_read, sys_write, sys_exit, sys_exit_group, sys_brk}
@@ -92,7 +92,7 @@ read_at s fd buffer count = do
 -- the bytes are copied from memory to the file, all or none
 abbrev pub written_at : Memory → World → ℕ → ℕ → ℕ → Result ℕ ℕ × World
 written_at m w fd buffer count = or_same_files w do
-  place ← or_error ebadf (write_place w (get w.open_files fd))
+  offset ← or_error ebadf (write_offset w (get w.open_files fd))
   if count == 0 then Ok (Ok 0, w) else (do
     bytes ← or_error efault (bytes_at m buffer count)
     Ok (answering (length bytes) (written w fd bytes)))

@@ -1,15 +1,16 @@
 -- The heap of a guest in its memory (docs/reference/calls.md, "The heap").
-use Rattle.std.specs.Prelude.{◌≡◌, ℕ, ◌+◌, ◌-◌, ◌/◌, ◌%◌, ◌^◌, ◌≤◌, Bool, true, nat_le, nat_lt, ◌||◌, if◌then◌else◌}
+use Rattle.std.specs.Prelude.{◌≡◌, ℕ, ◌+◌, ◌-◌, ◌/◌, ◌%◌, ◌≤◌, Bool, true, nat_le, nat_lt, ◌||◌, if◌then◌else◌}
+use Rattle.ddc_base.specs.Limits.{address_end, most_heap, stack_size}
 use Rattle.paged_mem.specs.Memory.{Memory, maps, page_up, IsFree, with_bytes, without, zeros}
 use Rattle.linux_calls.specs.declared.Heap.{Heap}
 
 -- the pages of the heap are mapped up to the break; the rest of the pages that it may have are not
 pub record IsHeapOf (m : Memory) (heap : Heap) : Type 0 where
   pub aligned : heap.first % 4096 ≡ 0
-  pub small : heap.limit ≤ 2 ^ 30
+  pub small : heap.limit ≤ most_heap
   pub from : heap.first ≤ heap.now
   pub to : heap.now ≤ heap.first + heap.limit
-  pub low : heap.first + heap.limit ≤ 2 ^ 38 - 8388608
+  pub low : heap.first + heap.limit ≤ address_end - stack_size
   pub mapped : maps m heap.first (page_up heap.now - heap.first) ≡ true
   pub free : IsFree m (page_up heap.now) (page_up (heap.first + heap.limit) - page_up heap.now)
 

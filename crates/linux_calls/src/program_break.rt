@@ -1,6 +1,7 @@
 //! The heap's calls.
 
-ghost use Rattle.std.specs.Prelude.{◌≡◌, ◌≤◌, ◌<◌, ◌+◌, ◌-◌, ◌%◌, ◌^◌, true, OnOk, OnErr};
+ghost use Rattle.std.specs.Prelude.{◌≡◌, ◌≤◌, ◌<◌, ◌+◌, ◌-◌, ◌%◌, true, OnOk, OnErr};
+ghost use Rattle.ddc_base.specs.Limits.{address_end};
 ghost use Rattle.paged_mem.specs.Memory.{IsFree, maps, page_up};
 ghost use Rattle.linux_calls.specs.HeapOf.{IsHeapOf, resized};
 ghost use Rattle.linux_calls.specs.Inside.Parts.{IsBreakAnswer};
@@ -11,7 +12,7 @@ use paged_mem::{PAGE, Ram};
 
 /// An address rounded up to whole pages.
 fn page_up(address: u64) -> u64
-    requires { address ≤ 2 ^ 38 }
+    requires { address ≤ address_end }
     ensures { result ≡ page_up address }
 {
     address.next_multiple_of(PAGE)
@@ -21,7 +22,7 @@ fn page_up(address: u64) -> u64
 fn resize<R: Ram>(ram: &mut R, old: u64, new: u64) -> Result<(), OutOfMemory>
     requires aligned { old % 4096 ≡ 0 }
     requires aligned_too { new % 4096 ≡ 0 }
-    requires low { new ≤ 2 ^ 38 }
+    requires low { new ≤ address_end }
     requires free { old < new → IsFree (R.bytes ram.old) old (new - old) }
     requires present { new ≤ old → maps (R.bytes ram.old) new (old - new) ≡ true }
     ensures ok { OnOk result (R.bytes ram.new ≡ resized (R.bytes ram.old) old new) }

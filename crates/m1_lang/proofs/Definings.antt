@@ -85,19 +85,19 @@ meant-by values source at words quote whole is =
     ∙ ap (λ (w : Words). unless_quoted (open_quote w) (valued values (parts (word_list w)))) is
   where
     by : (quote : Option ℕ) (meant : Result Defined M1Refusal) → looked_up (unless_open quote meant) ≡ unless_quoted quote (looked_up meant)
-    by (Some place) meant = refl
+    by (Some offset) meant = refl
     by None meant = refl
 
 -- a definition is refused, unless a quote is open after it
 pub refused : (quote : Option ℕ) (why : M1Refusal) (start at : ℕ) (source : List ℕ) (old new : Definitions)
     (meant : Result Defined M1Refusal) → looked_up meant ≡ unless_quoted quote (after_define (values_in old) start (word_list (words_at source at)))
     → DefinesOne (Err why) start source at old new → Tabulates (Err (quote_or quote why)) meant
-refused (Some place) why start at source old new meant is one = is
+refused (Some offset) why start at source old new meant is one = is
 refused None refusal.OutOfMemory start at source old new meant is one = tt
-refused None (refusal.BadDefine place) start at source old new meant is one = is ∙ one
-refused None (refusal.DoubleDefine place) start at source old new meant is one = is ∙ one
-refused None (refusal.OpenString place) start at source old new meant is one = is ∙ one
-refused None (refusal.UnknownWord place) start at source old new meant is one = is ∙ one
-refused None (refusal.NumberRange place) start at source old new meant is one = is ∙ one
-refused None (refusal.Dangling place) start at source old new meant is one = is ∙ one
+refused None (refusal.BadDefine offset) start at source old new meant is one = is ∙ one
+refused None (refusal.DoubleDefine offset) start at source old new meant is one = is ∙ one
+refused None (refusal.OpenString offset) start at source old new meant is one = is ∙ one
+refused None (refusal.UnknownWord offset) start at source old new meant is one = is ∙ one
+refused None (refusal.NumberRange offset) start at source old new meant is one = is ∙ one
+refused None (refusal.Dangling offset) start at source old new meant is one = is ∙ one
 refused None refusal.TooLong start at source old new meant is one = is ∙ one

@@ -2,9 +2,10 @@
 use Rattle.std.proofs.Common.{◌≡◌, ◌≤◌, ◌<◌, ℕ, nat_lt, true, false, List, [], length, refl, ap, sym, subst, ◌∙◌, arith, Option, None, Result, Ok, Err}
 use Rattle.std.proofs.lemmas.Bool.{cond-true, cond-false}
 use Rattle.std.proofs.lemmas.Bool.Decides.{nat_tests}
+use Rattle.ddc_base.specs.Limits.{most_items, most_source}
 use Rattle.hex_langs.specs.declared.items.item.Item.{Item}
 use Rattle.hex_langs.specs.declared.items.words.Open.{Open}
-use Rattle.hex_langs.specs.Items.Reading.{NoToken, formed, Formed, Reading, with_front, word_end}
+use Rattle.hex_langs.specs.Items.Reading.{NoToken, formed, Formed, Reading, with_prefix, word_end}
 use Rattle.m1_lang.specs.declared.words.meaning.WordFault.{WordFault}
 use Rattle.m1_lang.specs.Words.Words.{Found, Word, word_list, Words, words_of}
 use Rattle.m1_lang.specs.Words.Forms.{tokens_of}
@@ -37,57 +38,57 @@ reading-over values source at none = ap (λ (l : List Word). words_reading value
 
 -- the last word is taken
 pub reading-done : (values : List ℕ → Option (List ℕ)) (source : List ℕ) (at : ℕ) (word : Option Open) (items : List Item) (whole : Formed WordFault) → length source ≤ at
-    → length items ≤ 33554432 → whole ≡ with_front items (formed word (reading_at values source at)) → counted_items whole ≡ items_unless_refused items (word_end word)
+    → length items ≤ most_items → whole ≡ with_prefix items (formed word (reading_at values source at)) → counted_items whole ≡ items_unless_refused items (word_end word)
 reading-done values source at word items whole past few is =
     ap counted_items is
-    ∙ ap (λ (r : Reading WordFault). counted_items (with_front items (formed word r))) (reading-over values source at (ap word_list (words-end source at past)))
+    ∙ ap (λ (r : Reading WordFault). counted_items (with_prefix items (formed word r))) (reading-over values source at (ap word_list (words-end source at past)))
     ∙ counted-end items (word_end word) few
 
 -- a word is refused
 pub refused-word : (why : M1Refusal) (values : List ℕ → Option (List ℕ)) (word : Option Open) (at : ℕ) (text : List ℕ) (old new : List Item) (later : Reading WordFault)
-    (whole : Formed WordFault) → whole ≡ with_front old (formed word (then_read at (tokens_of values text) later))
+    (whole : Formed WordFault) → whole ≡ with_prefix old (formed word (then_read at (tokens_of values text) later))
     → TakesWord (Err why) word at (tokens_of values text) old new → Expands (counted_items whole) (Err why)
-refused-word (refusal.BadDefine place) values word at text old new later whole is takes = ap counted_items is ∙ takes later
-refused-word (refusal.DoubleDefine place) values word at text old new later whole is takes = ap counted_items is ∙ takes later
-refused-word (refusal.OpenString place) values word at text old new later whole is takes = ap counted_items is ∙ takes later
-refused-word (refusal.UnknownWord place) values word at text old new later whole is takes = ap counted_items is ∙ takes later
-refused-word (refusal.NumberRange place) values word at text old new later whole is takes = ap counted_items is ∙ takes later
-refused-word (refusal.Dangling place) values word at text old new later whole is takes = ap counted_items is ∙ takes later
+refused-word (refusal.BadDefine offset) values word at text old new later whole is takes = ap counted_items is ∙ takes later
+refused-word (refusal.DoubleDefine offset) values word at text old new later whole is takes = ap counted_items is ∙ takes later
+refused-word (refusal.OpenString offset) values word at text old new later whole is takes = ap counted_items is ∙ takes later
+refused-word (refusal.UnknownWord offset) values word at text old new later whole is takes = ap counted_items is ∙ takes later
+refused-word (refusal.NumberRange offset) values word at text old new later whole is takes = ap counted_items is ∙ takes later
+refused-word (refusal.Dangling offset) values word at text old new later whole is takes = ap counted_items is ∙ takes later
 refused-word refusal.TooLong values word at text old new later whole is takes = ap counted_items is ∙ takes later
 refused-word refusal.OutOfMemory values word at text old new later whole is takes = tt
 
 -- ---- the whole
 
-pub expansion-long : (source : List ℕ) → 67108864 < length source → expansion_of source ≡ Err refusal.TooLong
+pub expansion-long : (source : List ℕ) → most_source < length source → expansion_of source ≡ Err refusal.TooLong
 unfolding expansion_of
-expansion-long source long = let over : nat_lt 67108864 (length source) ≡ true = grind (arith, nat_tests) in cond-true _ _ _ over
+expansion-long source long = let over : nat_lt most_source (length source) ≡ true = grind (arith, nat_tests) in cond-true _ _ _ over
 
-pub expansion-short : (source : List ℕ) → length source ≤ 67108864
+pub expansion-short : (source : List ℕ) → length source ≤ most_source
     → expansion_of source ≡ expansion_by (definitions_in (words_of source)) (plain_words (parts_at source 0))
 unfolding expansion_of
-expansion-short source short = let fits : nat_lt 67108864 (length source) ≡ false = grind (arith, nat_tests) in cond-false _ _ _ fits
+expansion-short source short = let fits : nat_lt most_source (length source) ≡ false = grind (arith, nat_tests) in cond-false _ _ _ fits
 
 -- the definitions are refused
-refused-by : (why : M1Refusal) (source : List ℕ) (meant : Result Defined M1Refusal) → length source ≤ 67108864
+refused-by : (why : M1Refusal) (source : List ℕ) (meant : Result Defined M1Refusal) → length source ≤ most_source
     → definitions_in (words_of source) ≡ meant → looked_up meant ≡ Err why → expansion_of source ≡ Err why
 refused-by why source (Ok defined) short is looked = absurd (cc)
 refused-by why source (Err same) short is looked =
     let one : same ≡ why = cc in
     expansion-short source short ∙ ap (λ d. expansion_by d (plain_words (parts_at source 0))) is ∙ ap Err one
 
-pub refused-definitions : (why : M1Refusal) (source : List ℕ) → length source ≤ 67108864
+pub refused-definitions : (why : M1Refusal) (source : List ℕ) → length source ≤ most_source
     → Tabulates (Err why) (definitions_in (words_of source)) → Expands (expansion_of source) (Err why)
-refused-definitions (refusal.BadDefine place) source short is = refused-by _ source _ short refl is
-refused-definitions (refusal.DoubleDefine place) source short is = refused-by _ source _ short refl is
-refused-definitions (refusal.OpenString place) source short is = refused-by _ source _ short refl is
-refused-definitions (refusal.UnknownWord place) source short is = refused-by _ source _ short refl is
-refused-definitions (refusal.NumberRange place) source short is = refused-by _ source _ short refl is
-refused-definitions (refusal.Dangling place) source short is = refused-by _ source _ short refl is
+refused-definitions (refusal.BadDefine offset) source short is = refused-by _ source _ short refl is
+refused-definitions (refusal.DoubleDefine offset) source short is = refused-by _ source _ short refl is
+refused-definitions (refusal.OpenString offset) source short is = refused-by _ source _ short refl is
+refused-definitions (refusal.UnknownWord offset) source short is = refused-by _ source _ short refl is
+refused-definitions (refusal.NumberRange offset) source short is = refused-by _ source _ short refl is
+refused-definitions (refusal.Dangling offset) source short is = refused-by _ source _ short refl is
 refused-definitions refusal.TooLong source short is = refused-by _ source _ short refl is
 refused-definitions refusal.OutOfMemory source short is = tt
 
 -- by the table of the definitions
-pub expanded-by : (table : Definitions) (source : List ℕ) (result : Result (List Item) M1Refusal) → length source ≤ 67108864
+pub expanded-by : (table : Definitions) (source : List ℕ) (result : Result (List Item) M1Refusal) → length source ≤ most_source
     → looked_up (definitions_in (words_of source)) ≡ Ok (values_in table)
     → Expands (counted_items (formed None (reading_at (values_in table) source 0))) result → Expands (expansion_of source) result
 expanded-by table source result short looked expands = by (definitions_in (words_of source)) refl looked

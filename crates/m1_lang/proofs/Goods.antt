@@ -4,6 +4,7 @@ use Rattle.std.proofs.lemmas.Bool.Decides.{nat_tests}
 use Rattle.std.specs.Prelude.{ℤ, pos, negsuc, neg_ℤ, ◌+ℤ◌}
 use Rattle.std.specs.Int.{w32, to_le_bytes}
 use Rattle.std.specs.List.{AllByRecursion}
+use Rattle.ddc_base.specs.Limits.{most_items, most_source}
 use Rattle.hex.specs.Hex.{hex_digit_value}
 use Rattle.hex_langs.specs.declared.items.item.Item.{Item}
 use Rattle.hex_langs.specs.declared.items.token.Dialect.TheVariants.{Hex2}
@@ -247,18 +248,18 @@ plain-bytes (word ∷ name ∷ value ∷ words) are = by (is_define word.text) (
 
 -- ---- the items
 
-counted-ok : (whole : Formed WordFault) (items : List Item) → counted_items whole ≡ Ok items → (whole.items ≡ items) × (length whole.items ≤ 33554432)
-counted-ok whole items is = by (nat_lt 33554432 (length whole.items)) refl whole.end is
+counted-ok : (whole : Formed WordFault) (items : List Item) → counted_items whole ≡ Ok items → (whole.items ≡ items) × (length whole.items ≤ most_items)
+counted-ok whole items is = by (nat_lt most_items (length whole.items)) refl whole.end is
   where
-    by : (over : Bool) → nat_lt 33554432 (length whole.items) ≡ over → (end : Ending WordFault) → cond over (Err TooLong) (items_unless_refused whole.items end) ≡ Ok items
-        → (whole.items ≡ items) × (length whole.items ≤ 33554432)
+    by : (over : Bool) → nat_lt most_items (length whole.items) ≡ over → (end : Ending WordFault) → cond over (Err TooLong) (items_unless_refused whole.items end) ≡ Ok items
+        → (whole.items ≡ items) × (length whole.items ≤ most_items)
     by true many end same = absurd (cc)
     by false few Whole same = (cc, grind (arith, nat_tests))
     by false few (Halted why) same = absurd (cc)
     by false few (Faulted why at) same = absurd (cc)
 
 items-fit : (defined : Result Defined M1Refusal) (words : List Word) (items : List Item) → AreByteWords words → expansion_by defined words ≡ Ok items
-    → AreWritable items × (length items ≤ 33554432)
+    → AreWritable items × (length items ≤ most_items)
 items-fit (Err why) words items are is = absurd (cc)
 items-fit (Ok defined) words items are is =
     let found = counted-ok (formed None (words_reading (value_in defined) words)) items is in (
@@ -267,10 +268,10 @@ items-fit (Ok defined) words items are is =
     )
 
 -- what a source of bytes expands to, if it is written, is read again
-pub written-again : (source : List ℕ) (items : List Item) → IsOfBytes source → expansion_of source ≡ Ok items → length (items_text items) ≤ 67108864
+pub written-again : (source : List ℕ) (items : List Item) → IsOfBytes source → expansion_of source ≡ Ok items → length (items_text items) ≤ most_source
     → items_of Hex2 (items_text items) ≡ Ok items
 unfolding expansion_of
-written-again source items are is short = by (nat_lt 67108864 (length source)) is
+written-again source items are is short = by (nat_lt most_source (length source)) is
   where
     by : (long : Bool) → cond long (Err TooLong) (expansion_by (definitions_in (words_of source)) (plain_words (parts (word_list (words_of source))))) ≡ Ok items
         → items_of Hex2 (items_text items) ≡ Ok items

@@ -28,8 +28,8 @@ one-blank at byte remaining is =
 pub past-blanks : (at : ℕ) (blanks remaining : List ℕ) → AreBlanks blanks → words_from at 0 (blanks ++ remaining) ≡ words_from (at + length blanks) 0 remaining
 past-blanks at [] remaining are = ap (λ (n : ℕ). words_from n 0 remaining) (omega arith)
 past-blanks at (byte ∷ blanks) remaining are =
-    let place : at + 1 + length blanks ≡ at + length (byte ∷ blanks) = omega arith in
-    one-blank at byte (blanks ++ remaining) are.0 ∙ past-blanks (at + 1) blanks remaining are.1 ∙ ap (λ (n : ℕ). words_from n 0 remaining) place
+    let offset : at + 1 + length blanks ≡ at + length (byte ∷ blanks) = omega arith in
+    one-blank at byte (blanks ++ remaining) are.0 ∙ past-blanks (at + 1) blanks remaining are.1 ∙ ap (λ (n : ℕ). words_from n 0 remaining) offset
 
 -- ---- one word
 
@@ -74,8 +74,8 @@ more-same byte more remaining blank is one = by (is_quote byte) one
         → until_closed (position_or_len (λ b. b == byte) (more ++ blank ∷ remaining)) (more ++ blank ∷ remaining) ≡ Some (length more)
     quoted same =
         let found = closed-some (position_or_len (λ b. b == byte) more) (length more) more same in
-        let place = found-more (λ b. b == byte) more (blank ∷ remaining) found.0 in
-        ap (λ (n : ℕ). until_closed n (more ++ blank ∷ remaining)) place
+        let offset = found-more (λ b. b == byte) more (blank ∷ remaining) found.0 in
+        ap (λ (n : ℕ). until_closed n (more ++ blank ∷ remaining)) offset
         ∙ closed-at (position_or_len (λ b. b == byte) more) (more ++ blank ∷ remaining) (omega (arith, found.0, length-more))
         ∙ ap Some (sym found.1)
       where
@@ -116,12 +116,12 @@ laid : (at : ℕ) (word blanks remaining : List ℕ) (texts : List (List ℕ)) �
 laid at [] blanks remaining texts one some are later = absurd one
 laid at (byte ∷ rest) [] remaining texts one some are later = absurd (omega (arith, some))
 laid at (byte ∷ rest) (blank ∷ blanks) remaining texts one some are later =
-    let place : ℕ = at + 1 + length rest in
-    let following = later (place + length (blank ∷ blanks)) in
-    reads-by (words_from at 0 (((byte ∷ rest) ++ blank ∷ blanks) ++ remaining)) (Found (record { at = at; text = byte ∷ rest }) (words_from (place + length (blank ∷ blanks)) 0 remaining)) _
+    let offset : ℕ = at + 1 + length rest in
+    let following = later (offset + length (blank ∷ blanks)) in
+    reads-by (words_from at 0 (((byte ∷ rest) ++ blank ∷ blanks) ++ remaining)) (Found (record { at = at; text = byte ∷ rest }) (words_from (offset + length (blank ∷ blanks)) 0 remaining)) _
     (ap (λ (l : List ℕ). words_from at 0 (byte ∷ l)) (append_assoc rest (blank ∷ blanks) remaining)
     ∙ one-word at byte blank rest (blanks ++ remaining) one are.0
-    ∙ ap (Found (record { at = at; text = byte ∷ rest })) (past-blanks place (blank ∷ blanks) remaining are))
+    ∙ ap (Found (record { at = at; text = byte ∷ rest })) (past-blanks offset (blank ∷ blanks) remaining are))
     (ap (λ (l : List (List ℕ)). (byte ∷ rest) ∷ l) following.0, following.1)
 
 layout-reads : (at : ℕ) (layout : Layout) → IsLayout layout → Reads (words_from at 0 (laid_out layout)) (map (λ (laid : List ℕ × List ℕ). laid.0) layout)

@@ -3,7 +3,7 @@ pub mod Definings
 pub mod Takings
 pub mod Expandings
 pub mod Goods
-pub mod Unplaced
+pub mod WithoutOffsets
 pub mod Moves
 pub mod Layouts
 pub mod WordsLemmas

@@ -7,7 +7,7 @@ use Rattle.m1_lang.specs.Words.Words.{Word}
 use Rattle.m1_lang.specs.declared.refusal.M1Refusal.TheVariants as refusal
 use Rattle.m1_lang.specs.Definitions.{with_defined, Cut, Defined, Defines, definitions, is_value, SourcePart, Plain, plain_words, value_in}
 use Rattle.m1_lang.specs.Representation.Passes.{or_value}
-use Rattle.m1_lang.proofs.Unplaced.{expansion_by_values, expansion_with, ok, parts_expansion}
+use Rattle.m1_lang.proofs.WithoutOffsets.{expansion_by_values, expansion_with, ok, parts_expansion}
 
 -- ---- look-ups
 
@@ -140,14 +140,14 @@ following-part seen (Defines at name value) ps qs later =
 -- ---- two parts change places
 
 -- one definition and then another
-ok-two : (seen : Defined) (at place : ℕ) (one value other also : List ℕ) (ps : List SourcePart)
-    → ok (definitions seen (Defines at one value ∷ Defines place other also ∷ ps))
+ok-two : (seen : Defined) (at offset : ℕ) (one value other also : List ℕ) (ps : List SourcePart)
+    → ok (definitions seen (Defines at one value ∷ Defines offset other also ∷ ps))
     ≡ cond (not (is_value value)) None (cond (is_some (value_in seen one)) None
     (cond (not (is_value also)) None (cond (is_some (value_in seen other) || bytes_eq other one) None (ok (definitions ((seen ++ (one, value) ∷ []) ++ (other, also) ∷ []) ps)))))
-ok-two seen at place one value other also ps =
-    ok-with seen at one value (Defines place other also ∷ ps)
+ok-two seen at offset one value other also ps =
+    ok-with seen at one value (Defines offset other also ∷ ps)
     ∙ ap (λ (o : Option Defined). cond (not (is_value value)) None (cond (is_some (value_in seen one)) None o))
-    (ok-with (seen ++ (one, value) ∷ []) place other also ps
+    (ok-with (seen ++ (one, value) ∷ []) offset other also ps
     ∙ ap (λ (b : Bool). cond (not (is_value also)) None (cond b None (ok (definitions ((seen ++ (one, value) ∷ []) ++ (other, also) ∷ []) ps)))) (seen-more seen one value other))
 
 swap-chosen : (good fine here there apart : Bool) (one other : Option Defined) → (apart ≡ false → Related one other)
@@ -195,12 +195,12 @@ move seen one value (part ∷ between) back =
     related-then _ (ok (definitions seen (part ∷ Defines 0 one value ∷ (between ++ back)))) _ (swap seen one value part (between ++ back))
     (following-part seen part (Defines 0 one value ∷ (between ++ back)) (between ++ Defines 0 one value ∷ back) (λ more. move more one value between back))
 
-move-following : (seen : Defined) (one value : List ℕ) (front between back : List SourcePart)
-    → Related (ok (definitions seen (front ++ Defines 0 one value ∷ (between ++ back)))) (ok (definitions seen (front ++ (between ++ Defines 0 one value ∷ back))))
+move-following : (seen : Defined) (one value : List ℕ) (prefix between back : List SourcePart)
+    → Related (ok (definitions seen (prefix ++ Defines 0 one value ∷ (between ++ back)))) (ok (definitions seen (prefix ++ (between ++ Defines 0 one value ∷ back))))
 move-following seen one value [] between back = move seen one value between back
-move-following seen one value (part ∷ front) between back =
-    following-part seen part (front ++ Defines 0 one value ∷ (between ++ back)) (front ++ (between ++ Defines 0 one value ∷ back))
-    (λ more. move-following more one value front between back)
+move-following seen one value (part ∷ prefix) between back =
+    following-part seen part (prefix ++ Defines 0 one value ∷ (between ++ back)) (prefix ++ (between ++ Defines 0 one value ∷ back))
+    (λ more. move-following more one value prefix between back)
 
 plain-more : (ps qs rs : List SourcePart) → plain_words qs ≡ plain_words rs → plain_words (ps ++ qs) ≡ plain_words (ps ++ rs)
 plain-more [] qs rs same = same
@@ -219,10 +219,10 @@ related-with (Some a) (Some b) words related =
     let values : value_in a ≡ value_in b = λ i text. related text i in
     ap (λ (v : List ℕ → Option (List ℕ)). expansion_by_values v words) values
 
-pub moved : (one value : List ℕ) (front between back : List SourcePart)
-    → parts_expansion (front ++ Defines 0 one value ∷ (between ++ back)) ≡ parts_expansion (front ++ (between ++ Defines 0 one value ∷ back))
-moved one value front between back =
-    related-with _ (ok (definitions [] (front ++ (between ++ Defines 0 one value ∷ back)))) (plain_words (front ++ Defines 0 one value ∷ (between ++ back)))
-    (move-following [] one value front between back)
-    ∙ ap (expansion_with (ok (definitions [] (front ++ (between ++ Defines 0 one value ∷ back)))))
-    (plain-more front (Defines 0 one value ∷ (between ++ back)) (between ++ Defines 0 one value ∷ back) (plain-moved one value between back))
+pub moved : (one value : List ℕ) (prefix between back : List SourcePart)
+    → parts_expansion (prefix ++ Defines 0 one value ∷ (between ++ back)) ≡ parts_expansion (prefix ++ (between ++ Defines 0 one value ∷ back))
+moved one value prefix between back =
+    related-with _ (ok (definitions [] (prefix ++ (between ++ Defines 0 one value ∷ back)))) (plain_words (prefix ++ Defines 0 one value ∷ (between ++ back)))
+    (move-following [] one value prefix between back)
+    ∙ ap (expansion_with (ok (definitions [] (prefix ++ (between ++ Defines 0 one value ∷ back)))))
+    (plain-more prefix (Defines 0 one value ∷ (between ++ back)) (between ++ Defines 0 one value ∷ back) (plain-moved one value between back))

@@ -48,7 +48,7 @@ parts-plain word (name ∷ value ∷ rest) is =
 pub no-word : (found : Ahead) (source : List ℕ) (at : ℕ) → FindsAhead found source at
     → ((start : ℕ) (text : Bor (List ℕ)) (after : ℕ) → found ≡ next.Word start text after → ⊥) → word_list (words_at source at) ≡ []
 no-word next.End source at is none = ap word_list is
-no-word (next.Open place) source at is none = ap word_list is
+no-word (next.Open offset) source at is none = ap word_list is
 no-word (next.Word start text after) source at is none = absurd (none start text after refl)
 
 -- nothing is left at the end

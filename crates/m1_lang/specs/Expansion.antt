@@ -1,6 +1,7 @@
 -- What an M1 source expands to: the items of hex2 that its words give, or its first refusal. Public source: the language M1 of stage0-posix
 -- and mescc-tools, whose exact rules here are this project's profile. docs/reference/m1.md says the same for people.
 use Rattle.std.specs.Prelude.{◌≡◌, ℕ, nat_lt, if◌then◌else◌, List, [], ◌∷◌, length, Option, None, Result, Ok, Err}
+use Rattle.ddc_base.specs.Limits.{most_items, most_source}
 use Rattle.hex_langs.specs.declared.items.item.Item.{Item}
 use Rattle.hex_langs.specs.declared.items.token.Token.{Token}
 use Rattle.hex_langs.specs.declared.items.words.Halt.{Halt}
@@ -49,7 +50,7 @@ items_unless_refused items (Faulted why at) = Err (word_refusal why at)
 
 -- `TooLong` if the items before the end or the first refusal are more than 33,554,432
 abbrev pub counted_items : Formed WordFault → Result (List Item) M1Refusal
-counted_items formed = if nat_lt 33554432 (length formed.items) then Err TooLong else items_unless_refused formed.items formed.end
+counted_items formed = if nat_lt most_items (length formed.items) then Err TooLong else items_unless_refused formed.items formed.end
 
 -- the items of the words outside definitions; fields and bytes form words of four bytes as in hex2
 abbrev pub expansion_by : Result Defined M1Refusal → List Word → Result (List Item) M1Refusal
@@ -59,7 +60,7 @@ expansion_by (Err why) words = Err why
 -- the items of a source, or its first refusal. The order is its length, an open quote, its definitions, its other words
 unfoldable pub expansion_of : List ℕ → Result (List Item) M1Refusal
 expansion_of source =
-    if nat_lt 67108864 (length source) then Err TooLong
+    if nat_lt most_source (length source) then Err TooLong
     else expansion_by (definitions_in (words_of source)) (plain_words (parts (word_list (words_of source))))
 
 -- the answer of expanding: this result, or out of memory

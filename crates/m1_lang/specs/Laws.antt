@@ -1,6 +1,7 @@
 -- Definitions for the laws of M1.
 use Rattle.std.specs.Prelude.{◌≡◌, ℕ, ◌<◌, ◌≤◌, false, true, List, [], ◌∷◌, ◌++◌, map, length, Some, None}
 use Rattle.std.specs.List.{AllByRecursion, flat_map}
+use Rattle.ddc_base.specs.Limits.{most_source}
 use Rattle.hex_langs.specs.Items.Tokens.{is_blank, opens_gap}
 use Rattle.m1_lang.specs.Words.Words.{open_quote, Word, word_list, word_more, words_of}
 use Rattle.m1_lang.specs.Definitions.{Cut, Defines, SourcePart, parts, Plain}
@@ -11,7 +12,7 @@ IsOfBytes bytes = AllByRecursion (λ byte. byte < 256) bytes
 
 -- the source has at most 67,108,864 bytes, and every quote in it is closed
 pub record IsCutIntoWords (source : List ℕ) : Type 0 where
-  pub short : length source ≤ 67108864
+  pub short : length source ≤ most_source
   pub closed : open_quote (words_of source) ≡ None
 
 -- the words of a source without their offsets
@@ -39,11 +40,11 @@ abbrev pub laid_out : Layout → List ℕ
 laid_out layout = flat_map (λ (laid : List ℕ × List ℕ). laid.0 ++ laid.1) layout
 
 -- a part without its offset
-abbrev pub unplaced : SourcePart → SourcePart
-unplaced (Defines at name value) = Defines 0 name value
-unplaced (Cut at) = Cut 0
-unplaced (Plain word) = Plain (record { at = 0; text = word.text })
+abbrev pub without_offset : SourcePart → SourcePart
+without_offset (Defines at name value) = Defines 0 name value
+without_offset (Cut at) = Cut 0
+without_offset (Plain word) = Plain (record { at = 0; text = word.text })
 
 -- the definitions and the other words of a source without their offsets
 abbrev pub parts_in : List ℕ → List SourcePart
-parts_in source = map unplaced (parts (word_list (words_of source)))
+parts_in source = map without_offset (parts (word_list (words_of source)))

@@ -33,7 +33,7 @@ fn open_quote(source: &[u8], from: usize) -> Option<usize>
     while at < source.len() {
         match next_word(source, at) {
             Ahead::End => return None,
-            Ahead::Open(place) => return Some(place),
+            Ahead::Open(offset) => return Some(offset),
             Ahead::Word(_, _, after) => at = after,
         }
     }
@@ -122,7 +122,7 @@ fn unless_open(source: &[u8], at: usize, refusal: M1Refusal) -> M1Refusal
     ensures { result ≡ quote_or (open_at source.now at) refusal }
 {
     match open_quote(source, at) {
-        Some(place) => M1Refusal::OpenString(place as u64),
+        Some(offset) => M1Refusal::OpenString(offset as u64),
         None => refusal,
     }
 }
@@ -140,7 +140,7 @@ pub(crate) fn definitions_of<'s>(
     while at < source.len() {
         match next_word(source, at) {
             Ahead::End => return Ok(table),
-            Ahead::Open(place) => return Err(M1Refusal::OpenString(place as u64)),
+            Ahead::Open(offset) => return Err(M1Refusal::OpenString(offset as u64)),
             Ahead::Word(start, text, after) => {
                 if is_define(text) {
                     match define(&mut table, source, start, after) {

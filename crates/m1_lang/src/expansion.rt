@@ -1,6 +1,7 @@
 //! The items that an M1 source expands to.
 
 ghost use Rattle.std.specs.Prelude.{◌≡◌, ◌≤◌, length, None};
+ghost use Rattle.ddc_base.specs.Limits.{most_items};
 ghost use Rattle.hex_langs.specs.Items.Reading.{formed};
 ghost use Rattle.m1_lang.specs.Words.Forms.{tokens_of};
 ghost use Rattle.m1_lang.specs.Expansion.{counted_items, Expands, expansion_of, halt_refusal, word_refusal};
@@ -10,7 +11,8 @@ use crate::definitions::{Definitions, definitions_of, is_define};
 use crate::refusal::M1Refusal;
 use crate::taking::{meaning_by, take_meaning};
 use crate::words::{Ahead, WordFault, next_word};
-use hex_langs::items::{Halt, Items, LONGEST_SOURCE, Open};
+use ddc_base::limits::MOST_SOURCE;
+use hex_langs::items::{Halt, Items, Open};
 use std::alloc::Global;
 
 /// The items that an M1 source of at most 67,108,864 bytes expands to, or its first refusal. Names are borrowed from the source.
@@ -21,7 +23,7 @@ use std::alloc::Global;
 pub fn expand<'s>(alloc: Global, source: &'s [u8]) -> Result<Items<'s>, M1Refusal>
     ensures { Expands (expansion_of source.now) result }
 {
-    if source.len() > LONGEST_SOURCE {
+    if source.len() > MOST_SOURCE {
         return Err(M1Refusal::TooLong);
     }
     match definitions_of(alloc, source) {
@@ -52,9 +54,9 @@ fn take_word<'s>(
     at: usize,
     text: &'s [u8],
 ) -> Result<Option<Open<'s>>, M1Refusal>
-    requires { length items.old ≤ 33554432 }
+    requires { length items.old ≤ most_items }
     ensures takes { TakesWord result word.entry at (tokens_of (values_in table.now) text.now) items.old items.new }
-    ensures few { length items.new ≤ 33554432 }
+    ensures few { length items.new ≤ most_items }
 {
     match meaning_by(table, text) {
         Err(fault) => Err(word_refusal(fault, at)),

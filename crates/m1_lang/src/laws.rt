@@ -1,6 +1,7 @@
 //! Laws of every M1 source. Each law is the contract of a function that does nothing.
 
 ghost use Rattle.hex_langs.specs.declared.items.item.Item.{Item};
+ghost use Rattle.ddc_base.specs.Limits.{most_source};
 ghost use Rattle.hex_langs.specs.declared.items.token.Dialect.TheVariants.{Hex2};
 ghost use Rattle.hex_langs.specs.Items.Reading.{items_of};
 ghost use Rattle.hex_langs.specs.Writer.Writing.{items_text};
@@ -13,7 +14,7 @@ ghost use Rattle.std.specs.Prelude.{◌≡◌, ◌↔◌, ℕ, ◌≤◌, List, 
 /// The text written of a source's items is read by hex2 as the same items, if it has at most 67,108,864 bytes.
 pub fn expansions_are_read_again()
     ensures { (source : List ℕ) → (items : List Item) → IsOfBytes source → expansion_of source ≡ Ok items
-        → length (items_text items) ≤ 67108864 → items_of Hex2 (items_text items) ≡ Ok items }
+        → length (items_text items) ≤ most_source → items_of Hex2 (items_text items) ≡ Ok items }
 {}
 
 /// Words laid out with blanks before, between and after them are the words of the source, and each quote is closed.
@@ -32,8 +33,8 @@ pub fn layout_does_not_matter()
 /// The position of a definition does not matter. Two sources whose parts differ only in the position of one definition give the same
 /// items.
 pub fn definitions_may_move()
-    ensures { (one : List ℕ) → (other : List ℕ) → (items : List Item) → (name : List ℕ) → (value : List ℕ) → (front : List SourcePart)
+    ensures { (one : List ℕ) → (other : List ℕ) → (items : List Item) → (name : List ℕ) → (value : List ℕ) → (prefix : List SourcePart)
         → (between : List SourcePart)
-        → (back : List SourcePart) → IsCutIntoWords one → IsCutIntoWords other → parts_in one ≡ front ++ Defines 0 name value ∷ (between ++ back)
-        → parts_in other ≡ front ++ (between ++ Defines 0 name value ∷ back) → (expansion_of one ≡ Ok items) ↔ (expansion_of other ≡ Ok items) }
+        → (back : List SourcePart) → IsCutIntoWords one → IsCutIntoWords other → parts_in one ≡ prefix ++ Defines 0 name value ∷ (between ++ back)
+        → parts_in other ≡ prefix ++ (between ++ Defines 0 name value ∷ back) → (expansion_of one ≡ Ok items) ↔ (expansion_of other ≡ Ok items) }
 {}

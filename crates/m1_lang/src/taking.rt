@@ -1,9 +1,10 @@
 //! Takes the tokens that words give.
 
 ghost use Rattle.std.specs.Prelude.{◌≡◌, ◌≤◌, ℕ, [], ◌∷◌, IfSome, length, map, replicate};
+ghost use Rattle.ddc_base.specs.Limits.{most_items};
 ghost use Rattle.hex_langs.specs.declared.items.token.Token.TheVariants.{Byte};
 ghost use Rattle.m1_lang.specs.Words.Forms.{defined_tokens, padded, tokens_of};
-ghost use Rattle.m1_lang.specs.Words.Meanings.{MeansResult, MeansTokens, front_bytes, meaning_tokens};
+ghost use Rattle.m1_lang.specs.Words.Meanings.{MeansResult, MeansTokens, prefix_bytes, meaning_tokens};
 ghost use Rattle.m1_lang.specs.Representation.Passes.{TakesTokens, values_in};
 
 use crate::definitions::Definitions;
@@ -16,9 +17,9 @@ fn take_bytes<'s>(
     mut word: Option<Open<'s>>,
     bytes: &[u8],
 ) -> Result<Option<Open<'s>>, Halt>
-    requires { length items.old ≤ 33554432 }
+    requires { length items.old ≤ most_items }
     ensures takes { (at : ℕ) → TakesTokens result word.entry at (map Byte bytes.now) items.old items.new }
-    ensures few { length items.new ≤ 33554432 }
+    ensures few { length items.new ≤ most_items }
 {
     for byte in bytes {
         match take_byte(items, word, *byte) {
@@ -31,7 +32,7 @@ fn take_bytes<'s>(
 
 /// The bytes of eight digits.
 fn four_bytes(digits: &[u8]) -> Option<(u8, u8, u8, u8)>
-    ensures { IfSome result (λ four. front_bytes digits.now ≡ four.0 ∷ four.1 ∷ four.2 ∷ four.3 ∷ []) }
+    ensures { IfSome result (λ four. prefix_bytes digits.now ≡ four.0 ∷ four.1 ∷ four.2 ∷ four.3 ∷ []) }
 {
     let [a, b, c, d, e, f, g, h] = digits else {
         return None;
@@ -55,9 +56,9 @@ fn take_digits<'s>(
     word: Option<Open<'s>>,
     digits: &[u8],
 ) -> Result<Option<Open<'s>>, Halt>
-    requires { length items.old ≤ 33554432 }
-    ensures takes { (at : ℕ) → TakesTokens result word.entry at (map Byte (front_bytes digits.now)) items.old items.new }
-    ensures few { length items.new ≤ 33554432 }
+    requires { length items.old ≤ most_items }
+    ensures takes { (at : ℕ) → TakesTokens result word.entry at (map Byte (prefix_bytes digits.now)) items.old items.new }
+    ensures few { length items.new ≤ most_items }
 {
     match word {
         None => take_pairs(items, None, digits),
@@ -77,9 +78,9 @@ fn take_pairs<'s>(
     mut word: Option<Open<'s>>,
     digits: &[u8],
 ) -> Result<Option<Open<'s>>, Halt>
-    requires { length items.old ≤ 33554432 }
-    ensures takes { (at : ℕ) → TakesTokens result word.entry at (map Byte (front_bytes digits.now)) items.old items.new }
-    ensures few { length items.new ≤ 33554432 }
+    requires { length items.old ≤ most_items }
+    ensures takes { (at : ℕ) → TakesTokens result word.entry at (map Byte (prefix_bytes digits.now)) items.old items.new }
+    ensures few { length items.new ≤ most_items }
 {
     let mut at = 0;
     while at + 1 < digits.len() {
@@ -103,9 +104,9 @@ fn take_text<'s>(
     word: Option<Open<'s>>,
     text: &[u8],
 ) -> Result<Option<Open<'s>>, Halt>
-    requires { length items.old ≤ 33554432 }
+    requires { length items.old ≤ most_items }
     ensures takes { (at : ℕ) → TakesTokens result word.entry at (map Byte (padded text.now)) items.old items.new }
-    ensures few { length items.new ≤ 33554432 }
+    ensures few { length items.new ≤ most_items }
 {
     match take_bytes(items, word, text) {
         Err(halt) => Err(halt),
@@ -119,9 +120,9 @@ fn take_zeros<'s>(
     mut word: Option<Open<'s>>,
     count: usize,
 ) -> Result<Option<Open<'s>>, Halt>
-    requires { length items.old ≤ 33554432 }
+    requires { length items.old ≤ most_items }
     ensures takes { (at : ℕ) → TakesTokens result word.entry at (map Byte (replicate count 0)) items.old items.new }
-    ensures few { length items.new ≤ 33554432 }
+    ensures few { length items.new ≤ most_items }
 {
     for i in 0..count {
         match take_byte(items, word, 0) {
@@ -139,9 +140,9 @@ pub(crate) fn take_meaning<'s>(
     at: usize,
     meaning: WordMeaning<'s>,
 ) -> Result<Option<Open<'s>>, Halt>
-    requires { length items.old ≤ 33554432 }
+    requires { length items.old ≤ most_items }
     ensures takes { TakesTokens result word.entry at (meaning_tokens meaning.entry) items.old items.new }
-    ensures few { length items.new ≤ 33554432 }
+    ensures few { length items.new ≤ most_items }
 {
     match meaning {
         WordMeaning::Digits(digits) => take_digits(items, word, digits),

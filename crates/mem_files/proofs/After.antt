@@ -21,27 +21,27 @@ and_true true = refl
 and_true false = refl
 
 -- as many bytes as there is room for
-pub take_min : (name : List ℕ) (room : ℕ) → take (min (length name) room) name ≡ take room name
-take_min name room = elim (cases_lt room (length name)) as (λ _. take (min (length name) room) name ≡ take room name) [
-  | inl h ↦ ap (λ n. take n name) (let e : min (length name) room ≡ room = omega arith in e)
-  | inr h ↦ ap (λ n. take n name) (let e : min (length name) room ≡ length name = omega arith in e) ∙ take_all (length name) name (omega arith) ∙ sym (take_all room name h)
+pub take_min : (name : List ℕ) (capacity : ℕ) → take (min (length name) capacity) name ≡ take capacity name
+take_min name capacity = elim (cases_lt capacity (length name)) as (λ _. take (min (length name) capacity) name ≡ take capacity name) [
+  | inl h ↦ ap (λ n. take n name) (let e : min (length name) capacity ≡ capacity = omega arith in e)
+  | inr h ↦ ap (λ n. take n name) (let e : min (length name) capacity ≡ length name = omega arith in e) ∙ take_all (length name) name (omega arith) ∙ sym (take_all capacity name h)
 ]
 
 -- a short name comes after another where it comes after the front of it
-pub after_front : (room : ℕ) (given name : List ℕ) → length name ≤ room → is_lt (bytes_cmp (take room given) name) ≡ is_lt (bytes_cmp given name)
-after_front room given [] h = none room given
+pub after_prefix : (capacity : ℕ) (given name : List ℕ) → length name ≤ capacity → is_lt (bytes_cmp (take capacity given) name) ≡ is_lt (bytes_cmp given name)
+after_prefix capacity given [] h = none capacity given
   where
-    none : (room : ℕ) (given : List ℕ) → is_lt (bytes_cmp (take room given) []) ≡ is_lt (bytes_cmp given [])
+    none : (capacity : ℕ) (given : List ℕ) → is_lt (bytes_cmp (take capacity given) []) ≡ is_lt (bytes_cmp given [])
     none zero [] = refl
     none zero (x ∷ xs) = refl
-    none (suc room) [] = refl
-    none (suc room) (x ∷ xs) = refl
-after_front zero given (y ∷ ys) h = absurd (omega arith)
-after_front (suc room) [] (y ∷ ys) h = refl
-after_front (suc room) (x ∷ xs) (y ∷ ys) h =
-    elim (nat_cmp x y) as (λ r. is_lt (ordering_then r (bytes_cmp (take room xs) ys)) ≡ is_lt (ordering_then r (bytes_cmp xs ys))) [
+    none (suc capacity) [] = refl
+    none (suc capacity) (x ∷ xs) = refl
+after_prefix zero given (y ∷ ys) h = absurd (omega arith)
+after_prefix (suc capacity) [] (y ∷ ys) h = refl
+after_prefix (suc capacity) (x ∷ xs) (y ∷ ys) h =
+    elim (nat_cmp x y) as (λ r. is_lt (ordering_then r (bytes_cmp (take capacity xs) ys)) ≡ is_lt (ordering_then r (bytes_cmp xs ys))) [
       | Less ↦ refl
-      | Equal ↦ after_front room xs ys (omega arith)
+      | Equal ↦ after_prefix capacity xs ys (omega arith)
       | Greater ↦ refl
     ]
 

@@ -13,7 +13,7 @@ use Rattle.std.specs.FinMap as fin
 use Rattle.std.specs.FinMap.Entries.{is_sorted-put, is_sorted-where_key, where_key}
 use Rattle.mem_files.specs.declared.open_file.OpenFile.{OpenFile}
 use Rattle.mem_files.specs.declared.stored.Stored.{Stored}
-use Rattle.mem_files.specs.Limits.{most_descriptors, most_names, most_name}
+use Rattle.ddc_base.specs.Limits.{most_descriptors, most_names, most_name}
 use Rattle.mem_files.specs.Names.{bytes_cmp}
 use Rattle.mem_files.specs.World.{World, total, content_of, is_of, is_named, is_open, lowest_unused}
 use Rattle.mem_files.specs.Inside.Cells.{map_of, SameCells}

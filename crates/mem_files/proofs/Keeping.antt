@@ -11,7 +11,7 @@ use Rattle.std.specs.Cmp.Lexicographic.{nat_list_cmp_total}
 use Rattle.std.specs.FinMap as fin
 use Rattle.mem_files.specs.declared.open_file.OpenFile.{OpenFile}
 use Rattle.mem_files.specs.declared.open_file.OpenFile.TheVariants.{Input, Stream1, Stream2, File}
-use Rattle.mem_files.specs.Limits.{most_descriptors, most_names, most_content, most_total}
+use Rattle.ddc_base.specs.Limits.{most_descriptors, most_names, most_content, most_total}
 use Rattle.mem_files.specs.Names.{bytes_cmp, is_stripped_name}
 use Rattle.mem_files.specs.World.{World, total, is_of, is_named, is_open, lowest_unused}
 use Rattle.mem_files.specs.Calls.{without_unused, closed, closed_at, removed, removed_at}

@@ -11,7 +11,7 @@ use Rattle.std.specs.FinMap as fin
 use Rattle.mem_files.specs.declared.open_file.Access.{Access}
 use Rattle.mem_files.specs.declared.open_file.OpenFile.{OpenFile}
 use Rattle.mem_files.specs.declared.open_file.OpenFile.TheVariants.{Input, Stream1, Stream2, File}
-use Rattle.mem_files.specs.Limits.{most_descriptors, most_names, most_content, most_total}
+use Rattle.ddc_base.specs.Limits.{most_descriptors, most_names, most_content, most_total}
 use Rattle.mem_files.specs.Linux.{o_accmode, o_creat, o_excl, o_trunc, einval, emfile, eexist, enoent, enospc, ebadf, efbig, seek_set, seek_cur, seek_end}
 use Rattle.mem_files.specs.Access.{is_read, is_written}
 use Rattle.mem_files.specs.Names.{bytes_cmp, is_stripped_name, is_file_name, stripped, begins_with_dot_slash}
@@ -20,7 +20,7 @@ use Rattle.mem_files.specs.declared.open_file.PlaceRefusal.TheVariants.{BadName,
 use Rattle.mem_files.proofs.First.{three, no_bytes}
 use borrow.Author.Tests.{ltb-false, leb-false}
 use Rattle.mem_files.specs.World.{World, total, content_of, is_of, is_named, is_open, lowest_unused}
-use Rattle.mem_files.specs.Calls.{first_world, with_file, with_descriptor, access_of, has, with_content, written_over, opened, opened_at, emptied_if, seek_base, as_file_offset, with_file_offset, sought, sought_at, ready, ready_at, skipped, skipped_at, fits, fits_at, write_place, write_file_offset, filled, written, written_if, placed, is_full}
+use Rattle.mem_files.specs.Calls.{first_world, with_file, with_descriptor, access_of, has, with_content, written_over, opened, opened_at, emptied_if, seek_base, as_file_offset, with_file_offset, sought, sought_at, ready, ready_at, skipped, skipped_at, fits, fits_at, write_offset, write_file_offset, filled, written, written_if, placed, is_full}
 use Rattle.mem_files.specs.Inside.Kept.{HasFile, IsHeldOpenFile, IsKept}
 use Rattle.mem_files.proofs.Totals.{total-insert}
 use Rattle.mem_files.proofs.Maps.{get-lowest_unused, lowest_unused-le-len}
@@ -31,7 +31,7 @@ use Rattle.mem_files.proofs.Keeping.{or_left, or_right, or_cases, named_by, open
 -- a file has other bytes
 pub set_content-kept : (w : World) (number : ℕ) (content : List ℕ) → IsKept w → IsSome (fin.get w.files number) → length content ≤ most_content → total w + length content ≤ most_total + length (content_of w number)
     → IsKept (record w { files = fin.insert w.files number content })
-set_content-kept w number content s held small room =
+set_content-kept w number content s held small capacity =
     let v : World = record w { files = fin.insert w.files number content } in
     let old : (n : ℕ) → IsSome (fin.get v.files n) → IsSome (fin.get w.files n) =
     λ n h. by_eq n number (λ e. subst (λ k. IsSome (fin.get w.files k)) (sym e) held) (λ ne. sym (ap is_some (there w.files number content n ne)) ∙ h) in
@@ -56,7 +56,7 @@ set_content-kept w number content s held small room =
 -- a new file under the lowest unused number
 pub with_file-kept : (w : World) (name content : List ℕ) → IsKept w → IsTrue (is_stripped_name name) → fin.get w.names name ≡ None → fin.len w.names < most_names → lowest_unused w.files < most_names + most_descriptors
     → length content ≤ most_content → total w + length content ≤ most_total → IsKept (with_file w name content)
-with_file-kept w name content s good absent few low small room =
+with_file-kept w name content s good absent few low small capacity =
     let number : ℕ = lowest_unused w.files in
     let free : fin.get w.files number ≡ None = get-lowest_unused w.files in
     let v : World = with_file w name content in
@@ -157,7 +157,7 @@ set_file_offset-kept w fd number file_offset access to s at small =
 
 -- bytes more in a stream
 pub stream1-kept : (w : World) (bytes : List ℕ) → IsKept w → length w.stream1 + length bytes ≤ most_content → total w + length bytes ≤ most_total → IsKept (record w { stream1 = w.stream1 ++ bytes })
-stream1-kept w bytes s small room = record {
+stream1-kept w bytes s small capacity = record {
   few_names = s.few_names;
   few_open_files = s.few_open_files;
   small_stream1 = omega (arith, length-append w.stream1 bytes);
@@ -173,7 +173,7 @@ stream1-kept w bytes s small room = record {
 }
 
 pub stream2-kept : (w : World) (bytes : List ℕ) → IsKept w → length w.stream2 + length bytes ≤ most_content → total w + length bytes ≤ most_total → IsKept (record w { stream2 = w.stream2 ++ bytes })
-stream2-kept w bytes s small room = record {
+stream2-kept w bytes s small capacity = record {
   few_names = s.few_names;
   few_open_files = s.few_open_files;
   small_stream1 = s.small_stream1;
@@ -196,15 +196,15 @@ content_small w number s = elim (fin.get w.files number) as (λ o. fin.get w.fil
 ] refl
 
 -- a write to an open file
-pub with_content-kept : (w : World) (fd number file_offset : ℕ) (access : Access) (bytes : List ℕ) (place : ℕ) → IsKept w → fin.get w.open_files fd ≡ Some (File number file_offset access) → place + length bytes ≤ most_content
-    → total w + (place + length bytes - length (content_of w number)) ≤ most_total → IsKept (with_content w fd number access bytes place)
-with_content-kept w fd number file_offset access bytes place s at small room =
+pub with_content-kept : (w : World) (fd number file_offset : ℕ) (access : Access) (bytes : List ℕ) (offset : ℕ) → IsKept w → fin.get w.open_files fd ≡ Some (File number file_offset access) → offset + length bytes ≤ most_content
+    → total w + (offset + length bytes - length (content_of w number)) ≤ most_total → IsKept (with_content w fd number access bytes offset)
+with_content-kept w fd number file_offset access bytes offset s at small capacity =
     let held : IsSome (fin.get w.files number) = (s.good_open_files fd (File number file_offset access) at).1.0 in
     let old = content_small w number s in
-    let after : World = record w { files = fin.insert w.files number (written_over (content_of w number) place bytes) } in
-    let long = length-written_over (content_of w number) place bytes in
-    set_file_offset-kept after fd number file_offset access (place + length bytes)
-    (set_content-kept w number (written_over (content_of w number) place bytes) s held (omega (arith, old)) (omega (arith, s.small_total))) at (omega arith)
+    let after : World = record w { files = fin.insert w.files number (written_over (content_of w number) offset bytes) } in
+    let long = length-written_over (content_of w number) offset bytes in
+    set_file_offset-kept after fd number file_offset access (offset + length bytes)
+    (set_content-kept w number (written_over (content_of w number) offset bytes) s held (omega (arith, old)) (omega (arith, s.small_total))) at (omega arith)
 
 -- no files, and three descriptors
 pub first-kept : IsKept first_world
@@ -313,18 +313,18 @@ skipped-kept w fd count s read = at_open_file (fin.get w.open_files fd) refl rea
         ] h)
 
 -- what fits stays within the limits
-pub within_limits : (w : World) (count len place : ℕ) (done : Unit {0}) → fits_at w count (Some (len, place)) ≡ Ok done → count ≢ 0 → (place + count ≤ most_content) × (total w + (place + count - len) ≤ most_total)
-within_limits w count len place done e some =
-    elim (eqb count 0) as (λ b. eqb count 0 ≡ b → cond b (Ok tt) (if nat_lt most_content (place + count) then Err efbig else (if nat_lt most_total (total w + (place + count - len)) then Err enospc else Ok tt)) ≡ Ok done
-    → (place + count ≤ most_content) × (total w + (place + count - len) ≤ most_total)) [
+pub within_limits : (w : World) (count len offset : ℕ) (done : Unit {0}) → fits_at w count (Some (len, offset)) ≡ Ok done → count ≢ 0 → (offset + count ≤ most_content) × (total w + (offset + count - len) ≤ most_total)
+within_limits w count len offset done e some =
+    elim (eqb count 0) as (λ b. eqb count 0 ≡ b → cond b (Ok tt) (if nat_lt most_content (offset + count) then Err efbig else (if nat_lt most_total (total w + (offset + count - len)) then Err enospc else Ok tt)) ≡ Ok done
+    → (offset + count ≤ most_content) × (total w + (offset + count - len) ≤ most_total)) [
       | true ↦ λ zero_count _. absurd (some (eqb-true count 0 zero_count))
-      | false ↦ λ _ f. elim (nat_lt most_content (place + count)) as (λ b. nat_lt most_content (place + count) ≡ b → cond b (Err efbig) (if nat_lt most_total (total w + (place + count - len)) then Err enospc else Ok tt) ≡ Ok done
-          → (place + count ≤ most_content) × (total w + (place + count - len) ≤ most_total)) [
+      | false ↦ λ _ f. elim (nat_lt most_content (offset + count)) as (λ b. nat_lt most_content (offset + count) ≡ b → cond b (Err efbig) (if nat_lt most_total (total w + (offset + count - len)) then Err enospc else Ok tt) ≡ Ok done
+          → (offset + count ≤ most_content) × (total w + (offset + count - len) ≤ most_total)) [
             | true ↦ λ _ g. absurd (cc)
-            | false ↦ λ small g. elim (nat_lt most_total (total w + (place + count - len))) as (λ b. nat_lt most_total (total w + (place + count - len)) ≡ b → cond b (Err enospc) (Ok tt) ≡ Ok done
-                → (place + count ≤ most_content) × (total w + (place + count - len) ≤ most_total)) [
+            | false ↦ λ small g. elim (nat_lt most_total (total w + (offset + count - len))) as (λ b. nat_lt most_total (total w + (offset + count - len)) ≡ b → cond b (Err enospc) (Ok tt) ≡ Ok done
+                → (offset + count ≤ most_content) × (total w + (offset + count - len) ≤ most_total)) [
                   | true ↦ λ _ h. absurd (cc)
-                  | false ↦ λ room _. (omega (arith, ltb-false most_content (place + count) small), omega (arith, ltb-false most_total (total w + (place + count - len)) room))
+                  | false ↦ λ capacity _. (omega (arith, ltb-false most_content (offset + count) small), omega (arith, ltb-false most_total (total w + (offset + count - len)) capacity))
                 ] refl g
           ] refl f
     ] refl e
@@ -333,16 +333,16 @@ within_limits w count len place done e some =
 pub file_limits : (w : World) (fd number file_offset : ℕ) (access : Access) (count : ℕ) (done : Unit {0}) → fin.get w.open_files fd ≡ Some (File number file_offset access) → fits w fd count ≡ Ok done → count ≢ 0
     → (write_file_offset access (length (content_of w number)) file_offset + count ≤ most_content) × (total w + (write_file_offset access (length (content_of w number)) file_offset + count - length (content_of w number)) ≤ most_total)
 file_limits w fd number file_offset access count done at fit some =
-    let place : ℕ = write_file_offset access (length (content_of w number)) file_offset in
-    elim (is_written access) as (λ b. fits_at w count (cond b (Some (length (content_of w number), place)) None) ≡ Ok done → (place + count ≤ most_content) × (total w + (place + count - length (content_of w number)) ≤ most_total)) [
-      | true ↦ λ g. within_limits w count (length (content_of w number)) place done g some
+    let offset : ℕ = write_file_offset access (length (content_of w number)) file_offset in
+    elim (is_written access) as (λ b. fits_at w count (cond b (Some (length (content_of w number), offset)) None) ≡ Ok done → (offset + count ≤ most_content) × (total w + (offset + count - length (content_of w number)) ≤ most_total)) [
+      | true ↦ λ g. within_limits w count (length (content_of w number)) offset done g some
       | false ↦ λ g. absurd (cc)
-    ] (ap (λ o. fits_at w count (write_place w o)) (sym at) ∙ fit)
+    ] (ap (λ o. fits_at w count (write_offset w o)) (sym at) ∙ fit)
 
 pub filled-kept : (w : World) (fd : ℕ) (bytes : List ℕ) (done : Unit {0}) → IsKept w → fits w fd (length bytes) ≡ Ok done → length bytes ≢ 0 → IsKept (filled w fd bytes (fin.get w.open_files fd))
 filled-kept w fd bytes done s fit some = at_open_file (fin.get w.open_files fd) refl fit
   where
-    at_open_file : (o : Option OpenFile) → fin.get w.open_files fd ≡ o → fits_at w (length bytes) (write_place w o) ≡ Ok done → IsKept (filled w fd bytes o)
+    at_open_file : (o : Option OpenFile) → fin.get w.open_files fd ≡ o → fits_at w (length bytes) (write_offset w o) ≡ Ok done → IsKept (filled w fd bytes o)
     at_open_file None e f = s
     at_open_file (Some Input) e f = s
     at_open_file (Some Stream1) e f = let l = within_limits w (length bytes) (length w.stream1) (length w.stream1) done f some in stream1-kept w bytes s (omega (arith, l.0)) (omega (arith, l.1))
@@ -363,8 +363,8 @@ written-kept w fd bytes s = at_fit (fits w fd (length bytes)) refl
 
 -- where a new file passes no limit
 pub not_full : (w : World) (len : ℕ) → is_full w len ≡ false → (len ≤ most_content) × (total w + len ≤ most_total) × (fin.len w.names < most_names)
-not_full w len room =
-    let first = neither (nat_lt most_content len || nat_lt most_total (total w + len)) (nat_le most_names (fin.len w.names)) room in
+not_full w len capacity =
+    let first = neither (nat_lt most_content len || nat_lt most_total (total w + len)) (nat_le most_names (fin.len w.names)) capacity in
     let second = neither (nat_lt most_content len) (nat_lt most_total (total w + len)) first.0 in
     (omega (arith, ltb-false most_content len second.0), omega (arith, ltb-false most_total (total w + len) second.1), omega (arith, leb-false most_names (fin.len w.names) first.1))
 
@@ -389,7 +389,7 @@ placed-kept w name content s =
         | Some number ↦ λ _. s
         | None ↦ λ absent. elim (is_full w (length content)) as (λ b. is_full w (length content) ≡ b → IsKept (cond {A = Placing} b (Err Full, w) (Ok tt, with_file w rest content)).1) [
           | true ↦ λ _. s
-          | false ↦ λ room. let l = not_full w (length content) room in
+          | false ↦ λ capacity. let l = not_full w (length content) capacity in
               with_file-kept w rest content s (good_name good) absent l.2 (omega (arith, lowest_number-le w s, s.few_open_files, l.2)) l.0 l.1
         ] refl
       ] refl

@@ -17,13 +17,13 @@ use Rattle.mem_files.proofs.Entries.{here, left}
 use Rattle.mem_files.proofs.Keeping.{open_by, neither}
 
 -- the bytes that were written stand at their place
-read_back : (old : List ℕ) (place : ℕ) (bytes : List ℕ) → take (length bytes) (drop place (written_over old place bytes)) ≡ bytes
-read_back old place bytes =
-    let front : List ℕ = take place old ++ replicate (place - length old) 0 in
-    let rest : List ℕ = drop (place + length bytes) old in
-    let long : place ≡ length front = omega (arith, length-append (take place old) (replicate {A = ℕ} (place - length old) 0), length-take place old, length-replicate {A = ℕ} (place - length old) 0) in
-    ap (λ l. take (length bytes) (drop place l)) (let parts : front ++ bytes ++ rest ≡ front ++ (bytes ++ rest) = simp append_assoc in parts) ∙ ap (λ n. take (length bytes) (drop n (front ++ (bytes ++ rest)))) long
-    ∙ ap (take (length bytes)) (drop-append_seam front (bytes ++ rest)) ∙ take-append_seam bytes rest
+read_back : (old : List ℕ) (offset : ℕ) (bytes : List ℕ) → take (length bytes) (drop offset (written_over old offset bytes)) ≡ bytes
+read_back old offset bytes =
+    let prefix : List ℕ = take offset old ++ replicate (offset - length old) 0 in
+    let rest : List ℕ = drop (offset + length bytes) old in
+    let long : offset ≡ length prefix = omega (arith, length-append (take offset old) (replicate {A = ℕ} (offset - length old) 0), length-take offset old, length-replicate {A = ℕ} (offset - length old) 0) in
+    ap (λ l. take (length bytes) (drop offset l)) (let parts : prefix ++ bytes ++ rest ≡ prefix ++ (bytes ++ rest) = simp append_assoc in parts) ∙ ap (λ n. take (length bytes) (drop n (prefix ++ (bytes ++ rest)))) long
+    ∙ ap (take (length bytes)) (drop-append_seam prefix (bytes ++ rest)) ∙ take-append_seam bytes rest
 
 -- a file offset is set
 set_back : (w : World) (fd number now : ℕ) (access : Access) (file_offset : ℕ) → fin.get w.open_files fd ≡ Some (File number now access) → file_offset < 2 ^ 63

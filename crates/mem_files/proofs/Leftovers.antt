@@ -16,12 +16,12 @@ use Rattle.std.proofs.lemmas.Bool.{ne_eqb}
 use Rattle.std.proofs.lemmas.Option.{none-some, same_Some}
 use Rattle.std.proofs.lemmas.Bool.Decides.{nat_tests}
 use Rattle.std.specs.List.{list_any}
-use Rattle.mem_files.specs.Limits.{most_name, most_total}
+use Rattle.ddc_base.specs.Limits.{most_name, most_total}
 use Rattle.mem_files.specs.Names.{begins_with_dot_slash, bytes_cmp, is_file_name, is_stripped_name}
 use Rattle.mem_files.specs.World.{World, content_of}
 use Rattle.mem_files.specs.Calls.{content_at}
 use Rattle.mem_files.specs.Sound.{IsSound}
-use Rattle.mem_files.specs.Outputs.{named_content, left, OutputPlace, FirstStream, AtPath, out, IsContent, IsLeftFile, AreLeft}
+use Rattle.mem_files.specs.Outputs.{named_content, left, OutputLocation, FirstStream, AtPath, out, IsContent, IsLeftFile, AreLeft}
 use Rattle.mem_files.proofs.Directory.{equal, bytes_cmp-IsAntisymmetric}
 use Rattle.mem_files.proofs.Entries.{some_of}
 use Rattle.mem_files.proofs.Maps.{get-remove_nat, size_at, sum_by-remove}
@@ -138,7 +138,7 @@ streams-are w sound =
     let within = sound.within in
     (record { bytes = within.stream1_bytes; small = within.small_stream1 }, record { bytes = within.stream2_bytes; small = within.small_stream2 })
 
-pub output-is : (w : World) (output : OutputPlace) (content : List ℕ) → IsSound w → out w output ≡ Some content → IsContent content
+pub output-is : (w : World) (output : OutputLocation) (content : List ℕ) → IsSound w → out w output ≡ Some content → IsContent content
 output-is w FirstStream content sound is = subst IsContent (same_Some w.stream1 content is) (streams-are w sound).0
 output-is w (AtPath path) content sound is = elim (fin.get w.names path) as (λ o. fin.get w.names path ≡ o → IsContent content) [
   | None ↦ λ none. absurd (none-some content ((let gone : content_at w path ≡ None = rw none refl in sym gone) ∙ is))

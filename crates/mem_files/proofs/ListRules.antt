@@ -1,5 +1,6 @@
 -- The world of lists that keep their rules keeps the rules of files.
 use Rattle.std.proofs.Common.{◌≡◌, ℕ, ◌+◌, ◌<◌, ◌≤◌, Bool, true, false, cond, ◌||◌, eqb, eq-eqb, eqb-true, T, IsTrue, List, [], ◌∷◌, length, map, get_or, sum_by, Option, Some, None, IsSome, is_some, inl, inr, refl, sym, ap, subst, ◌∙◌, arith}
+use Rattle.ddc_base.specs.Limits.{file_number_end}
 use Rattle.std.specs.Prelude.{All}
 use Rattle.std.specs.List.{AllByRecursion, IsDistinct, list_any}
 use Rattle.std.specs.Ordering.{nat_cmp, eq_by_cmp, is_eq}
@@ -211,7 +212,7 @@ module _ (lists : FileLists) (order : AreOrdered lists) (range : AreInRange list
     good_names = λ name number is. (found_name (λ e. IsHeldName e.0) (named lists.files) name number range.good_names is).0;
     name_bytes = λ name number is. (found_name (λ e. IsHeldName e.0) (named lists.files) name number range.good_names is).1;
     low_numbers = λ number held. let found = some_of (fin.get (world_of lists).files number) held in
-        found_nat (λ e. e.0 < 5120) (numbered_contents lists.files) number found.0 (contents_all (λ e. e.0 < 5120) lists.files range.low_numbers) found.1;
+        found_nat (λ e. e.0 < file_number_end) (numbered_contents lists.files) number found.0 (contents_all (λ e. e.0 < file_number_end) lists.files range.low_numbers) found.1;
     file_bytes = λ number content is. (found_nat (λ e. IsContent e.1) (numbered_contents lists.files) number content (contents_all (λ e. IsContent e.1) lists.files range.good_files) is).bytes;
     small_files = λ number content is. (found_nat (λ e. IsContent e.1) (numbered_contents lists.files) number content (contents_all (λ e. IsContent e.1) lists.files range.good_files) is).small;
     stream1_bytes = (range.good_streams 0 [] (omega (arith, order.two_streams))).bytes;

@@ -20,8 +20,8 @@ use Rattle.mem_files.proofs.Maps.{both, head_above, rest_above, find_apart}
 use Rattle.mem_files.proofs.Totals.{total-insert}
 
 -- a list at a place
-pub at_place : {A : Type 0} (xs : List A) (i : ℕ) (d : A) → i < length xs → take i xs ++ get_or xs i d ∷ drop (i + 1) xs ≡ xs
-at_place xs i d h = ap (λ ys. take i xs ++ ys) (sym (drop_more xs i d h)) ∙ whole xs i
+pub at_index : {A : Type 0} (xs : List A) (i : ℕ) (d : A) → i < length xs → take i xs ++ get_or xs i d ∷ drop (i + 1) xs ≡ xs
+at_index xs i d h = ap (λ ys. take i xs ++ ys) (sym (drop_more xs i d h)) ∙ whole xs i
   where
     whole : {A : Type 0} (xs : List A) (i : ℕ) → take i xs ++ drop i xs ≡ xs
     whole [] zero = refl
@@ -140,7 +140,7 @@ module _ (views : List FileView) (i : ℕ) (d : FileView) (inside : i < length v
   known = omega (arith, length-map views listed)
 
   split : take i all ++ next ∷ drop (i + 1) all ≡ all
-  split = ap (λ f. take i all ++ f ∷ drop (i + 1) all) (sym (get_or-listed views i d)) ∙ at_place all i (listed d) known
+  split = ap (λ f. take i all ++ f ∷ drop (i + 1) all) (sym (get_or-listed views i d)) ∙ at_index all i (listed d) known
 
   more : take (i + 1) all ≡ take i all ++ next ∷ []
   more = take_more all i (listed d) known ∙ ap (λ f. take i all ++ f ∷ []) (get_or-listed views i d)
@@ -182,7 +182,7 @@ module _ (views : List FileView) (i : ℕ) (d : FileView) (inside : i < length v
 -- the descriptor at a place of a list
 module _ {X : Type 0} (open_files : List (ℕ × X)) (i : ℕ) (d : ℕ × X) (inside : i < length open_files) (rise : fin.is_sorted nat_cmp open_files ≡ true) where
   open_files_split : T (fin.is_sorted nat_cmp (take i open_files ++ get_or open_files i d ∷ drop (i + 1) open_files))
-  open_files_split = subst (λ (es : List (ℕ × X)). T (fin.is_sorted nat_cmp es)) (sym (at_place open_files i d inside)) (subst T (sym rise) tt)
+  open_files_split = subst (λ (es : List (ℕ × X)). T (fin.is_sorted nat_cmp es)) (sym (at_index open_files i d inside)) (subst T (sym rise) tt)
 
   pub next_fresh : fin.get (fin.from_entries {R = nat_cmp} (take i open_files)) (get_or open_files i d).0 ≡ None
   next_fresh = fin.get-from_entries nat_cmp_total (take i open_files) (get_or open_files i d).0 ∙ fresh (get_or open_files i d).0 (get_or open_files i d).1 (take i open_files) (drop (i + 1) open_files) open_files_split

@@ -3,7 +3,7 @@ use Rattle.std.proofs.Common.{◌≡◌, ℕ, ◌<◌, true, false, cond, not, n
 use Rattle.std.proofs.lemmas.Bool.Decides.{nat_tests}
 use Rattle.std.specs.FinMap as fin
 use Rattle.mem_files.specs.declared.open_file.OpenFile.{OpenFile}
-use Rattle.mem_files.specs.Limits.{most_names}
+use Rattle.ddc_base.specs.Limits.{most_names}
 use Rattle.mem_files.specs.Linux.{o_creat, enoent, enospc}
 use Rattle.mem_files.specs.World.{World, lowest_unused}
 use Rattle.mem_files.specs.Calls.{has, opened_at, with_descriptor, with_file}
@@ -20,7 +20,7 @@ module _ (w v : World) (fd : ℕ) (open_file : OpenFile) (lowest : fd ≡ lowest
 pub absent_opens : (w : World) (name : List ℕ) (flags : ℕ) → has flags o_creat ≡ true → fin.len w.names < most_names → IsOk (opened_at w name flags None).0
 absent_opens w name flags creates few =
     subst (λ b. IsOk (cond {A = Result ℕ ℕ × World} (not b) (Err enoent, w) (cond (nat_le most_names (fin.len w.names)) (Err enospc, w) (with_descriptor (with_file w name []) (lowest_unused w.files) flags))).0) (sym creates)
-    (subst (λ b. IsOk (cond {A = Result ℕ ℕ × World} b (Err enospc, w) (with_descriptor (with_file w name []) (lowest_unused w.files) flags)).0) (sym room) refl)
+    (subst (λ b. IsOk (cond {A = Result ℕ ℕ × World} b (Err enospc, w) (with_descriptor (with_file w name []) (lowest_unused w.files) flags)).0) (sym capacity) refl)
   where
-    room : nat_le most_names (fin.len w.names) ≡ false
-    room = grind (arith, nat_tests)
+    capacity : nat_le most_names (fin.len w.names) ≡ false
+    capacity = grind (arith, nat_tests)

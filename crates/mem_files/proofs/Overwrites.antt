@@ -6,16 +6,16 @@ use Rattle.std.proofs.Math.ListN.{drop_of_length-le}
 use Rattle.std.proofs.lemmas.Bool.{cases_lt}
 use Rattle.mem_files.specs.Calls.{written_over}
 
-take-padded : (old : List ℕ) (place n : ℕ) → place - length old ≤ n → take place (old ++ replicate n 0) ≡ take place old ++ replicate (place - length old) 0
-take-padded old place n few =
-    elim (cases_lt (length old) place) as (λ _. take place (old ++ replicate n 0) ≡ take place old ++ replicate (place - length old) 0) [
+take-padded : (old : List ℕ) (offset n : ℕ) → offset - length old ≤ n → take offset (old ++ replicate n 0) ≡ take offset old ++ replicate (offset - length old) 0
+take-padded old offset n few =
+    elim (cases_lt (length old) offset) as (λ _. take offset (old ++ replicate n 0) ≡ take offset old ++ replicate (offset - length old) 0) [
       | inl past ↦
-          let split : place ≡ length old + (place - length old) = omega arith in
-          ap (λ k. take k (old ++ replicate n 0)) split ∙ take-append-add old (replicate n 0) (place - length old)
-          ∙ ap (λ rest. old ++ rest) (take-replicate (place - length old) n 0 few) ∙ ap (λ front. front ++ replicate (place - length old) 0) (sym (take_all place old (omega arith)))
+          let split : offset ≡ length old + (offset - length old) = omega arith in
+          ap (λ k. take k (old ++ replicate n 0)) split ∙ take-append-add old (replicate n 0) (offset - length old)
+          ∙ ap (λ rest. old ++ rest) (take-replicate (offset - length old) n 0 few) ∙ ap (λ prefix. prefix ++ replicate (offset - length old) 0) (sym (take_all offset old (omega arith)))
       | inr inside ↦
-          let none : place - length old ≡ 0 = omega arith in
-          take-append-le place old (replicate n 0) inside ∙ sym (append-nil (take place old)) ∙ ap (λ k. take place old ++ replicate k 0) (sym none)
+          let none : offset - length old ≡ 0 = omega arith in
+          take-append-le offset old (replicate n 0) inside ∙ sym (append-nil (take offset old)) ∙ ap (λ k. take offset old ++ replicate k 0) (sym none)
     ]
 
 drop-padded : (old : List ℕ) (end : ℕ) → drop end (old ++ replicate (end - length old) 0) ≡ drop end old
@@ -29,20 +29,20 @@ drop-padded old end =
     ]
 
 -- what is left where bytes are copied into a slice of the same length
-pub put_is : (old bytes items copied : List ℕ) (place n : ℕ) → items ≡ old ++ replicate (place + length bytes - length old) 0 → copied ≡ take place items ++ bytes ++ drop (place + length bytes) items → n ≡ length items
-    → take n (copied ++ drop (length copied) items) ≡ written_over old place bytes
-put_is old bytes items copied place n grown is len =
-    let long : length items ≡ length old + (place + length bytes - length old) = ap length grown ∙ omega (arith, length-append old (replicate (place + length bytes - length old) 0), length-replicate {A = ℕ} (place + length bytes - length old) 0) in
-    let same : length copied ≡ length items = ap length is ∙ omega (arith, length-append (take place items ++ bytes) (drop (place + length bytes) items), length-append (take place items) bytes, length-take place items, length-drop (place + length bytes) items) in
+pub put_is : (old bytes items copied : List ℕ) (offset n : ℕ) → items ≡ old ++ replicate (offset + length bytes - length old) 0 → copied ≡ take offset items ++ bytes ++ drop (offset + length bytes) items → n ≡ length items
+    → take n (copied ++ drop (length copied) items) ≡ written_over old offset bytes
+put_is old bytes items copied offset n grown is len =
+    let long : length items ≡ length old + (offset + length bytes - length old) = ap length grown ∙ omega (arith, length-append old (replicate (offset + length bytes - length old) 0), length-replicate {A = ℕ} (offset + length bytes - length old) 0) in
+    let same : length copied ≡ length items = ap length is ∙ omega (arith, length-append (take offset items ++ bytes) (drop (offset + length bytes) items), length-append (take offset items) bytes, length-take offset items, length-drop (offset + length bytes) items) in
     ap (λ rest. take n (copied ++ rest)) (drop_of_length-le items (omega arith)) ∙ ap (take n) (append-nil copied) ∙ take_all n copied (omega arith)
-    ∙ is ∙ ap (λ l. take place l ++ bytes ++ drop (place + length bytes) l) grown
-    ∙ ap (λ front. front ++ bytes ++ drop (place + length bytes) (old ++ replicate (place + length bytes - length old) 0)) (take-padded old place (place + length bytes - length old) (omega arith))
-    ∙ ap (λ rest. take place old ++ replicate (place - length old) 0 ++ bytes ++ rest) (drop-padded old (place + length bytes))
+    ∙ is ∙ ap (λ l. take offset l ++ bytes ++ drop (offset + length bytes) l) grown
+    ∙ ap (λ prefix. prefix ++ bytes ++ drop (offset + length bytes) (old ++ replicate (offset + length bytes - length old) 0)) (take-padded old offset (offset + length bytes - length old) (omega arith))
+    ∙ ap (λ rest. take offset old ++ replicate (offset - length old) 0 ++ bytes ++ rest) (drop-padded old (offset + length bytes))
 
 -- a write adds what its end is past the old end
-pub length-written_over : (old : List ℕ) (place : ℕ) (bytes : List ℕ) → length (written_over old place bytes) ≡ length old + (place + length bytes - length old)
-length-written_over old place bytes =
-    let parts : length (written_over old place bytes) ≡ length (take place old) + length (replicate {A = ℕ} (place - length old) 0) + length bytes + length (drop (place + length bytes) old) =
-    length-append (take place old ++ replicate (place - length old) 0 ++ bytes) (drop (place + length bytes) old)
-    ∙ omega (arith, length-append (take place old ++ replicate (place - length old) 0) bytes, length-append (take place old) (replicate {A = ℕ} (place - length old) 0)) in
-    omega (arith, length-take place old, length-replicate {A = ℕ} (place - length old) 0, length-drop (place + length bytes) old)
+pub length-written_over : (old : List ℕ) (offset : ℕ) (bytes : List ℕ) → length (written_over old offset bytes) ≡ length old + (offset + length bytes - length old)
+length-written_over old offset bytes =
+    let parts : length (written_over old offset bytes) ≡ length (take offset old) + length (replicate {A = ℕ} (offset - length old) 0) + length bytes + length (drop (offset + length bytes) old) =
+    length-append (take offset old ++ replicate (offset - length old) 0 ++ bytes) (drop (offset + length bytes) old)
+    ∙ omega (arith, length-append (take offset old ++ replicate (offset - length old) 0) bytes, length-append (take offset old) (replicate {A = ℕ} (offset - length old) 0)) in
+    omega (arith, length-take offset old, length-replicate {A = ℕ} (offset - length old) 0, length-drop (offset + length bytes) old)

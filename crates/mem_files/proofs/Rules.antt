@@ -10,7 +10,7 @@ use Rattle.mem_files.specs.declared.open_file.OpenFile.TheVariants.{Input, Strea
 use Rattle.mem_files.specs.declared.open_file.PlaceRefusal.{PlaceRefusal}
 use Rattle.mem_files.specs.declared.open_file.PlaceRefusal.TheVariants.{BadName, Twice, Full}
 use Rattle.mem_files.specs.Linux.{o_accmode, o_creat, o_excl, o_trunc, einval, emfile, eexist, enoent, enospc}
-use Rattle.mem_files.specs.Limits.{most_descriptors, most_names}
+use Rattle.ddc_base.specs.Limits.{most_descriptors, most_names}
 use Rattle.mem_files.specs.Names.{is_stripped_name, is_file_name, stripped}
 use Rattle.mem_files.specs.World.{World, content_of, is_named, is_open, lowest_unused}
 use Rattle.mem_files.specs.Calls.{first_world, with_file, with_descriptor, has, written_over, opened, opened_at, emptied_if, with_file_offset, sought, sought_at, ready, skipped, skipped_at, fits, write_file_offset, filled, written, written_if, placed, is_full, without_unused, closed, closed_at, removed, removed_at, drained, drained_at}
@@ -131,12 +131,12 @@ without_unused-bytes w number b = elim (is_named w number || is_open w number) a
 open_files-bytes : (w : World) (open_files : fin.FinMap nat_cmp OpenFile) → HasBytes w → HasBytes (record w { open_files = open_files })
 open_files-bytes w open_files b = record { name_bytes = b.name_bytes; file_bytes = b.file_bytes; stream1_bytes = b.stream1_bytes; stream2_bytes = b.stream2_bytes }
 
-written_over-bytes : (old : List ℕ) (place : ℕ) (bytes : List ℕ) → AreBytes old → AreBytes bytes → AreBytes (written_over old place bytes)
-written_over-bytes old place bytes o b =
+written_over-bytes : (old : List ℕ) (offset : ℕ) (bytes : List ℕ) → AreBytes old → AreBytes bytes → AreBytes (written_over old offset bytes)
+written_over-bytes old offset bytes o b =
     let P : ℕ → Type 0 = λ byte. byte < 256 in
-    All-append P (take place old ++ replicate (place - length old) 0 ++ bytes) (drop (place + length bytes) old)
-    (All-append P (take place old ++ replicate (place - length old) 0) bytes (All-append P (take place old) (replicate (place - length old) 0) (All-take P place old o) (All-replicate P (place - length old) 0 (omega arith))) b)
-    (All-drop P (place + length bytes) old o)
+    All-append P (take offset old ++ replicate (offset - length old) 0 ++ bytes) (drop (offset + length bytes) old)
+    (All-append P (take offset old ++ replicate (offset - length old) 0) bytes (All-append P (take offset old) (replicate (offset - length old) 0) (All-take P offset old o) (All-replicate P (offset - length old) 0 (omega arith))) b)
+    (All-drop P (offset + length bytes) old o)
 
 first-bytes : HasBytes first_world
 first-bytes = record {

@@ -11,7 +11,7 @@ use Rattle.mem_files.specs.declared.open_file.Mode.TheVariants.{Read, Write, Rea
 use Rattle.mem_files.specs.declared.open_file.PlaceRefusal.{PlaceRefusal}
 use Rattle.mem_files.specs.declared.open_file.PlaceRefusal.TheVariants.{BadName, Twice, Full}
 use Rattle.mem_files.specs.Linux.{enoent, ebadf, eexist, einval, emfile, efbig, enospc, espipe, o_accmode, o_rdonly, o_wronly, o_creat, o_excl, o_trunc, o_append, seek_set, seek_cur, seek_end}
-use Rattle.mem_files.specs.Limits.{most_content, most_total, most_descriptors, most_names}
+use Rattle.ddc_base.specs.Limits.{most_content, most_total, most_descriptors, most_names}
 use Rattle.mem_files.specs.Access.{is_read, is_written}
 use Rattle.mem_files.specs.Names.{bytes_cmp, stripped, is_file_name}
 use Rattle.mem_files.specs.World.{World, content_of, total, is_named, is_open, lowest_unused}
@@ -183,12 +183,12 @@ abbrev pub write_file_offset : Access → ℕ → ℕ → ℕ
 write_file_offset access end file_offset = if access.appends then end else file_offset
 
 -- where a write goes: how many bytes are there now, and the offset of the first byte that is written
-abbrev pub write_place : World → Option OpenFile → Option (ℕ × ℕ)
-write_place w None = None
-write_place w (Some Input) = None
-write_place w (Some Stream1) = Some (length w.stream1, length w.stream1)
-write_place w (Some Stream2) = Some (length w.stream2, length w.stream2)
-write_place w (Some (File number file_offset access)) =
+abbrev pub write_offset : World → Option OpenFile → Option (ℕ × ℕ)
+write_offset w None = None
+write_offset w (Some Input) = None
+write_offset w (Some Stream1) = Some (length w.stream1, length w.stream1)
+write_offset w (Some Stream2) = Some (length w.stream2, length w.stream2)
+write_offset w (Some (File number file_offset access)) =
     if is_written access
     then Some (length (content_of w number), write_file_offset access (length (content_of w number)) file_offset)
     else None
@@ -196,25 +196,25 @@ write_place w (Some (File number file_offset access)) =
 -- `fits`, by where the write goes: the error that refuses a write of `count` bytes
 abbrev pub fits_at : World → ℕ → Option (ℕ × ℕ) → Result (Unit {0}) ℕ
 fits_at w count None = Err ebadf
-fits_at w count (Some (len, place)) =
+fits_at w count (Some (len, offset)) =
     if count == 0 then Ok tt
-    else (if nat_lt most_content (place + count) then Err efbig
-    else (if nat_lt most_total (total w + (place + count - len)) then Err enospc
+    else (if nat_lt most_content (offset + count) then Err efbig
+    else (if nat_lt most_total (total w + (offset + count - len)) then Err enospc
     else Ok tt))
 
 -- `fits`
 abbrev pub fits : World → ℕ → ℕ → Result (Unit {0}) ℕ
-fits w fd count = fits_at w count (write_place w (map.get w.open_files fd))
+fits w fd count = fits_at w count (write_offset w (map.get w.open_files fd))
 
--- the bytes of a file after `bytes` were written at the offset `place`; a gap before it is zeros
+-- the bytes of a file after `bytes` were written at the byte offset `offset`; a gap before it is zeros
 abbrev pub written_over : List ℕ → ℕ → List ℕ → List ℕ
-written_over old place bytes = take place old ++ replicate (place - length old) 0 ++ bytes ++ drop (place + length bytes) old
+written_over old offset bytes = take offset old ++ replicate (offset - length old) 0 ++ bytes ++ drop (offset + length bytes) old
 
 -- a file after a write at an offset, with the file offset at the end of the write
 abbrev pub with_content : World → ℕ → ℕ → Access → List ℕ → ℕ → World
-with_content w fd number access bytes place = record w {
-  files = map.insert w.files number (written_over (content_of w number) place bytes);
-  open_files = map.insert w.open_files fd (File number (place + length bytes) access);
+with_content w fd number access bytes offset = record w {
+  files = map.insert w.files number (written_over (content_of w number) offset bytes);
+  open_files = map.insert w.open_files fd (File number (offset + length bytes) access);
 }
 
 -- bytes that fit are written, by the open file of the descriptor

@@ -1,5 +1,4 @@
 pub mod Linux
-pub mod Limits
 pub mod Names
 pub mod Access
 pub mod World

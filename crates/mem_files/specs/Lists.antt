@@ -7,7 +7,7 @@ use Rattle.std.specs.FinMap as fin
 use Rattle.mem_files.specs.declared.view.FileView.{FileView}
 use Rattle.mem_files.specs.declared.open_file.OpenFile.{OpenFile}
 use Rattle.mem_files.specs.declared.open_file.OpenFile.TheVariants.{Input, Stream1, Stream2, File}
-use Rattle.mem_files.specs.Limits.{most_total, most_descriptors, most_names}
+use Rattle.ddc_base.specs.Limits.{file_number_end, most_descriptors, most_names, most_total}
 use Rattle.mem_files.specs.Names.{bytes_cmp, is_stripped_name}
 use Rattle.mem_files.specs.World.{World, is_of}
 use Rattle.mem_files.specs.Sound.{AreBytes, IsOpenFileAt}
@@ -104,7 +104,7 @@ pub record AreInRange (lists : FileLists) : Type 0 where
   pub good_names : All (λ e. IsHeldName e.0) (named lists.files)
   pub distinct : IsDistinct (eq_by_cmp bytes_cmp) (map (λ e. e.0) (named lists.files))
   -- 5,120 is the most names and the most descriptors together
-  pub low_numbers : All (λ file. file.number < 5120) lists.files
+  pub low_numbers : All (λ file. file.number < file_number_end) lists.files
   pub good_files : All (λ file. IsContent file.content) lists.files
   pub good_streams : All IsContent lists.streams
   pub small_total : sum_by length lists.streams + sum_by (λ file. length file.content) lists.files ≤ most_total

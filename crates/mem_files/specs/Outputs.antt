@@ -1,7 +1,7 @@
 -- What a program leaves in its files: all names with their contents, and one output.
 use Rattle.std.specs.Prelude.{ℕ, ◌≤◌, Option, Some, List, length, map, All, IsTrue}
 use Rattle.std.specs.FinMap.{entries, is_sorted}
-use Rattle.mem_files.specs.Limits.{most_content, most_names}
+use Rattle.ddc_base.specs.Limits.{most_content, most_names}
 use Rattle.mem_files.specs.Names.{bytes_cmp, is_stripped_name}
 use Rattle.mem_files.specs.World.{World, content_of}
 use Rattle.mem_files.specs.Calls.{content_at}
@@ -16,12 +16,12 @@ unfoldable pub left : World → List (List ℕ × List ℕ)
 left w = map (named_content w) (entries w.names)
 
 -- where an output is: the first stream, or the file at a path
-pub data OutputPlace : Type 0 where
-  FirstStream : OutputPlace
-  AtPath : List ℕ → OutputPlace
+pub data OutputLocation : Type 0 where
+  FirstStream : OutputLocation
+  AtPath : List ℕ → OutputLocation
 
 -- the output contents; none if no file has the path
-abbrev pub out : World → OutputPlace → Option (List ℕ)
+abbrev pub out : World → OutputLocation → Option (List ℕ)
 out w FirstStream = Some w.stream1
 out w (AtPath path) = content_at w path
 

@@ -6,7 +6,7 @@ use Rattle.mem_files.specs.declared.open_file.FileRefusal.TheVariants as file
 use Rattle.mem_files.specs.declared.open_file.PlaceRefusal.{PlaceRefusal}
 use Rattle.mem_files.specs.declared.open_file.PlaceRefusal.TheVariants.{BadName, Twice, Full, OutOfMemory}
 use Rattle.mem_files.specs.World.{World}
-use Rattle.mem_files.specs.Calls.{write_place}
+use Rattle.mem_files.specs.Calls.{write_offset}
 
 -- the result and the files after it are the defined ones; or memory ran out, the defined result is no error, and the files are unchanged
 abbrev pub Replies : {X : Type 0} → Result X FileRefusal → World → World → Result X ℕ × World → Type 0
@@ -24,4 +24,4 @@ Places (Err OutOfMemory) old new meant = IsOk meant.0 × (new ≡ old)
 
 -- a write of `count` bytes ends past the bytes that are there
 abbrev pub Grows : World → ℕ → ℕ → Type 0
-Grows w fd count = IfSome (write_place w (map.get w.open_files fd)) (λ (len, place). len < place + count)
+Grows w fd count = IfSome (write_offset w (map.get w.open_files fd)) (λ (len, offset). len < offset + count)

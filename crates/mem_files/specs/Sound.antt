@@ -6,7 +6,7 @@ pub use Rattle.ddc_base.specs.ByteLists.{AreBytes}
 use Rattle.mem_files.specs.declared.open_file.Access.{Access}
 use Rattle.mem_files.specs.declared.open_file.OpenFile.{OpenFile}
 use Rattle.mem_files.specs.declared.open_file.OpenFile.TheVariants.{Input, Stream1, Stream2, File}
-use Rattle.mem_files.specs.Limits.{most_content, most_total, most_descriptors, most_names}
+use Rattle.ddc_base.specs.Limits.{file_number_end, most_content, most_descriptors, most_names, most_total}
 use Rattle.mem_files.specs.Names.{is_stripped_name}
 use Rattle.mem_files.specs.World.{World, total, is_named, is_open}
 
@@ -24,7 +24,7 @@ pub record IsInLimits (w : World) : Type 0 where
   pub good_names : (name : List ℕ) (number : ℕ) → map.get w.names name ≡ Some number → IsTrue (is_stripped_name name)
   pub name_bytes : (name : List ℕ) (number : ℕ) → map.get w.names name ≡ Some number → AreBytes name
   -- 5,120 is the most names and the most descriptors together
-  pub low_numbers : (number : ℕ) → IsSome (map.get w.files number) → number < 5120
+  pub low_numbers : (number : ℕ) → IsSome (map.get w.files number) → number < file_number_end
   pub file_bytes : (number : ℕ) (content : List ℕ) → map.get w.files number ≡ Some content → AreBytes content
   pub small_files : (number : ℕ) (content : List ℕ) → map.get w.files number ≡ Some content → length content ≤ most_content
   pub stream1_bytes : AreBytes w.stream1

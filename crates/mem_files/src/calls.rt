@@ -3,7 +3,7 @@
 ghost use Rattle.std.specs.Prelude.{◌≡◌, ◌+◌, ◌-◌, ◌<◌, ◌≤◌, ◌≢◌, ◌^◌, pos, ◌+ℤ◌, IfOk, IsOkAnd, IsSome, OnOk, OnErr, MatchResult, Ok, Err, Some, None, length, take, drop, [], unwrap_or};
 ghost use Rattle.std.specs.Option.{option_copied};
 ghost use Rattle.std.specs.FinMap as map;
-ghost use Rattle.mem_files.specs.Calls.{placed, is_full, opened, opened_at, access_of, has, closed, released, without_unused, sought, seek_base, as_file_offset, ready, skipped, fits, write_place, write_file_offset, filled, written, removed, content_at, drained};
+ghost use Rattle.mem_files.specs.Calls.{placed, is_full, opened, opened_at, access_of, has, closed, released, without_unused, sought, seek_base, as_file_offset, ready, skipped, fits, write_offset, write_file_offset, filled, written, removed, content_at, drained};
 ghost use Rattle.mem_files.specs.Replies.{Replies, Places, Grows};
 ghost use Rattle.mem_files.specs.Sound.{IsSound};
 ghost use Rattle.mem_files.specs.Inside.Kept.{HasFile};
@@ -11,11 +11,12 @@ ghost use Rattle.mem_files.specs.Inside.Kept.{HasFile};
 use crate::names::{is_file_name, strip};
 use crate::table::FileTable;
 use crate::{
-    Access, EBADF, EEXIST, EFBIG, EINVAL, EMFILE, ENOENT, ENOSPC, ESPIPE, FileRefusal, MAX_CONTENT,
-    MAX_NAME, MAX_NAMES, MAX_OPEN_FILES, MAX_TOTAL, Mode, O_ACCMODE, O_APPEND, O_CREAT, O_EXCL,
-    O_RDONLY, O_TRUNC, O_WRONLY, OpenFile, PlaceRefusal, SEEK_CUR, SEEK_END, SEEK_SET,
+    Access, EBADF, EEXIST, EFBIG, EINVAL, EMFILE, ENOENT, ENOSPC, ESPIPE, FileRefusal, Mode,
+    O_ACCMODE, O_APPEND, O_CREAT, O_EXCL, O_RDONLY, O_TRUNC, O_WRONLY, OpenFile, PlaceRefusal,
+    SEEK_CUR, SEEK_END, SEEK_SET,
 };
 use ddc_base::OutOfMemory;
+use ddc_base::limits::{MOST_CONTENT, MOST_DESCRIPTORS, MOST_NAME, MOST_NAMES, MOST_TOTAL};
 use std::alloc::{AllocError, Global};
 
 /// Whether this bit of the flags is set.
@@ -101,18 +102,18 @@ impl FileTable {
         requires { IsSound self.now }
         ensures { result ≡ is_full self.now len }
     {
-        len > MAX_CONTENT || self.total() + len > MAX_TOTAL || self.name_count() >= MAX_NAMES
+        len > MOST_CONTENT || self.total() + len > MOST_TOTAL || self.name_count() >= MOST_NAMES
     }
 
     pub fn open_name(&mut self, name: &[u8], flags: u32) -> Result<u32, FileRefusal>
         requires sound { IsSound self.old }
-        requires short { length name.now ≤ MAX_NAME }
+        requires short { length name.now ≤ MOST_NAME }
         ensures { Replies result self.old self.new (opened self.old name.now flags) }
     {
         if flags & O_ACCMODE == O_ACCMODE {
             return Err(FileRefusal::Errno(EINVAL));
         }
-        if self.open_file_count() >= MAX_OPEN_FILES {
+        if self.open_file_count() >= MOST_DESCRIPTORS {
             return Err(FileRefusal::Errno(EMFILE));
         }
         match self.number(name) {
@@ -123,7 +124,7 @@ impl FileTable {
 
     fn open_present(&mut self, number: u32, flags: u32) -> Result<u32, FileRefusal>
         requires held { IsSome (map.get self.old.files number) }
-        requires room { map.len self.old.open_files < MAX_OPEN_FILES }
+        requires capacity { map.len self.old.open_files < MOST_DESCRIPTORS }
         ensures { Replies result self.old self.new (opened_at self.old [] flags (Some number)) }
     {
         if has(flags, O_CREAT) && has(flags, O_EXCL) {
@@ -143,14 +144,14 @@ impl FileTable {
     fn open_absent(&mut self, name: &[u8], flags: u32) -> Result<u32, FileRefusal>
         requires sound { IsSound self.old }
         requires absent { map.get self.old.names name.now ≡ None }
-        requires short { length name.now ≤ MAX_NAME }
-        requires room { map.len self.old.open_files < MAX_OPEN_FILES }
+        requires short { length name.now ≤ MOST_NAME }
+        requires capacity { map.len self.old.open_files < MOST_DESCRIPTORS }
         ensures { Replies result self.old self.new (opened_at self.old name.now flags None) }
     {
         if !has(flags, O_CREAT) {
             return Err(FileRefusal::Errno(ENOENT));
         }
-        if self.name_count() >= MAX_NAMES {
+        if self.name_count() >= MOST_NAMES {
             return Err(FileRefusal::Errno(ENOSPC));
         }
         let number = self.free_number();
@@ -291,8 +292,8 @@ impl FileTable {
     }
 
     /// Where a write goes: how many bytes are there now, and the offset of the first byte that is written; `None` if no write is allowed.
-    pub fn write_place(&self, fd: u32) -> Option<(u64, u64)>
-        ensures { result ≡ write_place self.now (map.get self.now.open_files fd) }
+    pub fn write_offset(&self, fd: u32) -> Option<(u64, u64)>
+        ensures { result ≡ write_offset self.now (map.get self.now.open_files fd) }
     {
         match self.open_file(fd) {
             Some(OpenFile::Stream1) => {
@@ -321,17 +322,17 @@ impl FileTable {
         requires { IsSound self.now }
         ensures { result ≡ fits self.now fd count }
     {
-        let Some((len, place)) = self.write_place(fd) else {
+        let Some((len, offset)) = self.write_offset(fd) else {
             return Err(EBADF);
         };
         if count == 0 {
             return Ok(());
         }
-        if place > MAX_CONTENT || count > MAX_CONTENT - place {
+        if offset > MOST_CONTENT || count > MOST_CONTENT - offset {
             return Err(EFBIG);
         }
-        let growth = (place + count).saturating_sub(len);
-        if self.total() + growth > MAX_TOTAL {
+        let growth = (offset + count).saturating_sub(len);
+        if self.total() + growth > MOST_TOTAL {
             return Err(ENOSPC);
         }
         Ok(())
@@ -370,9 +371,9 @@ impl FileTable {
                 },
             ) => {
                 let end = self.content(number).len() as u64;
-                let place = write_file_offset(access, end, file_offset);
-                self.overwrite(number, place as usize, bytes)?;
-                let file_offset = place + bytes.len() as u64;
+                let offset = write_file_offset(access, end, file_offset);
+                self.overwrite(number, offset as usize, bytes)?;
+                let file_offset = offset + bytes.len() as u64;
                 self.set_open_file(
                     fd,
                     OpenFile::File {

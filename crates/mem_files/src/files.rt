@@ -4,7 +4,7 @@ ghost use Rattle.std.specs.Prelude.{◌≡◌, ◌⊎◌, IsTrue, IfOk, IsOkAnd,
 ghost use Rattle.std.specs.Option.{option_copied};
 ghost use Rattle.std.specs.FinMap as map;
 ghost use Rattle.mem_files.specs.Names.{is_stripped_name};
-ghost use Rattle.mem_files.specs.Calls.{first_world, placed, opened, closed, sought, ready, skipped, fits, write_place, written, removed, content_at, stream, name_after, drained};
+ghost use Rattle.mem_files.specs.Calls.{first_world, placed, opened, closed, sought, ready, skipped, fits, write_offset, written, removed, content_at, stream, name_after, drained};
 ghost use Rattle.mem_files.specs.Lists.{listed, file_from, open_file_from, lists_from, world_of, AreOrdered, AreInRange, AreJoined};
 ghost use Rattle.mem_files.specs.Replies.{Replies, Places, Grows};
 ghost use Rattle.mem_files.specs.Sound.{IsSound};
@@ -114,9 +114,9 @@ impl Files {
 
     /// Whether bytes may be written to this descriptor.
     pub fn is_writable(&self, fd: u32) -> bool
-        ensures { result ≡ is_some (write_place self.now (map.get self.now.open_files fd)) }
+        ensures { result ≡ is_some (write_offset self.now (map.get self.now.open_files fd)) }
     {
-        self.table.write_place(fd).is_some()
+        self.table.write_offset(fd).is_some()
     }
 
     /// Whether a write of `count` bytes is allowed. Errors: `EBADF`, `EFBIG`, `ENOSPC`.

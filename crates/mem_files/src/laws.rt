@@ -3,7 +3,7 @@
 ghost use Rattle.std.specs.Prelude.{◌≡◌, ◌<◌, ◌≤◌, ℕ, ℤ, pos, List, length, All, IsTrue, IsSome, IsOkAnd, Ok, Some, None, false};
 ghost use Rattle.std.specs.FinMap as map;
 ghost use Rattle.mem_files.specs.declared.open_file.OpenFile.TheVariants.{File};
-ghost use Rattle.mem_files.specs.Limits.{most_name, most_names, most_descriptors, most_content, most_total};
+ghost use Rattle.ddc_base.specs.Limits.{most_name};
 ghost use Rattle.mem_files.specs.declared.open_file.Access.{Access};
 ghost use Rattle.mem_files.specs.Access.{is_read};
 ghost use Rattle.mem_files.specs.Linux.{enoent, ebadf, eexist, einval, emfile, efbig, enospc, espipe, o_accmode, o_rdonly, o_wronly, o_rdwr, o_creat, o_excl, o_trunc, o_append, seek_set, seek_cur, seek_end};
@@ -11,7 +11,7 @@ ghost use Rattle.mem_files.specs.Names.{is_stripped_name};
 ghost use Rattle.mem_files.specs.World.{World, lowest_unused};
 ghost use Rattle.mem_files.specs.Calls.{first_world, placed, opened, closed, written, skipped, sought, ready, removed};
 ghost use Rattle.mem_files.specs.Sound.{AreBytes, IsSound};
-ghost use Rattle.mem_files.specs.Outputs.{left, out, OutputPlace, AtPath, AreLeft, IsContent};
+ghost use Rattle.mem_files.specs.Outputs.{left, out, OutputLocation, AtPath, AreLeft, IsContent};
 ghost use Rattle.std.specs.List.{Contains};
 
 use crate::*;
@@ -59,7 +59,7 @@ pub fn what_is_left_keeps_the_limits()
     ensures names { (w : World) → IsSound w → All (λ file. (1 ≤ length file.0) × (length file.0 ≤ most_name)) (left w) }
     ensures contents { (w : World) → IsSound w → All (λ file. out w (AtPath file.0) ≡ Some file.1) (left w) }
     ensures streams { (w : World) → IsSound w → IsContent w.stream1 × IsContent w.stream2 }
-    ensures output { (w : World) (output : OutputPlace) (content : List ℕ) → IsSound w → out w output ≡ Some content → IsContent content }
+    ensures output { (w : World) (output : OutputLocation) (content : List ℕ) → IsSound w → out w output ≡ Some content → IsContent content }
     ensures at_path { (w : World) (path content : List ℕ) → IsSound w → out w (AtPath path) ≡ Some content
         → Contains (left w) (path, content) }
 {}
@@ -72,13 +72,11 @@ pub fn lowest_unused_is_free()
     ensures files_below { (w : World) (number : ℕ) → number < lowest_unused w.files → IsSome (map.get w.files number) }
 {}
 
-/// The numbers in the code are those of Linux and the defined limits.
+/// The numbers in the code are those of Linux.
 pub fn numbers_are_those_written()
     ensures errors { (ENOENT ≡ enoent) × (EBADF ≡ ebadf) × (EEXIST ≡ eexist) × (EINVAL ≡ einval)
         × (EMFILE ≡ emfile) × (EFBIG ≡ efbig) × (ENOSPC ≡ enospc) × (ESPIPE ≡ espipe) }
     ensures flags { (O_ACCMODE ≡ o_accmode) × (O_RDONLY ≡ o_rdonly) × (O_WRONLY ≡ o_wronly) × (O_RDWR ≡ o_rdwr)
         × (O_CREAT ≡ o_creat) × (O_EXCL ≡ o_excl) × (O_TRUNC ≡ o_trunc) × (O_APPEND ≡ o_append) }
     ensures bases { (SEEK_SET ≡ seek_set) × (SEEK_CUR ≡ seek_cur) × (SEEK_END ≡ seek_end) }
-    ensures limits { (MAX_NAME ≡ most_name) × (MAX_NAMES ≡ most_names) × (MAX_OPEN_FILES ≡ most_descriptors)
-        × (MAX_CONTENT ≡ most_content) × (MAX_TOTAL ≡ most_total) }
 {}

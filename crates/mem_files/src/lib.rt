@@ -62,14 +62,3 @@ pub const SEEK_SET: u32 = 0;
 pub const SEEK_CUR: u32 = 1;
 /// The offset counts from the end.
 pub const SEEK_END: u32 = 2;
-
-/// The most bytes of one file or one stream.
-pub const MAX_CONTENT: u64 = 268_435_456;
-/// The most bytes of all files and streams together.
-pub const MAX_TOTAL: u64 = 536_870_912;
-/// The most open descriptors, including 0, 1 and 2.
-pub const MAX_OPEN_FILES: usize = 1_024;
-/// The most names of files.
-pub const MAX_NAMES: usize = 4_096;
-/// The most bytes of a file name.
-pub const MAX_NAME: usize = 255;

@@ -4,17 +4,17 @@ ghost use Rattle.std.specs.Prelude.{◌≡◌, ◌==◌, take};
 ghost use Rattle.std.specs.List.{list_any};
 ghost use Rattle.mem_files.specs.Names.{stripped, is_file_name, is_stripped_name, begins_with_dot_slash};
 
-use crate::MAX_NAME;
 use arrayvec::ArrayVec;
+use ddc_base::limits::MOST_NAME;
 
 /// A name as a key of the tree of names. It needs no allocation of its own.
-pub type NameKey = ArrayVec<u8, MAX_NAME>;
+pub type NameKey = ArrayVec<u8, MOST_NAME>;
 
 /// The first 255 bytes of a name, as a key: all of a guest file name.
 pub fn key(name: &[u8]) -> NameKey
-    ensures { result.items ≡ take MAX_NAME name.now }
+    ensures { result.items ≡ take MOST_NAME name.now }
 {
-    let len = name.len().min(MAX_NAME);
+    let len = name.len().min(MOST_NAME);
     match ArrayVec::try_from(&name[..len]) {
         Ok(key) => key,
         Err(_) => ArrayVec::new(),
@@ -36,7 +36,7 @@ pub fn strip(name: &[u8]) -> &[u8]
 pub fn is_file_name(name: &[u8]) -> bool
     ensures { result ≡ is_file_name name.now }
 {
-    if name.is_empty() || name.len() > MAX_NAME {
+    if name.is_empty() || name.len() > MOST_NAME {
         return false;
     }
     !has_zero(name)

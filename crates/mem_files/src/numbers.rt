@@ -103,7 +103,7 @@ fn settle(full: &mut [bool], from: usize)
 fn leftmost(full: &[bool], height: u32) -> usize
     requires sized { length full.now ≡ 2 * 2 ^ height }
     requires right { IsRightBut 0 full.now }
-    requires room { mark full.now 1 ≡ false }
+    requires capacity { mark full.now 1 ≡ false }
     ensures leaf { 2 ^ height ≤ result }
     ensures within { result < 2 * 2 ^ height }
     ensures unused { mark full.now result ≡ false }

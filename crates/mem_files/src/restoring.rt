@@ -12,7 +12,8 @@ ghost use Rattle.mem_files.specs.Lists.{listed, named, numbered_contents, world_
 ghost use Rattle.mem_files.specs.Inside.Listing.{with_listed};
 
 use crate::table::FileTable;
-use crate::{FileView, MAX_NAME, MAX_NAMES, MAX_OPEN_FILES, OpenFile};
+use crate::{FileView, OpenFile};
+use ddc_base::limits::{MOST_DESCRIPTORS, MOST_NAME, MOST_NAMES};
 use std::alloc::{AllocError, Global};
 
 impl FileTable {
@@ -40,8 +41,8 @@ impl FileTable {
     fn put_files(&mut self, files: &[FileView<'_>]) -> Result<(), AllocError>
         requires bare { self.old ≡ bare_world }
         requires rise { IsTrue (map.is_sorted nat_cmp (numbered_contents (map_list listed files.now))) }
-        requires low { All (λ file. file.number < MAX_NAMES + MAX_OPEN_FILES) (map_list listed files.now) }
-        requires short { All (λ e. length e.0 ≤ MAX_NAME) (named (map_list listed files.now)) }
+        requires low { All (λ file. file.number < MOST_NAMES + MOST_DESCRIPTORS) (map_list listed files.now) }
+        requires short { All (λ e. length e.0 ≤ MOST_NAME) (named (map_list listed files.now)) }
         requires distinct { IsDistinct (eq_by_cmp bytes_cmp) (map_list (λ e. e.0) (named (map_list listed files.now))) }
         requires small { sum_by (λ file. length file.content) (map_list listed files.now) < 2 ^ 63 }
         ensures world { OnOk result (self.new ≡ world_of (record { files = map_list listed files.now; open_files = []; streams = [] })) }
@@ -56,9 +57,9 @@ impl FileTable {
     /// Adds a file under a number that is not in use.
     fn put_file(&mut self, file: &FileView<'_>) -> Result<(), AllocError>
         requires unused { map.get self.old.files file.now.number ≡ None }
-        requires low { file.now.number < MAX_NAMES + MAX_OPEN_FILES }
+        requires low { file.now.number < MOST_NAMES + MOST_DESCRIPTORS }
         requires absent { IfSome (option_copied file.now.name) (λ name. map.get self.old.names name ≡ None) }
-        requires short { IfSome (option_copied file.now.name) (λ name. length name ≤ MAX_NAME) }
+        requires short { IfSome (option_copied file.now.name) (λ name. length name ≤ MOST_NAME) }
         requires small { total self.old + length file.now.content.now < 2 ^ 64 }
         ensures { OnOk result (self.new ≡ with_listed self.old (listed file.now)) }
     {
@@ -72,7 +73,7 @@ impl FileTable {
     fn put_open_files(&mut self, open_files: &[(u32, OpenFile)]) -> Result<(), AllocError>
         requires empty { self.old.open_files ≡ map.empty }
         requires rise { IsTrue (map.is_sorted nat_cmp open_files.now) }
-        requires low { All (λ held. held.0 < MAX_OPEN_FILES) open_files.now }
+        requires low { All (λ held. held.0 < MOST_DESCRIPTORS) open_files.now }
         ensures { OnOk result (self.new ≡ record self.old { open_files = map.from_entries open_files.now }) }
     {
         for (fd, open_file) in open_files {

@@ -92,31 +92,35 @@ pub fn empty(cell: &mut Option<Stored>)
 }
 
 /// Writes bytes at an offset, and fills a gap before it with zeros. Returns how many bytes were added.
-pub fn overwrite(cell: &mut Option<Stored>, place: usize, bytes: &[u8]) -> Result<usize, AllocError>
+pub fn overwrite(
+    cell: &mut Option<Stored>,
+    offset: usize,
+    bytes: &[u8],
+) -> Result<usize, AllocError>
     requires held { IsSome cell.old }
-    requires small { place + length bytes.now < 2 ^ 63 }
+    requires small { offset + length bytes.now < 2 ^ 63 }
     ensures name { name_in cell.new ≡ name_in cell.old }
-    ensures ok { OnOk result (content_in cell.new ≡ Some (written_over (unwrap_or (content_in cell.old) []) place bytes.now)) }
-    ensures added { IfOk result (λ added. added ≡ place + length bytes.now - length (unwrap_or (content_in cell.old) [])) }
+    ensures ok { OnOk result (content_in cell.new ≡ Some (written_over (unwrap_or (content_in cell.old) []) offset bytes.now)) }
+    ensures added { IfOk result (λ added. added ≡ offset + length bytes.now - length (unwrap_or (content_in cell.old) [])) }
     ensures err { OnErr result (content_in cell.new ≡ content_in cell.old) }
-    ensures short { OnErr result (length (unwrap_or (content_in cell.old) []) < place + length bytes.now) }
+    ensures short { OnErr result (length (unwrap_or (content_in cell.old) []) < offset + length bytes.now) }
 {
     let before = len(cell);
     if let Some(file) = cell {
-        put(&mut file.content, place, bytes)?;
+        put(&mut file.content, offset, bytes)?;
     }
     Ok(len(cell) - before)
 }
 
 /// Writes bytes at an offset, and fills a gap before it with zeros.
-fn put(content: &mut Vec<u8>, place: usize, bytes: &[u8]) -> Result<(), AllocError>
-    requires { place + length bytes.now < 2 ^ 63 }
-    ensures ok { OnOk result (content.new.items ≡ written_over content.old.items place bytes.now) }
+fn put(content: &mut Vec<u8>, offset: usize, bytes: &[u8]) -> Result<(), AllocError>
+    requires { offset + length bytes.now < 2 ^ 63 }
+    ensures ok { OnOk result (content.new.items ≡ written_over content.old.items offset bytes.now) }
     ensures err { OnErr result (content.new.items ≡ content.old.items) }
-    ensures short { OnErr result (length content.old.items < place + length bytes.now) }
+    ensures short { OnErr result (length content.old.items < offset + length bytes.now) }
 {
-    grow(content, place + bytes.len())?;
-    copy_at(content, place, bytes);
+    grow(content, offset + bytes.len())?;
+    copy_at(content, offset, bytes);
     Ok(())
 }
 
@@ -133,11 +137,11 @@ fn grow(content: &mut Vec<u8>, end: usize) -> Result<(), AllocError>
 }
 
 /// Copies bytes to an offset.
-fn copy_at(content: &mut [u8], place: usize, bytes: &[u8])
-    requires { place + length bytes.now ≤ length content.old }
-    ensures { content.new ≡ take place content.old ++ bytes.now ++ drop (place + length bytes.now) content.old }
+fn copy_at(content: &mut [u8], offset: usize, bytes: &[u8])
+    requires { offset + length bytes.now ≤ length content.old }
+    ensures { content.new ≡ take offset content.old ++ bytes.now ++ drop (offset + length bytes.now) content.old }
 {
-    content[place..place + bytes.len()].copy_from_slice(bytes);
+    content[offset..offset + bytes.len()].copy_from_slice(bytes);
 }
 
 impl Stored {

@@ -15,7 +15,8 @@ use crate::counts::{count, count_of, uncount};
 use crate::names::{NameKey, key};
 use crate::numbers::Numbers;
 use crate::stored::{self, Stored};
-use crate::{FileView, MAX_NAME, MAX_NAMES, MAX_OPEN_FILES, OpenFile};
+use crate::{FileView, OpenFile};
+use ddc_base::limits::{MOST_DESCRIPTORS, MOST_NAME, MOST_NAMES};
 use std::alloc::{AllocError, Global};
 use std::collections::BTreeMap;
 use std::marker::Model;
@@ -102,7 +103,7 @@ impl FileTable {
     {
         let held = self.names.get(&key(name)).copied();
         // A longer name is not in the tree, even if its first 255 bytes are.
-        if name.len() > MAX_NAME { None } else { held }
+        if name.len() > MOST_NAME { None } else { held }
     }
 
     /// The bytes of a file; none if there is no such file.
@@ -180,7 +181,7 @@ impl FileTable {
 
     /// Gives an open file the lowest unused descriptor, and returns the descriptor.
     pub fn add_open_file(&mut self, open_file: OpenFile) -> Result<u32, AllocError>
-        requires { map.len self.old.open_files < MAX_OPEN_FILES }
+        requires { map.len self.old.open_files < MOST_DESCRIPTORS }
         ensures ok { IfOk result (λ fd. (fd ≡ lowest_unused self.old.open_files)
             × (self.new ≡ record self.old { open_files = map.insert self.old.open_files fd open_file })) }
         ensures err { OnErr result (self.new ≡ self.old) }
@@ -193,7 +194,7 @@ impl FileTable {
     /// Gives an open file this unused descriptor.
     pub fn put_open_file(&mut self, fd: u32, open_file: OpenFile) -> Result<(), AllocError>
         requires unused { map.get self.old.open_files fd ≡ None }
-        requires low { fd < MAX_OPEN_FILES }
+        requires low { fd < MOST_DESCRIPTORS }
         ensures ok { OnOk result (self.new ≡ record self.old { open_files = map.insert self.old.open_files fd open_file }) }
         ensures err { OnErr result (self.new ≡ self.old) }
     {
@@ -228,8 +229,8 @@ impl FileTable {
     /// Adds a file under the lowest unused number.
     pub fn add_file(&mut self, name: &[u8], content: &[u8]) -> Result<(), AllocError>
         requires absent { map.get self.old.names name.now ≡ None }
-        requires short { length name.now ≤ MAX_NAME }
-        requires few { lowest_unused self.old.files < MAX_NAMES + MAX_OPEN_FILES }
+        requires short { length name.now ≤ MOST_NAME }
+        requires few { lowest_unused self.old.files < MOST_NAMES + MOST_DESCRIPTORS }
         requires small { total self.old + length content.now < 2 ^ 64 }
         ensures ok { OnOk result (self.new ≡ with_file self.old name.now content.now) }
         ensures err { OnErr result (self.new ≡ self.old) }
@@ -241,9 +242,9 @@ impl FileTable {
     /// Adds a named file under an unused number.
     pub fn put_named(&mut self, number: u32, name: &[u8], content: &[u8]) -> Result<(), AllocError>
         requires absent { map.get self.old.names name.now ≡ None }
-        requires short { length name.now ≤ MAX_NAME }
+        requires short { length name.now ≤ MOST_NAME }
         requires unused { map.get self.old.files number ≡ None }
-        requires low { number < MAX_NAMES + MAX_OPEN_FILES }
+        requires low { number < MOST_NAMES + MOST_DESCRIPTORS }
         requires small { total self.old + length content.now < 2 ^ 64 }
         ensures ok { OnOk result (self.new ≡ record self.old {
           names = map.insert self.old.names name.now number;
@@ -263,7 +264,7 @@ impl FileTable {
     /// Adds a file without a name under an unused number.
     pub fn put_unnamed(&mut self, number: u32, content: &[u8]) -> Result<(), AllocError>
         requires unused { map.get self.old.files number ≡ None }
-        requires low { number < MAX_NAMES + MAX_OPEN_FILES }
+        requires low { number < MOST_NAMES + MOST_DESCRIPTORS }
         requires small { total self.old + length content.now < 2 ^ 64 }
         ensures ok { OnOk result (self.new ≡ record self.old { files = map.insert self.old.files number content.now }) }
         ensures err { OnErr result (self.new ≡ self.old) }
@@ -306,15 +307,15 @@ impl FileTable {
     }
 
     /// Writes bytes at an offset of a file, and fills a gap before it with zeros.
-    pub fn overwrite(&mut self, number: u32, place: usize, bytes: &[u8]) -> Result<(), AllocError>
+    pub fn overwrite(&mut self, number: u32, offset: usize, bytes: &[u8]) -> Result<(), AllocError>
         requires held { IsSome (map.get self.old.files number) }
-        requires small { place + length bytes.now < 2 ^ 63 }
-        requires room { total self.old + (place + length bytes.now - length (content_of self.old number)) < 2 ^ 64 }
-        ensures ok { OnOk result (self.new ≡ record self.old { files = map.insert self.old.files number (written_over (content_of self.old number) place bytes.now) }) }
+        requires small { offset + length bytes.now < 2 ^ 63 }
+        requires capacity { total self.old + (offset + length bytes.now - length (content_of self.old number)) < 2 ^ 64 }
+        ensures ok { OnOk result (self.new ≡ record self.old { files = map.insert self.old.files number (written_over (content_of self.old number) offset bytes.now) }) }
         ensures err { OnErr result (self.new ≡ self.old) }
-        ensures short { OnErr result (length (content_of self.old number) < place + length bytes.now) }
+        ensures short { OnErr result (length (content_of self.old number) < offset + length bytes.now) }
     {
-        let added = stored::overwrite(&mut self.files[number as usize], place, bytes)?;
+        let added = stored::overwrite(&mut self.files[number as usize], offset, bytes)?;
         self.total += added as u64;
         Ok(())
     }
@@ -371,7 +372,7 @@ impl FileTable {
 
 /// The first name after the given one; without a given name, the first of all.
 fn next_name<'a>(names: &'a BTreeMap<NameKey, u32>, name: Option<&[u8]>) -> Option<&'a [u8]>
-    requires { All (λ e. length e.0.items ≤ MAX_NAME) names.now.entries }
+    requires { All (λ e. length e.0.items ≤ MOST_NAME) names.now.entries }
     ensures { option_copied result ≡ find (is_after (option_copied name.entry)) (map_list (λ e. e.0.items) names.now.entries) }
 {
     match names.range((start_after(name), Bound::Unbounded)).next() {
@@ -382,7 +383,7 @@ fn next_name<'a>(names: &'a BTreeMap<NameKey, u32>, name: Option<&[u8]>) -> Opti
 
 /// The lower bound of the names after the given one; without a given name, no bound.
 fn start_after(name: Option<&[u8]>) -> Bound<NameKey>
-    ensures { (held : List ℕ) → length held ≤ MAX_NAME → begins result held ≡ is_after (option_copied name.entry) held }
+    ensures { (held : List ℕ) → length held ≤ MOST_NAME → begins result held ≡ is_after (option_copied name.entry) held }
 {
     match name {
         Some(name) => Bound::Excluded(key(name)),
@@ -394,8 +395,8 @@ impl FileTable {
     /// Adds a file under the lowest unused number, and takes ownership of the bytes.
     pub fn add_moved(&mut self, name: &[u8], content: Vec<u8>) -> Result<(), AllocError>
         requires absent { map.get self.old.names name.now ≡ None }
-        requires short { length name.now ≤ MAX_NAME }
-        requires few { lowest_unused self.old.files < MAX_NAMES + MAX_OPEN_FILES }
+        requires short { length name.now ≤ MOST_NAME }
+        requires few { lowest_unused self.old.files < MOST_NAMES + MOST_DESCRIPTORS }
         requires small { total self.old + length content.items < 2 ^ 64 }
         ensures ok { OnOk result (self.new ≡ with_file self.old name.now content.items) }
         ensures err { OnErr result (self.new ≡ self.old) }
@@ -407,9 +408,9 @@ impl FileTable {
     /// Adds a file under an unused number, and takes ownership of the bytes.
     fn put_moved(&mut self, number: u32, name: &[u8], content: Vec<u8>) -> Result<(), AllocError>
         requires absent { map.get self.old.names name.now ≡ None }
-        requires short { length name.now ≤ MAX_NAME }
+        requires short { length name.now ≤ MOST_NAME }
         requires unused { map.get self.old.files number ≡ None }
-        requires low { number < MAX_NAMES + MAX_OPEN_FILES }
+        requires low { number < MOST_NAMES + MOST_DESCRIPTORS }
         requires small { total self.old + length content.items < 2 ^ 64 }
         ensures ok { OnOk result (self.new ≡ record self.old {
           names = map.insert self.old.names name.now number;

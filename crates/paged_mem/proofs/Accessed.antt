@@ -9,18 +9,18 @@ use Rattle.std.proofs.lemmas.Bool.{cases_lt, eqb-true, false≢true}
 use Rattle.std.proofs.lemmas.Option.{none-some, same_Some}
 use Rattle.std.proofs.lemmas.List.{get_or_default, get_or-drop, get_or-take}
 use Rattle.paged_mem.specs.Memory.{Memory, maps, bytes_at, bytes_of, reads, with_bytes}
-use Rattle.paged_mem.specs.Inside.Flat.{memory_of, place, slot, Spans, overwritten, number_at}
-use Rattle.paged_mem.specs.Inside.Wholeness.{place-some}
+use Rattle.paged_mem.specs.Inside.Flat.{memory_of, page_index, slot, Spans, overwritten, number_at}
+use Rattle.paged_mem.specs.Inside.Wholeness.{page_index-some}
 use Rattle.paged_mem.specs.Inside.Entries.{Entry, ArePages, AreFull, IsHeldPage, page_content, flat, held_pages}
 use Rattle.paged_mem.specs.Paged.{TouchesUnheld}
 use Rattle.paged_mem.specs.declared.rows.PageRow.{PageRow}
-use Rattle.paged_mem.proofs.InRows.{place-in_row}
+use Rattle.paged_mem.proofs.InRows.{page_index-in_row}
 use Rattle.paged_mem.specs.Ram.{count_of}
 use Rattle.paged_mem.specs.declared.ram.Width.{Width}
 use Rattle.paged_mem.specs.declared.ram.Width.TheVariants.{W1, W2, W4, W8}
 use Rattle.paged_mem.proofs.Flats.{AreFull-set, flat-set, get-flat, held_pages-same, is_some-set, length-flat}
 use Rattle.paged_mem.proofs.Numbers.{take-to_le_bytes}
-use Rattle.paged_mem.proofs.Places.{few_pages, place-at}
+use Rattle.paged_mem.proofs.PageIndices.{few_pages, page_index-at}
 use Rattle.paged_mem.proofs.Seen.{bytes_seen, maps_seen, number_read, written}
 use Rattle.paged_mem.proofs.Spans.{span_in_page}
 use Rattle.paged_mem.proofs.Views.{length-overwritten, small-overwritten}
@@ -48,17 +48,17 @@ module _ (pages : List ℕ) (entries : List Entry) (are : ArePages pages entries
   pub few_entries : 4096 * length entries < 2 ^ 64
   few_entries = omega (arith, few, are.long)
 
-  pub placed : (number index : ℕ) → place pages number ≡ Some index → index < length entries
-  placed number index found = omega (arith, (place-some pages number index found).0, are.long)
+  pub index_within : (number index : ℕ) → page_index pages number ≡ Some index → index < length entries
+  index_within number index found = omega (arith, (page_index-some pages number index found).0, are.long)
 
   -- the number of an access within a page
-  pub read_near : (at index count value : ℕ) (entry : Entry) → 0 < count → at % 4096 + count ≤ 4096 → place pages (at / 4096) ≡ Some index
+  pub read_near : (at index count value : ℕ) (entry : Entry) → 0 < count → at % 4096 + count ≤ 4096 → page_index pages (at / 4096) ≡ Some index
       → entry ≡ get_or entries index entry → value ≡ number_at (page_content entry) (at % 4096) count
       → Some value ≡ reads (memory_of pages (flat entries)) at count
   read_near at index count value entry some within found is value_is =
       number_read pages (flat entries) pages (memory_of pages (flat entries)) are.sound refl refl at count (flat entries) (4096 * index + at % 4096) count value
       refl refl (span_in_page pages are.sound.rising at count index some within found)
-      (value_is ∙ number_at-flat entries are.full index (at % 4096) count entry (placed (at / 4096) index found) within is)
+      (value_is ∙ number_at-flat entries are.full index (at % 4096) count entry (index_within (at / 4096) index found) within is)
 
   -- after bytes were written over a span
   pub are_written : (at start : ℕ) (source : List ℕ) (new : List Entry) → flat new ≡ overwritten (flat entries) start source → length new ≡ length entries
@@ -86,11 +86,11 @@ module _ (pages : List ℕ) (entries : List Entry) (are : ArePages pages entries
 
   -- after bytes were written within a page
   module _ (at index : ℕ) (source : List ℕ) (entry default : Entry) (some : 0 < length source) (inside : at % 4096 + length source ≤ 4096)
-      (found : place pages (at / 4096) ≡ Some index) (put : page_content entry ≡ overwritten (page_content (get_or entries index default)) (at % 4096) source) where
+      (found : page_index pages (at / 4096) ≡ Some index) (put : page_content entry ≡ overwritten (page_content (get_or entries index default)) (at % 4096) source) where
     flat_near : flat (set entries index entry) ≡ overwritten (flat entries) (4096 * index + at % 4096) source
     flat_near =
-        flat-set entries index (at % 4096) source entry are.full (placed (at / 4096) index found) inside
-        (put ∙ ap (λ e. overwritten (page_content e) (at % 4096) source) (get_or_default entries index default None (placed (at / 4096) index found)))
+        flat-set entries index (at % 4096) source entry are.full (index_within (at / 4096) index found) inside
+        (put ∙ ap (λ e. overwritten (page_content e) (at % 4096) source) (get_or_default entries index default None (index_within (at / 4096) index found)))
 
     pub memory_near : (maps (memory_of pages (flat entries)) at (length source) ≡ true)
         × (memory_of pages (flat (set entries index entry)) ≡ with_bytes (memory_of pages (flat entries)) at source)
@@ -102,11 +102,11 @@ module _ (pages : List ℕ) (entries : List Entry) (are : ArePages pages entries
         are_written at (4096 * index + at % 4096) source (set entries index entry) flat_near (length-set entries index entry)
         (AreFull-set entries index entry are.full full) (span_in_page pages are.sound.rising at (length source) index some inside found) small
 
-  pub held_near : (number index : ℕ) (entry default : Entry) → place pages number ≡ Some index → IsSome (get_or entries index default) → IsSome entry
+  pub held_near : (number index : ℕ) (entry default : Entry) → page_index pages number ≡ Some index → IsSome (get_or entries index default) → IsSome entry
       → held_pages pages (set entries index entry) ≡ held_pages pages entries
   held_near number index entry default found was is =
       held_pages-same pages (set entries index entry) entries (length-set entries index entry)
-      (is_some-set entries index entry (is ∙ sym (ap is_some (get_or_default entries index None default (placed number index found)) ∙ was)))
+      (is_some-set entries index entry (is ∙ sym (ap is_some (get_or_default entries index None default (index_within number index found)) ∙ was)))
 
 -- entries that were changed through a slice
 pub refilled : (count : ℕ) (new old : List Entry) → length new ≡ count → take count (new ++ drop (length new) old) ≡ new
@@ -114,10 +114,10 @@ refilled count new old same = ap (λ k. take k (new ++ drop (length new) old)) (
 
 -- ---- a page that is remembered
 
-pub held_found : (pages : List ℕ) (entries : List Entry) → ArePages pages entries → (at index : ℕ) (entry : Entry) → place pages (at / 4096) ≡ Some index
+pub held_found : (pages : List ℕ) (entries : List Entry) → ArePages pages entries → (at index : ℕ) (entry : Entry) → page_index pages (at / 4096) ≡ Some index
     → entry ≡ get_or entries index entry → IsSome entry → IsHeldPage pages entries (record { base = at - at % 4096; size = 4096; index = index })
 held_found pages entries are at index entry found here is =
-    let there = place-some pages (at / 4096) index found in
+    let there = page_index-some pages (at / 4096) index found in
     let low = are.sound.low index there.0 in
     record {
       in_row = record {
@@ -127,7 +127,7 @@ held_found pages entries are at index entry found here is =
         numbers = λ k below. ap (λ n. get_or pages n 0) (omega (arith, below)) ∙ there.1 ∙ omega (arith, below);
       };
       one = omega arith;
-      held = λ some. ap is_some (get_or_default entries index None entry (placed pages entries are (at / 4096) index found) ∙ sym here) ∙ is;
+      held = λ some. ap is_some (get_or_default entries index None entry (index_within pages entries are (at / 4096) index found) ∙ sym here) ∙ is;
     }
 
 pub held_read : (pages : List ℕ) (entries : List Entry) → ArePages pages entries → (page : PageRow) → IsHeldPage pages entries page
@@ -138,19 +138,19 @@ held_read pages entries are page is at ahead value entry fits aligned is_ahead b
     let low : ahead ≡ at % 4096 = omega (arith, from, is.in_row.aligned, is.one) in
     let index : page.index + ahead / 4096 ≡ page.index = omega (arith, is.one) in
     sym (read_near pages entries are at page.index 4 value entry (omega arith) (omega (arith, low, is.one, aligned))
-    (place-in_row pages are.sound.rising page is.in_row at ahead fits is_ahead below ∙ ap Some index) here
+    (page_index-in_row pages are.sound.rising page is.in_row at ahead fits is_ahead below ∙ ap Some index) here
     (value_is ∙ ap (λ l. number_at (page_content entry) l 4) low))
 
 -- the address of a span at a place
 in_slot : (pages : List ℕ) (at s : ℕ) → slot pages at ≡ Some s → (get_or pages (s / 4096) 0 ≡ at / 4096) × (s % 4096 ≡ at % 4096)
-in_slot pages at s e = by_place (place pages (at / 4096)) refl e
+in_slot pages at s e = by_place (page_index pages (at / 4096)) refl e
   where
-    by_place : (o : Option ℕ) → place pages (at / 4096) ≡ o → option_map (λ i. 4096 * i + at % 4096) o ≡ Some s
+    by_place : (o : Option ℕ) → page_index pages (at / 4096) ≡ o → option_map (λ i. 4096 * i + at % 4096) o ≡ Some s
         → (get_or pages (s / 4096) 0 ≡ at / 4096) × (s % 4096 ≡ at % 4096)
     by_place None was e = absurd (none-some s e)
     by_place (Some i) was e =
         let is : 4096 * i + at % 4096 ≡ s = same_Some _ _ e in
-        (ap (λ k. get_or pages k 0) (omega arith) ∙ (place-some pages (at / 4096) i was).1, omega arith)
+        (ap (λ k. get_or pages k 0) (omega arith) ∙ (page_index-some pages (at / 4096) i was).1, omega arith)
 
 -- a span begins as far into its page as its first address
 pub span_low : (pages : List ℕ) (at count start : ℕ) → 0 < count → Spans pages at count (Some start) → start % 4096 ≡ at % 4096
@@ -196,8 +196,8 @@ touches_unheld pages entries are at count start k some span from to absent =
     apart : (n : ℕ) → n < length pages → IsSome (get_or entries n None) → get_or pages n 0 ≢ get_or pages k 0
     apart n below held same =
         let within : k < length pages = omega (arith, span.0) in
-        let at_n = place-at pages are.sound.rising (get_or pages k 0) n below same in
-        let at_k = place-at pages are.sound.rising (get_or pages k 0) k within refl in
+        let at_n = page_index-at pages are.sound.rising (get_or pages k 0) n below same in
+        let at_k = page_index-at pages are.sound.rising (get_or pages k 0) k within refl in
         let one : n ≡ k = same_Some n k (sym at_n ∙ at_k) in
         let clash : ◌≡◌ {A = Bool} false true = sym (ap is_some (ap (λ i. get_or entries i None) one ∙ absent)) ∙ held in
         absurd (false≢true clash)
@@ -233,7 +233,7 @@ low_bytes width value count bytes same is =
 
 -- the page at an address is its entry's
 pub page_shown : (pages : List ℕ) (entries : List Entry) → ArePages pages entries → (first index : ℕ) (entry : Entry) → first % 4096 ≡ 0
-    → place pages (first / 4096) ≡ Some index → entry ≡ get_or entries index entry
+    → page_index pages (first / 4096) ≡ Some index → entry ≡ get_or entries index entry
     → Some (page_content entry) ≡ bytes_at (memory_of pages (flat entries)) first 4096
 page_shown pages entries are first index entry aligned found at =
     ap Some (same_number_lists (page_content entry) (take 4096 (drop start (flat entries)))
@@ -250,7 +250,7 @@ page_shown pages entries are first index entry aligned found at =
     start = 4096 * index + first % 4096
 
     within : index < length entries
-    within = placed pages entries are (first / 4096) index found
+    within = index_within pages entries are (first / 4096) index found
 
     page_is : entry ≡ get_or entries index None
     page_is = at ∙ get_or_default entries index entry None within

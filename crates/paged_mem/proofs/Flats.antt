@@ -323,14 +323,14 @@ read_more entries out piece start done count n entry full fits some most low sam
     page_is : entry ≡ get_or entries ((start + done) / 4096) None
     page_is = at ∙ get_or_default entries ((start + done) / 4096) entry None within
 
-    room : length (take n (drop done out)) ≡ count
-    room = omega (arith, length-take n (drop done out), length-drop done out)
+    capacity : length (take n (drop done out)) ≡ count
+    capacity = omega (arith, length-take n (drop done out), length-drop done out)
 
     page_long : length (page_content entry) ≡ 4096
     page_long = ap (λ e. length (page_content e)) page_is ∙ full ((start + done) / 4096)
 
     size : length piece ≡ count
-    size = omega (arith, ap length piece_is, length-take (length (take n (drop done out))) (drop ((start + done) % 4096) (page_content entry)), length-drop ((start + done) % 4096) (page_content entry), room, page_long)
+    size = omega (arith, ap length piece_is, length-take (length (take n (drop done out))) (drop ((start + done) % 4096) (page_content entry)), length-drop ((start + done) % 4096) (page_content entry), capacity, page_long)
 
     put_mid-overwritten : put_mid done n out piece ≡ overwritten out done piece
     put_mid-overwritten = ap (λ m. put_mid done m out piece) (same_n ∙ sym size) ∙ search (rules, places)
@@ -340,7 +340,7 @@ read_more entries out piece start done count n entry full fits some most low sam
     by_order k below (inr from) =
         get_or-overwritten out done piece k (omega (arith, size)) from (omega (arith, size))
         ∙ ap (λ xs. get_or xs (k - done) 0) piece_is
-        ∙ get_or-take (length (take n (drop done out))) (drop ((start + done) % 4096) (page_content entry)) (k - done) 0 (omega (arith, room))
+        ∙ get_or-take (length (take n (drop done out))) (drop ((start + done) % 4096) (page_content entry)) (k - done) 0 (omega (arith, capacity))
         ∙ get_or-drop ((start + done) % 4096) (page_content entry) (k - done) 0
         ∙ ap (λ e. get_or (page_content e) ((start + done) % 4096 + (k - done)) 0) page_is
         ∙ sym (get-flat entries full ((start + done) / 4096) ((start + done) % 4096 + (k - done)) within (omega arith))
@@ -381,14 +381,14 @@ module _ (entries : List Entry) (full : AreFull entries) (at : ℕ) (within : at
   flat_parts : flat entries ≡ flat (take at entries) ++ flat (drop at entries)
   flat_parts = ap flat (sym (take-append-drop at entries)) ∙ flat-append (take at entries) (drop at entries)
 
-  front_long : length (flat (take at entries)) ≡ 4096 * at
-  front_long = omega (arith, length-flat (take at entries) (AreFull-take at entries full), length-take at entries)
+  prefix_long : length (flat (take at entries)) ≡ 4096 * at
+  prefix_long = omega (arith, length-flat (take at entries) (AreFull-take at entries full), length-take at entries)
 
   pub take-flat : take (4096 * at) (flat entries) ≡ flat (take at entries)
-  take-flat = ap (take (4096 * at)) flat_parts ∙ take_at (flat (take at entries)) (flat (drop at entries)) (4096 * at) front_long
+  take-flat = ap (take (4096 * at)) flat_parts ∙ take_at (flat (take at entries)) (flat (drop at entries)) (4096 * at) prefix_long
 
   pub drop-flat : drop (4096 * at) (flat entries) ≡ flat (drop at entries)
-  drop-flat = ap (drop (4096 * at)) flat_parts ∙ drop_at (flat (take at entries)) (flat (drop at entries)) (4096 * at) front_long
+  drop-flat = ap (drop (4096 * at)) flat_parts ∙ drop_at (flat (take at entries)) (flat (drop at entries)) (4096 * at) prefix_long
 
 pub flat-absent : (count : ℕ) → flat (replicate count None) ≡ replicate (4096 * count) 0
 flat-absent count =

@@ -1,10 +1,10 @@
 -- Rows of pages: that two ends make one, and where an address in one stands.
 use Rattle.std.proofs.Common.{◌≡◌, ℕ, ◌+◌, ◌-◌, ◌*◌, ◌/◌, ◌%◌, ◌^◌, ◌<◌, Some, List, length, get_or, ◌∙◌, arith}
-use Rattle.paged_mem.specs.Inside.Flat.{place, Rises, AreLow}
-use Rattle.paged_mem.specs.Inside.Wholeness.{place-some}
+use Rattle.paged_mem.specs.Inside.Flat.{page_index, Rises, AreLow}
+use Rattle.paged_mem.specs.Inside.Wholeness.{page_index-some}
 use Rattle.paged_mem.specs.Inside.Entries.{IsRowOf}
 use Rattle.paged_mem.specs.declared.rows.PageRow.{PageRow}
-use Rattle.paged_mem.proofs.Places.{place-at}
+use Rattle.paged_mem.proofs.PageIndices.{page_index-at}
 use Rattle.paged_mem.proofs.Spans.{between}
 
 pub row_between : (pages : List ℕ) → Rises pages → AreLow pages → (index more number base size : ℕ) → index + more < length pages
@@ -14,12 +14,12 @@ row_between pages rising low index more number base size within first last is_ba
   aligned = omega arith;
   low = omega (arith, low (index + more) within);
   within = omega arith;
-  numbers = λ k below. (place-some pages (number + k) (index + k) (between pages rising index number more first within last k (omega arith))).1 ∙ omega arith;
+  numbers = λ k below. (page_index-some pages (number + k) (index + k) (between pages rising index number more first within last k (omega arith))).1 ∙ omega arith;
 }
 
-pub place-in_row : (pages : List ℕ) → Rises pages → (row : PageRow) → IsRowOf pages row → (at ahead : ℕ) → at < 2 ^ 64
-    → ahead ≡ (at + (2 ^ 64 - row.base)) % 2 ^ 64 → ahead < row.size → place pages (at / 4096) ≡ Some (row.index + ahead / 4096)
-place-in_row pages rising row is at ahead fits is_ahead inside =
+pub page_index-in_row : (pages : List ℕ) → Rises pages → (row : PageRow) → IsRowOf pages row → (at ahead : ℕ) → at < 2 ^ 64
+    → ahead ≡ (at + (2 ^ 64 - row.base)) % 2 ^ 64 → ahead < row.size → page_index pages (at / 4096) ≡ Some (row.index + ahead / 4096)
+page_index-in_row pages rising row is at ahead fits is_ahead inside =
     let from : at ≡ row.base + ahead = omega (arith, is.low) in
-    place-at pages rising (at / 4096) (row.index + ahead / 4096) (omega (arith, is.within))
+    page_index-at pages rising (at / 4096) (row.index + ahead / 4096) (omega (arith, is.within))
     (is.numbers (ahead / 4096) (omega arith) ∙ omega (arith, is.aligned))

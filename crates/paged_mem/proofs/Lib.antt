@@ -3,8 +3,8 @@ pub mod Maps
 pub mod MemoryLaws
 pub mod Moves
 pub mod Numbers
-pub mod Places
-pub mod Rooms
+pub mod PageIndices
+pub mod InsertedRanges
 pub mod Runs
 pub mod Seen
 pub mod Spans

@@ -7,11 +7,11 @@ use Rattle.std.proofs.lemmas.Bool.{cases_lt}
 use Rattle.std.proofs.lemmas.List.{get_or-replicate, length-replicate}
 use Rattle.std.proofs.lemmas.List.FromFn.{length-range_with_len}
 use Rattle.paged_mem.specs.Memory.{IsFree, with_bytes, without, zeros}
-use Rattle.paged_mem.specs.Inside.Flat.{memory_of, place, Rises}
+use Rattle.paged_mem.specs.Inside.Flat.{memory_of, page_index, Rises}
 use Rattle.paged_mem.specs.Inside.Wholeness.{get-memory_of, contains-memory_of, get-with_bytes, get-with_bytes_below, get-with_bytes_above}
 use Rattle.paged_mem.proofs.Maps.{same_memory, get-without, get-without_other}
-use Rattle.paged_mem.proofs.Places.{place-none}
-use Rattle.paged_mem.proofs.Rooms.{place-range, place-range_none, place-front, get_front, get_back, at_front, at_middle, at_back, at_end}
+use Rattle.paged_mem.proofs.PageIndices.{page_index-none}
+use Rattle.paged_mem.proofs.InsertedRanges.{page_index-range, page_index-range_none, page_index-prefix, get_prefix, get_back, at_prefix, at_middle, at_back, at_end}
 
 pub length-zeros : (count : ℕ) → length (zeros count) ≡ count
 unfolding zeros
@@ -21,7 +21,7 @@ pub get_or-zeros : (count i : ℕ) → i < count → get_or (zeros count) i 0 �
 unfolding zeros
 get_or-zeros count i below = get_or-replicate count i 0 0 below
 
-module _ (front back bytes rest : List ℕ) (number count : ℕ) (full : length bytes ≡ 4096 * length front) (full_too : length rest ≡ 4096 * length back) where
+module _ (prefix back bytes rest : List ℕ) (number count : ℕ) (full : length bytes ≡ 4096 * length prefix) (full_too : length rest ≡ 4096 * length back) where
   abbrev numbers : List ℕ
   numbers = range_with_len number count
 
@@ -33,71 +33,71 @@ module _ (front back bytes rest : List ℕ) (number count : ℕ) (full : length 
     after = omega (arith, length-append between rest, length-append numbers back, length-range_with_len number count)
 
     -- elsewhere nothing changes
-    elsewhere : (q : ℕ) → place numbers (q / 4096) ≡ None → get (memory_of (front ++ (numbers ++ back)) (bytes ++ (between ++ rest))) q ≡ get (memory_of (front ++ back) (bytes ++ rest)) q
-    elsewhere q out = by_front (place front (q / 4096)) refl
+    elsewhere : (q : ℕ) → page_index numbers (q / 4096) ≡ None → get (memory_of (prefix ++ (numbers ++ back)) (bytes ++ (between ++ rest))) q ≡ get (memory_of (prefix ++ back) (bytes ++ rest)) q
+    elsewhere q out = by_prefix (page_index prefix (q / 4096)) refl
       where
-        by_front : (o : Option ℕ) → place front (q / 4096) ≡ o → get (memory_of (front ++ (numbers ++ back)) (bytes ++ (between ++ rest))) q ≡ get (memory_of (front ++ back) (bytes ++ rest)) q
-        by_front (Some i) was = get_front front (numbers ++ back) bytes (between ++ rest) full after q i was ∙ sym (get_front front back bytes rest full full_too q i was)
-        by_front None was = get_back front (numbers ++ back) bytes (between ++ rest) full after q was ∙ get_back numbers back between rest middle full_too q out ∙ sym (get_back front back bytes rest full full_too q was)
+        by_prefix : (o : Option ℕ) → page_index prefix (q / 4096) ≡ o → get (memory_of (prefix ++ (numbers ++ back)) (bytes ++ (between ++ rest))) q ≡ get (memory_of (prefix ++ back) (bytes ++ rest)) q
+        by_prefix (Some i) was = get_prefix prefix (numbers ++ back) bytes (between ++ rest) full after q i was ∙ sym (get_prefix prefix back bytes rest full full_too q i was)
+        by_prefix None was = get_back prefix (numbers ++ back) bytes (between ++ rest) full after q was ∙ get_back numbers back between rest middle full_too q out ∙ sym (get_back prefix back bytes rest full full_too q was)
 
     -- among the new pages their bytes stand
-    among : (q i : ℕ) → place front (q / 4096) ≡ None → place numbers (q / 4096) ≡ Some i → get (memory_of (front ++ (numbers ++ back)) (bytes ++ (between ++ rest))) q ≡ Some (get_or between (4096 * i + q % 4096) 0)
+    among : (q i : ℕ) → page_index prefix (q / 4096) ≡ None → page_index numbers (q / 4096) ≡ Some i → get (memory_of (prefix ++ (numbers ++ back)) (bytes ++ (between ++ rest))) q ≡ Some (get_or between (4096 * i + q % 4096) 0)
     among q i out at =
-        get_back front (numbers ++ back) bytes (between ++ rest) full after q out
-        ∙ get_front numbers back between rest middle full_too q i at
+        get_back prefix (numbers ++ back) bytes (between ++ rest) full after q out
+        ∙ get_prefix numbers back between rest middle full_too q i at
         ∙ get-memory_of numbers between q middle
         ∙ ap (λ o. option_map (λ s. get_or between s 0) (option_map (λ i. 4096 * i + q % 4096) o)) at
 
-  whole : length (bytes ++ rest) ≡ 4096 * length (front ++ back)
-  whole = omega (arith, length-append bytes rest, length-append front back)
+  whole : length (bytes ++ rest) ≡ 4096 * length (prefix ++ back)
+  whole = omega (arith, length-append bytes rest, length-append prefix back)
 
   -- pages of zeros are put where no page is
-  pub memory_of-mapped : IsFree (memory_of (front ++ back) (bytes ++ rest)) (4096 * number) (4096 * count) → memory_of (front ++ (numbers ++ back)) (bytes ++ (replicate (4096 * count) 0 ++ rest)) ≡ with_bytes (memory_of (front ++ back) (bytes ++ rest)) (4096 * number) (zeros (4096 * count))
+  pub memory_of-mapped : IsFree (memory_of (prefix ++ back) (bytes ++ rest)) (4096 * number) (4096 * count) → memory_of (prefix ++ (numbers ++ back)) (bytes ++ (replicate (4096 * count) 0 ++ rest)) ≡ with_bytes (memory_of (prefix ++ back) (bytes ++ rest)) (4096 * number) (zeros (4096 * count))
   memory_of-mapped free =
-      same_memory (memory_of (front ++ (numbers ++ back)) (bytes ++ (replicate (4096 * count) 0 ++ rest))) (with_bytes (memory_of (front ++ back) (bytes ++ rest)) (4096 * number) (zeros (4096 * count))) (λ q. at q (cases_lt q (4096 * number)) (cases_lt q (4096 * number + 4096 * count)))
+      same_memory (memory_of (prefix ++ (numbers ++ back)) (bytes ++ (replicate (4096 * count) 0 ++ rest))) (with_bytes (memory_of (prefix ++ back) (bytes ++ rest)) (4096 * number) (zeros (4096 * count))) (λ q. at q (cases_lt q (4096 * number)) (cases_lt q (4096 * number + 4096 * count)))
     where
-      at : (q : ℕ) → (q < 4096 * number) ⊎ (4096 * number ≤ q) → (q < 4096 * number + 4096 * count) ⊎ (4096 * number + 4096 * count ≤ q) → get (memory_of (front ++ (numbers ++ back)) (bytes ++ (replicate (4096 * count) 0 ++ rest))) q ≡ get (with_bytes (memory_of (front ++ back) (bytes ++ rest)) (4096 * number) (zeros (4096 * count))) q
+      at : (q : ℕ) → (q < 4096 * number) ⊎ (4096 * number ≤ q) → (q < 4096 * number + 4096 * count) ⊎ (4096 * number + 4096 * count ≤ q) → get (memory_of (prefix ++ (numbers ++ back)) (bytes ++ (replicate (4096 * count) 0 ++ rest))) q ≡ get (with_bytes (memory_of (prefix ++ back) (bytes ++ rest)) (4096 * number) (zeros (4096 * count))) q
       at q (inl below) o =
-          elsewhere (replicate (4096 * count) 0) (length-replicate (4096 * count) 0) q (place-range_none number count (q / 4096) (inl (omega arith)))
-          ∙ sym (get-with_bytes_below (memory_of (front ++ back) (bytes ++ rest)) (4096 * number) (zeros (4096 * count)) q below)
+          elsewhere (replicate (4096 * count) 0) (length-replicate (4096 * count) 0) q (page_index-range_none number count (q / 4096) (inl (omega arith)))
+          ∙ sym (get-with_bytes_below (memory_of (prefix ++ back) (bytes ++ rest)) (4096 * number) (zeros (4096 * count)) q below)
       at q (inr from) (inr above) =
-          elsewhere (replicate (4096 * count) 0) (length-replicate (4096 * count) 0) q (place-range_none number count (q / 4096) (inr (omega arith)))
-          ∙ sym (get-with_bytes_above (memory_of (front ++ back) (bytes ++ rest)) (4096 * number) (zeros (4096 * count)) q (omega (arith, length-zeros (4096 * count))))
+          elsewhere (replicate (4096 * count) 0) (length-replicate (4096 * count) 0) q (page_index-range_none number count (q / 4096) (inr (omega arith)))
+          ∙ sym (get-with_bytes_above (memory_of (prefix ++ back) (bytes ++ rest)) (4096 * number) (zeros (4096 * count)) q (omega (arith, length-zeros (4096 * count))))
       at q (inr from) (inl to) =
-          among (replicate (4096 * count) 0) (length-replicate (4096 * count) 0) q (q / 4096 - number) (unplaced (place front (q / 4096)) refl) (place-range number count (q / 4096) (omega arith) (omega arith))
+          among (replicate (4096 * count) 0) (length-replicate (4096 * count) 0) q (q / 4096 - number) (unplaced (page_index prefix (q / 4096)) refl) (page_index-range number count (q / 4096) (omega arith) (omega arith))
           ∙ ap Some (get_or-replicate (4096 * count) (4096 * (q / 4096 - number) + q % 4096) 0 0 (omega arith) ∙ sym (get_or-zeros (4096 * count) (q - 4096 * number) (omega arith)))
-          ∙ sym (get-with_bytes (memory_of (front ++ back) (bytes ++ rest)) (4096 * number) (zeros (4096 * count)) q from (omega (arith, length-zeros (4096 * count))))
+          ∙ sym (get-with_bytes (memory_of (prefix ++ back) (bytes ++ rest)) (4096 * number) (zeros (4096 * count)) q from (omega (arith, length-zeros (4096 * count))))
         where
-          unplaced : (o : Option ℕ) → place front (q / 4096) ≡ o → place front (q / 4096) ≡ None
+          unplaced : (o : Option ℕ) → page_index prefix (q / 4096) ≡ o → page_index prefix (q / 4096) ≡ None
           unplaced None was = was
           unplaced (Some i) was =
-              let held = contains-memory_of (front ++ back) (bytes ++ rest) whole q ∙ ap is_some (place-front front back (q / 4096) i was) in
+              let held = contains-memory_of (prefix ++ back) (bytes ++ rest) whole q ∙ ap is_some (page_index-prefix prefix back (q / 4096) i was) in
               let gone = ap is_some (free q from to) in
               cc
 
   -- pages are taken away
-  pub memory_of-unmapped : (between : List ℕ) → length between ≡ 4096 * count → Rises (front ++ (numbers ++ back)) → memory_of (front ++ back) (bytes ++ rest) ≡ without (memory_of (front ++ (numbers ++ back)) (bytes ++ (between ++ rest))) (4096 * number) (4096 * count)
+  pub memory_of-unmapped : (between : List ℕ) → length between ≡ 4096 * count → Rises (prefix ++ (numbers ++ back)) → memory_of (prefix ++ back) (bytes ++ rest) ≡ without (memory_of (prefix ++ (numbers ++ back)) (bytes ++ (between ++ rest))) (4096 * number) (4096 * count)
   memory_of-unmapped between full_between rising =
-      same_memory (memory_of (front ++ back) (bytes ++ rest)) (without (memory_of (front ++ (numbers ++ back)) (bytes ++ (between ++ rest))) (4096 * number) (4096 * count)) (λ q. at q (cases_lt q (4096 * number)) (cases_lt q (4096 * number + 4096 * count)))
+      same_memory (memory_of (prefix ++ back) (bytes ++ rest)) (without (memory_of (prefix ++ (numbers ++ back)) (bytes ++ (between ++ rest))) (4096 * number) (4096 * count)) (λ q. at q (cases_lt q (4096 * number)) (cases_lt q (4096 * number + 4096 * count)))
     where
-      at : (q : ℕ) → (q < 4096 * number) ⊎ (4096 * number ≤ q) → (q < 4096 * number + 4096 * count) ⊎ (4096 * number + 4096 * count ≤ q) → get (memory_of (front ++ back) (bytes ++ rest)) q ≡ get (without (memory_of (front ++ (numbers ++ back)) (bytes ++ (between ++ rest))) (4096 * number) (4096 * count)) q
-      at q (inl below) o = sym (get-without_other _ (4096 * number) (4096 * count) q (inl below) ∙ elsewhere between full_between q (place-range_none number count (q / 4096) (inl (omega arith))))
-      at q (inr from) (inr above) = sym (get-without_other _ (4096 * number) (4096 * count) q (inr above) ∙ elsewhere between full_between q (place-range_none number count (q / 4096) (inr (omega arith))))
+      at : (q : ℕ) → (q < 4096 * number) ⊎ (4096 * number ≤ q) → (q < 4096 * number + 4096 * count) ⊎ (4096 * number + 4096 * count ≤ q) → get (memory_of (prefix ++ back) (bytes ++ rest)) q ≡ get (without (memory_of (prefix ++ (numbers ++ back)) (bytes ++ (between ++ rest))) (4096 * number) (4096 * count)) q
+      at q (inl below) o = sym (get-without_other _ (4096 * number) (4096 * count) q (inl below) ∙ elsewhere between full_between q (page_index-range_none number count (q / 4096) (inl (omega arith))))
+      at q (inr from) (inr above) = sym (get-without_other _ (4096 * number) (4096 * count) q (inr above) ∙ elsewhere between full_between q (page_index-range_none number count (q / 4096) (inr (omega arith))))
       at q (inr from) (inl to) =
-          get-memory_of (front ++ back) (bytes ++ rest) q whole
-          ∙ ap (λ o. option_map (λ s. get_or (bytes ++ rest) s 0) (option_map (λ i. 4096 * i + q % 4096) o)) (place-none (front ++ back) (q / 4096) (λ k within e. apart k within e (cases_lt k (length front))))
+          get-memory_of (prefix ++ back) (bytes ++ rest) q whole
+          ∙ ap (λ o. option_map (λ s. get_or (bytes ++ rest) s 0) (option_map (λ i. 4096 * i + q % 4096) o)) (page_index-none (prefix ++ back) (q / 4096) (λ k within e. apart k within e (cases_lt k (length prefix))))
           ∙ sym (get-without _ (4096 * number) (4096 * count) q from to)
         where
-          there : get_or (front ++ (numbers ++ back)) (length front + (q / 4096 - number)) 0 ≡ q / 4096
-          there = at_middle front back number count (q / 4096 - number) (omega arith) ∙ omega arith
+          there : get_or (prefix ++ (numbers ++ back)) (length prefix + (q / 4096 - number)) 0 ≡ q / 4096
+          there = at_middle prefix back number count (q / 4096 - number) (omega arith) ∙ omega arith
 
-          long : length (front ++ (numbers ++ back)) ≡ length front + (count + length back)
-          long = omega (arith, length-append front (numbers ++ back), length-append numbers back, length-range_with_len number count)
+          long : length (prefix ++ (numbers ++ back)) ≡ length prefix + (count + length back)
+          long = omega (arith, length-append prefix (numbers ++ back), length-append numbers back, length-range_with_len number count)
 
-          apart : (k : ℕ) → k < length (front ++ back) → get_or (front ++ back) k 0 ≡ q / 4096 → (k < length front) ⊎ (length front ≤ k) → ⊥
+          apart : (k : ℕ) → k < length (prefix ++ back) → get_or (prefix ++ back) k 0 ≡ q / 4096 → (k < length prefix) ⊎ (length prefix ≤ k) → ⊥
           apart k within e (inl below) =
-              omega (arith, there, at_front front (numbers ++ back) k below, at_front front back k below, rising k (length front + (q / 4096 - number)) (omega arith) (omega (arith, long)))
+              omega (arith, there, at_prefix prefix (numbers ++ back) k below, at_prefix prefix back k below, rising k (length prefix + (q / 4096 - number)) (omega arith) (omega (arith, long)))
           apart k within e (inr above) =
-              let j = k - length front in
-              let same : get_or (front ++ back) (length front + j) 0 ≡ get_or (front ++ back) k 0 = ap (λ k. get_or (front ++ back) k 0) (omega arith) in
-              omega (arith, there, same, at_back front back j, at_end front back number count j, rising (length front + (q / 4096 - number)) (length front + (count + j)) (omega arith) (omega (arith, long, length-append front back)))
+              let j = k - length prefix in
+              let same : get_or (prefix ++ back) (length prefix + j) 0 ≡ get_or (prefix ++ back) k 0 = ap (λ k. get_or (prefix ++ back) k 0) (omega arith) in
+              omega (arith, there, same, at_back prefix back j, at_end prefix back number count j, rising (length prefix + (q / 4096 - number)) (length prefix + (count + j)) (omega arith) (omega (arith, long, length-append prefix back)))

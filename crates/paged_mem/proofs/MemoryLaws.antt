@@ -5,6 +5,7 @@ use Rattle.std.specs.FinMap.{get}
 use Rattle.std.proofs.lemmas.Bool.{cases_lt}
 use Rattle.std.proofs.Math.Nat.{pow-suc, one-le-pow}
 use Rattle.std.proofs.Math.Arith.{mod-mul}
+use Rattle.ddc_base.specs.Limits.{address_end}
 use Rattle.paged_mem.specs.Memory.{Memory, IsWhole, IsFree, maps, bytes_at, reads, writes, with_bytes, without, zeros, number_of, bytes_of}
 use Rattle.paged_mem.specs.Inside.Wholeness.{get-with_bytes, get-with_bytes_below, get-with_bytes_above}
 use Rattle.paged_mem.proofs.Maps.{same_memory, get-without, get-without_other, bytes_at-found, bytes_at-none}
@@ -35,7 +36,7 @@ reads-writes m at count value =
     ∙ ap (option_map number_of) (bytes_at-with_bytes m at (bytes_of count value))
     ∙ ap Some (number_of-bytes_of count value)
 
-pub get-past : (m : Memory) → IsWhole m → (at : ℕ) → 2 ^ 38 ≤ at → get m at ≡ None
+pub get-past : (m : Memory) → IsWhole m → (at : ℕ) → address_end ≤ at → get m at ≡ None
 get-past m whole at past = gone (get m at) refl
   where
     gone : (o : Option ℕ) → get m at ≡ o → o ≡ None

@@ -5,13 +5,14 @@ use Rattle.std.proofs.lemmas.Bool.{cases_eq, cases_lt, cases_order}
 use Rattle.std.proofs.lemmas.Grind.{same_number_lists}
 use Rattle.std.proofs.lemmas.List.{get_or-take, get_or-drop, take-append-drop, drop-drop, length-replicate, get_or_append_left, get_or-append-add, get_or-replicate, get_or_past}
 use Rattle.std.proofs.lemmas.List.FromFn.{length-range_with_len, get_or-range_with_len}
+use Rattle.ddc_base.specs.Limits.{address_end, page_number_end}
 use Rattle.paged_mem.specs.Memory.{IsFree, maps, bytes_at, with_bytes, without, zeros}
-use Rattle.paged_mem.specs.Inside.Flat.{memory_of, place, Rises, AreLow, IsRank, AreFlatPages}
-use Rattle.paged_mem.specs.Inside.Wholeness.{place-some, contains-memory_of}
+use Rattle.paged_mem.specs.Inside.Flat.{memory_of, page_index, Rises, AreLow, IsRank, AreFlatPages}
+use Rattle.paged_mem.specs.Inside.Wholeness.{page_index-some, contains-memory_of}
 use Rattle.paged_mem.proofs.Maps.{get_in_bytes_at}
-use Rattle.paged_mem.proofs.Places.{place-at, in_a_row}
-use Rattle.paged_mem.proofs.Rooms.{Rises-append, AreLow-append, Rises-range, AreLow-range, Part, part_of}
-use Rattle.paged_mem.proofs.Rooms.Part.{in_front, in_back}
+use Rattle.paged_mem.proofs.PageIndices.{page_index-at, in_a_row}
+use Rattle.paged_mem.proofs.InsertedRanges.{Rises-append, AreLow-append, Rises-range, AreLow-range, Part, part_of}
+use Rattle.paged_mem.proofs.InsertedRanges.Part.{in_prefix, in_back}
 use Rattle.paged_mem.proofs.Mapped.{memory_of-mapped, memory_of-unmapped}
 
 Rises-take : (pages : List ℕ) (at : ℕ) → at ≤ length pages → Rises pages → Rises (take at pages)
@@ -71,19 +72,19 @@ module _ (pages bytes : List ℕ) (sound : AreFlatPages pages bytes) (number cou
   abbrev pub mapped_bytes : List ℕ
   mapped_bytes = take (4096 * at) bytes ++ (replicate (4096 * count) 0 ++ drop (4096 * at) bytes)
 
-  front_full : length (take (4096 * at) bytes) ≡ 4096 * length (take at pages)
-  front_full = omega (arith, length-take (4096 * at) bytes, length-take at pages, sound.full, rank.within)
+  prefix_full : length (take (4096 * at) bytes) ≡ 4096 * length (take at pages)
+  prefix_full = omega (arith, length-take (4096 * at) bytes, length-take at pages, sound.full, rank.within)
 
   back_full : length (drop (4096 * at) bytes) ≡ 4096 * length (drop at pages)
   back_full = omega (arith, length-drop (4096 * at) bytes, length-drop at pages, sound.full, rank.within)
 
-  module _ (low : number + count ≤ 2 ^ 26) (free : IsFree (memory_of pages bytes) (4096 * number) (4096 * count)) where
+  module _ (low : number + count ≤ page_number_end) (free : IsFree (memory_of pages bytes) (4096 * number) (4096 * count)) where
     pub memory_of-mapped_at : memory_of mapped_pages mapped_bytes ≡ with_bytes (memory_of pages bytes) (4096 * number) (zeros (4096 * count))
     memory_of-mapped_at =
         let same_pages = take-append-drop at pages in
         let same_bytes = take-append-drop (4096 * at) bytes in
         let same : memory_of (take at pages ++ drop at pages) (take (4096 * at) bytes ++ drop (4096 * at) bytes) ≡ memory_of pages bytes = ap (λ p. memory_of p (take (4096 * at) bytes ++ drop (4096 * at) bytes)) same_pages ∙ ap (memory_of pages) same_bytes in
-        memory_of-mapped (take at pages) (drop at pages) (take (4096 * at) bytes) (drop (4096 * at) bytes) number count front_full back_full (subst (λ m. IsFree m (4096 * number) (4096 * count)) (sym same) free)
+        memory_of-mapped (take at pages) (drop at pages) (take (4096 * at) bytes) (drop (4096 * at) bytes) number count prefix_full back_full (subst (λ m. IsFree m (4096 * number) (4096 * count)) (sym same) free)
         ∙ ap (λ m. with_bytes m (4096 * number) (zeros (4096 * count))) same
 
     past : (k : ℕ) → at ≤ k → k < length pages → number + count ≤ get_or pages k 0
@@ -94,12 +95,12 @@ module _ (pages bytes : List ℕ) (sound : AreFlatPages pages bytes) (number cou
         by_order (inl lt) =
             let q = 4096 * get_or pages k 0 in
             let same : q / 4096 ≡ get_or pages k 0 = omega arith in
-            let held = contains-memory_of pages bytes sound.full q ∙ ap is_some (ap (place pages) same ∙ place-at pages sound.rising (get_or pages k 0) k within refl) in
+            let held = contains-memory_of pages bytes sound.full q ∙ ap is_some (ap (page_index pages) same ∙ page_index-at pages sound.rising (get_or pages k 0) k within refl) in
             let gone = ap is_some (free q (omega (arith, rank.above k from within)) (omega arith)) in
             cc
 
     beyond : (i j : ℕ) → i < length (take at pages) → Part (range_with_len number count) (drop at pages) j → get_or (take at pages) i 0 < get_or (range_with_len number count ++ drop at pages) j 0
-    beyond i j a (in_front b is) =
+    beyond i j a (in_prefix b is) =
         let long = length-take at pages in
         omega (arith, is, get_or-take at pages i 0 (omega arith), rank.below i (omega arith), get_or-range_with_len number count j 0 (omega (arith, length-range_with_len number count)))
     beyond i j a (in_back k e b is) =
@@ -109,7 +110,7 @@ module _ (pages bytes : List ℕ) (sound : AreFlatPages pages bytes) (number cou
     pub AreFlatPages-mapped : AreFlatPages mapped_pages mapped_bytes
     AreFlatPages-mapped =
         let short = length-range_with_len number count in
-        let front_long = length-take at pages in
+        let prefix_long = length-take at pages in
         let back_long = length-drop at pages in
         record {
           rising = Rises-append (take at pages) (range_with_len number count ++ drop at pages) (Rises-take pages at rank.within sound.rising)
@@ -118,29 +119,29 @@ module _ (pages bytes : List ℕ) (sound : AreFlatPages pages bytes) (number cou
               (λ i j a b. beyond i j a (part_of (range_with_len number count) (drop at pages) j b));
           low = AreLow-append (take at pages) (range_with_len number count ++ drop at pages) (AreLow-take pages at rank.within sound.low)
               (AreLow-append (range_with_len number count) (drop at pages) (AreLow-range number count low) (AreLow-drop pages at sound.low));
-          full = omega (arith, front_full, back_full, length-append (take at pages) (range_with_len number count ++ drop at pages), length-append (range_with_len number count) (drop at pages), length-append (take (4096 * at) bytes) (replicate (4096 * count) 0 ++ drop (4096 * at) bytes), length-append (replicate (4096 * count) 0) (drop (4096 * at) bytes), length-replicate {A = ℕ} (4096 * count) 0);
+          full = omega (arith, prefix_full, back_full, length-append (take at pages) (range_with_len number count ++ drop at pages), length-append (range_with_len number count) (drop at pages), length-append (take (4096 * at) bytes) (replicate (4096 * count) 0 ++ drop (4096 * at) bytes), length-append (replicate (4096 * count) 0) (drop (4096 * at) bytes), length-replicate {A = ℕ} (4096 * count) 0);
           small = small_append (take (4096 * at) bytes) (replicate (4096 * count) 0 ++ drop (4096 * at) bytes) (small_take (4096 * at) bytes sound.small)
               (small_append (replicate (4096 * count) 0) (drop (4096 * at) bytes) (small_zeros (4096 * count)) (small_drop (4096 * at) bytes sound.small));
         }
 
 -- pages that are there, in a row from a number on, stand from its rank on
 module _ (pages bytes : List ℕ) (sound : AreFlatPages pages bytes) (number count at : ℕ) (rank : IsRank pages number at) (there : maps (memory_of pages bytes) (4096 * number) (4096 * count) ≡ true) where
-  present : (k : ℕ) → k < count → IsSome (place pages (number + k))
+  present : (k : ℕ) → k < count → IsSome (page_index pages (number + k))
   present k below = found (bytes_at (memory_of pages bytes) (4096 * number) (4096 * count)) refl there
     where
-      found : (o : Option (List ℕ)) → bytes_at (memory_of pages bytes) (4096 * number) (4096 * count) ≡ o → is_some o ≡ true → IsSome (place pages (number + k))
+      found : (o : Option (List ℕ)) → bytes_at (memory_of pages bytes) (4096 * number) (4096 * count) ≡ o → is_some o ≡ true → IsSome (page_index pages (number + k))
       found None was e = cc
       found (Some held) was e =
           let q = 4096 * number + 4096 * k in
           let same : q / 4096 ≡ number + k = omega arith in
-          sym (ap (λ n. is_some (place pages n)) same) ∙ sym (contains-memory_of pages bytes sound.full q) ∙ ap is_some (get_in_bytes_at (memory_of pages bytes) (4096 * number) (4096 * count) held was q (omega arith) (omega arith))
+          sym (ap (λ n. is_some (page_index pages n)) same) ∙ sym (contains-memory_of pages bytes sound.full q) ∙ ap is_some (get_in_bytes_at (memory_of pages bytes) (4096 * number) (4096 * count) held was q (omega arith) (omega arith))
 
-  first_at : 0 < count → place pages number ≡ Some at
-  first_at some = found (place pages number) refl (subst (λ n. IsSome (place pages n)) (add-zero number) (present 0 some))
+  first_at : 0 < count → page_index pages number ≡ Some at
+  first_at some = found (page_index pages number) refl (subst (λ n. IsSome (page_index pages n)) (add-zero number) (present 0 some))
     where
-      found : (o : Option ℕ) → place pages number ≡ o → IsSome o → o ≡ Some at
+      found : (o : Option ℕ) → page_index pages number ≡ o → IsSome o → o ≡ Some at
       found None was e = cc
-      found (Some i) was e = ap Some (by_order (place-some pages number i was) (cases_order i at))
+      found (Some i) was e = ap Some (by_order (page_index-some pages number i was) (cases_order i at))
         where
           by_order : (i < length pages) × (get_or pages i 0 ≡ number) → (i ≡ at) ⊎ ((i < at) ⊎ (at < i)) → i ≡ at
           by_order is (inl same) = same
@@ -148,7 +149,7 @@ module _ (pages bytes : List ℕ) (sound : AreFlatPages pages bytes) (number cou
           by_order is (inr (inr above)) = absurd (omega (arith, is.0, is.1, rank.above at (omega arith) (omega (arith, is.0)), sound.rising at i above is.0))
 
   stands : (k : ℕ) → k < count → (at + k < length pages) × (get_or pages (at + k) 0 ≡ number + k)
-  stands k below = place-some pages (number + k) (at + k) (in_a_row pages sound.rising number at (first_at (omega arith)) k (λ j le. present j (omega arith)))
+  stands k below = page_index-some pages (number + k) (at + k) (in_a_row pages sound.rising number at (first_at (omega arith)) k (λ j le. present j (omega arith)))
 
   pub removed_within : at + count ≤ length pages
   removed_within = by_cases (cases_eq count 0)
@@ -214,7 +215,7 @@ module _ (pages bytes shown : List ℕ) (sound : AreFlatPages pages bytes) (firs
   ranked : IsRank pages (first / 4096) at
   ranked = subst (λ xs. IsRank xs (first / 4096) at) same rank
 
-  module _ (low : first + 4096 * count ≤ 2 ^ 38) (free : IsFree (memory_of pages bytes) first (4096 * count)) where
+  module _ (low : first + 4096 * count ≤ address_end) (free : IsFree (memory_of pages bytes) first (4096 * count)) where
     free_too : IsFree (memory_of pages bytes) (4096 * (first / 4096)) (4096 * count)
     free_too = subst (λ n. IsFree (memory_of pages bytes) n (4096 * count)) (sym begins) free
 

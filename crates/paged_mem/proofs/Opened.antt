@@ -2,19 +2,20 @@
 use Rattle.std.proofs.Common.{◌≡◌, ℕ, ◌+◌, ◌*◌, ◌/◌, ◌%◌, ◌^◌, ◌≤◌, true, None, List, ◌++◌, length, take, drop, replicate, ap, subst, sym, ◌∙◌, arith, length-append, length-take, length-drop}
 use Rattle.std.specs.List.{range_with_len}
 use Rattle.std.proofs.lemmas.List.FromFn.{length-range_with_len}
+use Rattle.ddc_base.specs.Limits.{address_end}
 use Rattle.paged_mem.specs.Memory.{IsFree, maps, with_bytes, without, zeros}
 use Rattle.paged_mem.specs.Inside.Flat.{memory_of, IsRank}
 use Rattle.paged_mem.specs.Inside.Entries.{Entry, ArePages, AreFull, flat, held_pages}
 use Rattle.paged_mem.proofs.Flats.{AreFull-absent, AreFull-append, AreFull-drop, AreFull-take, flat-closed, flat-opened, held_pages-closed, held_pages-opened, length-absent}
 use Rattle.paged_mem.proofs.Moves.{memory_after_map, memory_after_unmap, sound_after_map, sound_after_unmap, within_before_unmap}
-use Rattle.paged_mem.proofs.Rooms.{gap_closed}
+use Rattle.paged_mem.proofs.InsertedRanges.{gap_closed}
 
 module _ (pages : List ℕ) (entries : List Entry) (shown : List ℕ) (are : ArePages pages entries) (first count at : ℕ) (aligned : first % 4096 ≡ 0)
     (same : shown ≡ pages) (rank : IsRank shown (first / 4096) at) where
   pub within : at ≤ length entries
   within = omega (arith, rank.within, ap length same, are.long)
 
-  module _ (low : first + 4096 * count ≤ 2 ^ 38) (free : IsFree (memory_of pages (flat entries)) first (4096 * count)) (new_pages : List ℕ) (new : List Entry)
+  module _ (low : first + 4096 * count ≤ address_end) (free : IsFree (memory_of pages (flat entries)) first (4096 * count)) (new_pages : List ℕ) (new : List Entry)
       (numbered : new_pages ≡ take at pages ++ (range_with_len (first / 4096) count ++ drop at pages))
       (opened : new ≡ take at entries ++ (replicate count None ++ drop at entries)) where
     pub are_opened : ArePages new_pages new

@@ -6,19 +6,19 @@ use Rattle.std.proofs.lemmas.Bool.{cases_lt}
 use Rattle.std.proofs.lemmas.Option.{none-some, same_Some}
 use Rattle.std.proofs.lemmas.List.{get_or-take, get_or-drop, places}
 use Rattle.paged_mem.specs.Memory.{bytes_at, maps, with_bytes}
-use Rattle.paged_mem.specs.Inside.Flat.{memory_of, place, slot, Spans, overwritten}
+use Rattle.paged_mem.specs.Inside.Flat.{memory_of, page_index, slot, Spans, overwritten}
 use Rattle.paged_mem.proofs.Maps.{same_memory, bytes_at-found, bytes_at-none}
-use Rattle.paged_mem.specs.Inside.Wholeness.{place-some, get-memory_of, get-with_bytes, get-with_bytes_below, get-with_bytes_above}
+use Rattle.paged_mem.specs.Inside.Wholeness.{page_index-some, get-memory_of, get-with_bytes, get-with_bytes_below, get-with_bytes_above}
 
 -- the address whose byte stands at an index
 address_of_slot : (pages : List ℕ) (at s : ℕ) → slot pages at ≡ Some s → at ≡ 4096 * get_or pages (s / 4096) 0 + s % 4096
-address_of_slot pages at s e = of_place (place pages (at / 4096)) refl e
+address_of_slot pages at s e = by_index (page_index pages (at / 4096)) refl e
   where
-    of_place : (o : Option ℕ) → place pages (at / 4096) ≡ o → option_map (λ i. 4096 * i + at % 4096) o ≡ Some s → at ≡ 4096 * get_or pages (s / 4096) 0 + s % 4096
-    of_place None was e = absurd (none-some s e)
-    of_place (Some i) was e =
+    by_index : (o : Option ℕ) → page_index pages (at / 4096) ≡ o → option_map (λ i. 4096 * i + at % 4096) o ≡ Some s → at ≡ 4096 * get_or pages (s / 4096) 0 + s % 4096
+    by_index None was e = absurd (none-some s e)
+    by_index (Some i) was e =
         let is : 4096 * i + at % 4096 ≡ s = same_Some _ _ e in
-        let number = place-some pages (at / 4096) i was in
+        let number = page_index-some pages (at / 4096) i was in
         let at_i : get_or pages (s / 4096) 0 ≡ get_or pages i 0 = ap (λ k. get_or pages k 0) (omega arith) in
         omega (arith, number.1)
 
@@ -57,12 +57,12 @@ length-overwritten bytes start source within = search (rules, places)
 
 -- bytes that are written over bytes leave bytes
 pub small-overwritten : (bytes : List ℕ) (start : ℕ) (source : List ℕ) → start + length source ≤ length bytes → ((i : ℕ) → get_or bytes i 0 < 256) → ((i : ℕ) → get_or source i 0 < 256) → (i : ℕ) → get_or (overwritten bytes start source) i 0 < 256
-small-overwritten bytes start source within old new i = place (cases_lt i start) (cases_lt i (start + length source))
+small-overwritten bytes start source within old new i = page_index (cases_lt i start) (cases_lt i (start + length source))
   where
-    place : (i < start) ⊎ (start ≤ i) → (i < start + length source) ⊎ (start + length source ≤ i) → get_or (overwritten bytes start source) i 0 < 256
-    place (inl below) _ = omega (arith, get_or-overwritten_other bytes start source i within (inl below), old i)
-    place (inr from) (inl to) = omega (arith, get_or-overwritten bytes start source i within from to, new (i - start))
-    place (inr from) (inr above) = omega (arith, get_or-overwritten_other bytes start source i within (inr above), old i)
+    page_index : (i < start) ⊎ (start ≤ i) → (i < start + length source) ⊎ (start + length source ≤ i) → get_or (overwritten bytes start source) i 0 < 256
+    page_index (inl below) _ = omega (arith, get_or-overwritten_other bytes start source i within (inl below), old i)
+    page_index (inr from) (inl to) = omega (arith, get_or-overwritten bytes start source i within from to, new (i - start))
+    page_index (inr from) (inr above) = omega (arith, get_or-overwritten_other bytes start source i within (inr above), old i)
 
 -- to write over a span is to write from its first address on
 pub memory_of-overwritten : (pages bytes : List ℕ) → length bytes ≡ 4096 * length pages → (at start : ℕ) (source : List ℕ) → Spans pages at (length source) (Some start) → memory_of pages (overwritten bytes start source) ≡ with_bytes (memory_of pages bytes) at source

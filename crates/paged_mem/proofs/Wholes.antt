@@ -4,6 +4,7 @@ use Rattle.std.specs.FinMap.{get}
 use Rattle.std.proofs.lemmas.Bool.{cases_lt}
 use Rattle.std.proofs.lemmas.List.Elements.{All-get_or, All-from_get_or}
 use Rattle.std.proofs.lemmas.Option.{none-some, same_Some}
+use Rattle.ddc_base.specs.Limits.{address_end}
 use Rattle.paged_mem.specs.Memory.{Memory, IsWhole, bytes_at, maps, with_bytes, without}
 use Rattle.paged_mem.specs.Inside.Wholeness.{get-with_bytes, get-with_bytes_below, get-with_bytes_above}
 use Rattle.paged_mem.proofs.Maps.{each_by_maps, get-without, get-without_other, get_in_bytes_at, length_of_bytes_at}
@@ -47,13 +48,13 @@ whole-written m at bytes whole there are = record {
     small q byte e (inr from) (inr above) = whole.small q byte (sym (get-with_bytes_above m at bytes q above) ∙ e)
     small q byte e (inr from) (inl to) = written_byte m at bytes q byte are from to e
 
-    low : (q : ℕ) → is_some (get m q) ≡ true → q < 2 ^ 38
-    low q h = elim (get m q) as (λ o. get m q ≡ o → is_some o ≡ true → q < 2 ^ 38) [
+    low : (q : ℕ) → is_some (get m q) ≡ true → q < address_end
+    low q h = elim (get m q) as (λ o. get m q ≡ o → is_some o ≡ true → q < address_end) [
       | None ↦ λ _ no-byte. absurd (cc)
       | Some byte ↦ λ e _. whole.low q byte e
     ] refl h
 
-pub whole-mapped : (m : Memory) (at : ℕ) (bytes : List ℕ) → IsWhole m → at % 4096 ≡ 0 → length bytes % 4096 ≡ 0 → at + length bytes ≤ 2 ^ 38 → AreBytes bytes → IsWhole (with_bytes m at bytes)
+pub whole-mapped : (m : Memory) (at : ℕ) (bytes : List ℕ) → IsWhole m → at % 4096 ≡ 0 → length bytes % 4096 ≡ 0 → at + length bytes ≤ address_end → AreBytes bytes → IsWhole (with_bytes m at bytes)
 whole-mapped m at bytes whole first size high are = record {
   small = λ q byte e. small q byte e (cases_lt q at) (cases_lt q (at + length bytes));
   low = λ q byte e. low q byte e (cases_lt q at) (cases_lt q (at + length bytes));
@@ -65,7 +66,7 @@ whole-mapped m at bytes whole first size high are = record {
     small q byte e (inr from) (inr above) = whole.small q byte (sym (get-with_bytes_above m at bytes q above) ∙ e)
     small q byte e (inr from) (inl to) = written_byte m at bytes q byte are from to e
 
-    low : (q byte : ℕ) → get (with_bytes m at bytes) q ≡ Some byte → (q < at) ⊎ (at ≤ q) → (q < at + length bytes) ⊎ (at + length bytes ≤ q) → q < 2 ^ 38
+    low : (q byte : ℕ) → get (with_bytes m at bytes) q ≡ Some byte → (q < at) ⊎ (at ≤ q) → (q < at + length bytes) ⊎ (at + length bytes ≤ q) → q < address_end
     low q byte e (inl below) o = omega arith
     low q byte e (inr from) (inr above) = whole.low q byte (sym (get-with_bytes_above m at bytes q above) ∙ e)
     low q byte e (inr from) (inl to) = omega arith

@@ -4,6 +4,7 @@ use Rattle.std.specs.Prelude.{◌≡◌, ℕ, zero, suc, ◌+◌, ◌*◌, ◌/�
 use Rattle.std.specs.Ordering.{nat_cmp}
 use Rattle.std.specs.Option.{option_map}
 use Rattle.std.specs.FinMap.{FinMap, get, contains_key, insert, retain_keys}
+use Rattle.ddc_base.specs.Limits.{address_end}
 
 -- the byte at each mapped address
 abbrev pub Memory : Type 0
@@ -17,10 +18,10 @@ page_size = 4096
 abbrev pub page_up : ℕ → ℕ
 page_up n = (n + 4095) / 4096 * 4096
 
--- mapped addresses are whole pages of 4,096 bytes below 2 ^ 38, and each holds a byte
+-- mapped addresses are whole pages of 4,096 bytes below `address_end`, and each holds a byte
 pub record IsWhole (m : Memory) : Type 0 where
   pub small : (at byte : ℕ) → get m at ≡ Some byte → byte < 256
-  pub low : (at byte : ℕ) → get m at ≡ Some byte → at < 2 ^ 38
+  pub low : (at byte : ℕ) → get m at ≡ Some byte → at < address_end
   pub pages : (at other : ℕ) → at / 4096 ≡ other / 4096 → contains_key m at ≡ contains_key m other
 
 -- a byte followed by the rest, if both are there

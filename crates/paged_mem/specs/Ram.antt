@@ -1,6 +1,7 @@
 -- What the calls of a memory return, by cases (docs/reference/memory.md).
-use Rattle.std.specs.Prelude.{◌≡◌, ℕ, ◌+◌, ◌*◌, ◌/◌, ◌%◌, ◌^◌, ◌<◌, ◌≤◌, Bool, true, false, Option, None, Some, Result, Ok, Err, List, length, ⊤}
+use Rattle.std.specs.Prelude.{◌≡◌, ℕ, ◌+◌, ◌*◌, ◌/◌, ◌%◌, ◌<◌, ◌≤◌, Bool, true, false, Option, None, Some, Result, Ok, Err, List, length, ⊤}
 use Rattle.std.specs.FinMap.{get}
+use Rattle.ddc_base.specs.Limits.{address_end}
 use Rattle.paged_mem.specs.Memory.{Memory, maps, with_bytes, bytes_of, zeros}
 use Rattle.paged_mem.specs.declared.ram.Width.{Width}
 use Rattle.paged_mem.specs.declared.ram.Width.TheVariants.{W1, W2, W4, W8}
@@ -39,7 +40,7 @@ pub record IsRun (m : Memory) (at first pages : ℕ) : Type 0 where
   pub mapped : maps m first (4096 * pages) ≡ true
   pub next : get m (first + 4096 * pages) ≡ None
   pub before : (address : ℕ) → at / 4096 * 4096 ≤ address → address < first → get m address ≡ None
-  pub low : first + 4096 * pages ≤ 2 ^ 38
+  pub low : first + 4096 * pages ≤ address_end
 
 -- the first run of mapped pages from the page of an address on, or none if no mapped byte follows
 abbrev pub RunsFrom : Memory → ℕ → Option (ℕ × ℕ) → Type 0

@@ -77,12 +77,12 @@ pub fn put_into(entry: &mut Entry, low: usize, source: &[u8])
 }
 
 /// How many of the `left` bytes from an index on lie on the page of that index.
-fn piece(at: usize, left: usize) -> usize
-    ensures few { result ≤ left }
+fn piece(at: usize, remaining: usize) -> usize
+    ensures few { result ≤ remaining }
     ensures within { at % 4096 + result ≤ 4096 }
-    ensures some { 0 < left → 0 < result }
+    ensures some { 0 < remaining → 0 < result }
 {
-    cmp::min(PAGE_LEN - at % PAGE_LEN, left)
+    cmp::min(PAGE_LEN - at % PAGE_LEN, remaining)
 }
 
 /// Fills `out` with the bytes of these pages from an index on.

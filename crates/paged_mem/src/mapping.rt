@@ -1,4 +1,5 @@
-ghost use Rattle.std.specs.Prelude.{◌≡◌, ◌+◌, ◌*◌, ◌%◌, ◌^◌, ◌<◌, ◌≤◌, IsTrue, OnOk, OnErr, length};
+ghost use Rattle.std.specs.Prelude.{◌≡◌, ◌+◌, ◌*◌, ◌%◌, ◌<◌, ◌≤◌, IsTrue, OnOk, OnErr, length};
+ghost use Rattle.ddc_base.specs.Limits.{address_end};
 ghost use Rattle.paged_mem.specs.Memory.{IsFree, maps, with_bytes, without, zeros};
 ghost use Rattle.paged_mem.specs.Inside.Entries.{ArePages, flat, held_pages};
 ghost use Rattle.paged_mem.specs.Inside.Flat.{AreFlatPages, memory_of};
@@ -19,7 +20,7 @@ pub fn map_pages(
 ) -> Result<(), OutOfMemory>
     requires sound { AreFlatPages pages.old.items bytes.old.items }
     requires aligned { first % 4096 ≡ 0 }
-    requires low { first + 4096 * count ≤ 2 ^ 38 }
+    requires low { first + 4096 * count ≤ address_end }
     requires free { IsFree (memory_of pages.old.items bytes.old.items) first (4096 * count) }
     ensures sound { AreFlatPages pages.new.items bytes.new.items }
     ensures ok { OnOk result (memory_of pages.new.items bytes.new.items
@@ -60,7 +61,7 @@ pub fn map_entries(
 ) -> Result<(), OutOfMemory>
     requires pages { ArePages pages.old.items entries.old.items }
     requires aligned { first % 4096 ≡ 0 }
-    requires low { first + 4096 * count ≤ 2 ^ 38 }
+    requires low { first + 4096 * count ≤ address_end }
     requires free { IsFree (memory_of pages.old.items (flat entries.old.items)) first (4096 * count) }
     ensures pages { ArePages pages.new.items entries.new.items }
     ensures held { held_pages pages.new.items entries.new.items ≡ held_pages pages.old.items entries.old.items }

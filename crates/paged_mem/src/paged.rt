@@ -1,4 +1,5 @@
 ghost use Rattle.std.specs.Prelude.{◌≡◌, ◌+◌, ◌*◌, ◌%◌, ◌^◌, ◌<◌, ◌≤◌, [], Err, IfSome, Some, IsTrue, OnOk, OnErr, length};
+ghost use Rattle.ddc_base.specs.Limits.{address_end};
 ghost use Rattle.paged_mem.specs.Memory.{IsFree, maps, reads, with_bytes, without, zeros};
 ghost use Rattle.paged_mem.specs.Ram.{count_of, Stores, StoresNear, Writes};
 ghost use Rattle.paged_mem.specs.Inside.Entries.{ArePages, AreRowsOf, IsHeldPage};
@@ -153,7 +154,7 @@ impl Ram for PagedRam {
 
     fn map_zero(&mut self, first: u64, pages: u64) -> Result<(), OutOfMemory>
         requires aligned { first % 4096 ≡ 0 }
-        requires low { first + 4096 * pages ≤ 2 ^ 38 }
+        requires low { first + 4096 * pages ≤ address_end }
         requires free { IsFree self.old.bytes first (4096 * pages) }
         ensures ok { OnOk result (self.new.bytes ≡ with_bytes self.old.bytes first (zeros (4096 * pages))) }
         ensures err { OnErr result (self.new.bytes ≡ self.old.bytes) }

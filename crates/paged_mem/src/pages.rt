@@ -1,6 +1,6 @@
 ghost use Rattle.std.specs.Prelude.{◌≡◌, ◌+◌, ◌*◌, ◌^◌, ◌<◌, ◌≤◌, ◌==◌, ◌&&◌, nat_lt, length, slice_index, take, drop};
 ghost use Rattle.std.specs.Vec.{vec_len};
-ghost use Rattle.paged_mem.specs.Inside.Flat.{Rises, AreLow, IsRank, IsRow, Spans, place, number_at, overwritten};
+ghost use Rattle.paged_mem.specs.Inside.Flat.{Rises, AreLow, IsRank, IsRow, Spans, page_index, number_at, overwritten};
 ghost use Rattle.paged_mem.specs.Memory.{bytes_of};
 ghost use Rattle.paged_mem.specs.Ram.{count_of};
 
@@ -21,7 +21,7 @@ pub fn rank(pages: &[u64], number: u64) -> usize
 /// The index of the page with this number. Pages in a row from the first one on, or up to the last one, are found without a search.
 pub fn find(pages: &[u64], number: u64) -> Option<usize>
     requires { Rises pages.now }
-    ensures { result ≡ place pages.now number }
+    ensures { result ≡ page_index pages.now number }
 {
     if pages.is_empty() {
         return None;

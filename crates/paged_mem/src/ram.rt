@@ -1,5 +1,6 @@
 ghost use Rattle.std.specs.Prelude.{◌≡◌, ◌+◌, ◌*◌, ◌%◌, ◌^◌, ◌<◌, ◌≤◌, length, IsTrue, unwrap_or, IfSome, OnOk, OnErr, Some};
 ghost use Rattle.std.specs.FinMap as map;
+ghost use Rattle.ddc_base.specs.Limits.{address_end};
 ghost use Rattle.paged_mem.specs.Memory.{Memory, IsWhole, IsFree, bytes_at, maps, reads, with_bytes, without, zeros};
 ghost use Rattle.paged_mem.specs.Ram.{count_of, Stores, StoresNear, Writes, RunsFrom, shown_bytes};
 
@@ -99,7 +100,7 @@ pub trait Ram: Sized + Drop {
     /// Maps `pages` pages of zero bytes from the page at `first` on. Out of memory: the memory is unchanged.
     fn map_zero(&mut self, first: u64, pages: u64) -> Result<(), OutOfMemory>
         requires aligned { first % 4096 ≡ 0 }
-        requires low { first + 4096 * pages ≤ 2 ^ 38 }
+        requires low { first + 4096 * pages ≤ address_end }
         requires free { IsFree (bytes self.old) first (4096 * pages) }
         ensures ok { OnOk result (bytes self.new ≡ with_bytes (bytes self.old) first (zeros (4096 * pages))) }
         ensures err { OnErr result (bytes self.new ≡ bytes self.old) };

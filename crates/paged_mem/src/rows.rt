@@ -2,7 +2,7 @@
 
 ghost use Rattle.std.specs.Prelude.{◌≡◌, ℕ, ◌+◌, ◌/◌, ◌^◌, ◌<◌, IfSome, List, Some};
 ghost use Rattle.paged_mem.specs.Inside.Entries.{AreRowsOf, Entry, IsHeldPage, IsRowOf};
-ghost use Rattle.paged_mem.specs.Inside.Flat.{AreLow, Rises, place};
+ghost use Rattle.paged_mem.specs.Inside.Flat.{AreLow, Rises, page_index};
 
 use crate::PAGE;
 
@@ -33,7 +33,7 @@ impl PageRow {
 #[inline(always)]
 pub fn find_in(row: PageRow, at: u64) -> Option<usize>
     requires { row.index + row.size < 2 ^ 64 }
-    ensures { (pages : List ℕ) → Rises pages → IsRowOf pages row → IfSome result (λ index. place pages (at / 4096) ≡ Some index) }
+    ensures { (pages : List ℕ) → Rises pages → IsRowOf pages row → IfSome result (λ index. page_index pages (at / 4096) ≡ Some index) }
 {
     let ahead = at.wrapping_sub(row.base);
     if ahead < row.size {
@@ -139,7 +139,7 @@ impl Rows {
         requires first { self.now.first.index + self.now.first.size < 2 ^ 64 }
         requires second { self.now.second.index + self.now.second.size < 2 ^ 64 }
         requires last { self.now.last.index + self.now.last.size < 2 ^ 64 }
-        ensures { (pages : List ℕ) → Rises pages → AreRowsOf pages self.now → IfSome result (λ index. place pages (at / 4096) ≡ Some index) }
+        ensures { (pages : List ℕ) → Rises pages → AreRowsOf pages self.now → IfSome result (λ index. page_index pages (at / 4096) ≡ Some index) }
     {
         // The compiler knows this index, and adds nothing for it.
         let first = PageRow {

@@ -4,9 +4,9 @@ use Rattle.std.specs.Bool.{OnTrue}
 use Rattle.ddc_base.specs.declared.outside.PutFail.{PutFail}
 use Rattle.ddc_base.specs.declared.outside.PutFail.TheVariants as putting
 use Rattle.ddc_base.specs.Outside.{SinkState, after_piece}
-use Rattle.prompt.specs.Prompts.{PromptState, after_line, asked_of, left_after}
+use Rattle.prompt.specs.Prompts.{PromptState, after_line, asked_of, unread_after}
 use Rattle.prompt.specs.Converses.{Converses, Exchanged, after_pieces, after_talk}
-use Rattle.prompt.specs.Talks.{Talk, hears, replies, heard, led_by, left_following, pieces_of, talk}
+use Rattle.prompt.specs.Talks.{Talk, hears, replies, heard, led_by, unread_following, pieces_of, talk}
 use Rattle.prompt.specs.Inside.Turns.{GoesOn, Turns}
 
 -- what is said of a prompt that tells
@@ -29,85 +29,85 @@ moved P tells other is p = subst (λ b. OnTrue b P) is p
 
 put-more : (done more : Talk) (sink : SinkState) → after_pieces (pieces_of more) (after_pieces (pieces_of done) sink) ≡ after_pieces (pieces_of (done ++ more)) sink
 put-more [] more sink = refl
-put-more (hears left ∷ done) more sink = put-more done more sink
+put-more (hears unread ∷ done) more sink = put-more done more sink
 put-more (replies piece ∷ done) more sink = put-more done more (after_piece piece sink)
 
-following-more : (done more : Talk) (left : List ℕ) → left_following more (left_following done left) ≡ left_following (done ++ more) left
-following-more [] more left = refl
-following-more (hears now ∷ done) more left = following-more done more now
-following-more (replies piece ∷ done) more left = following-more done more left
+following-more : (done more : Talk) (unread : List ℕ) → unread_following more (unread_following done unread) ≡ unread_following (done ++ more) unread
+following-more [] more unread = refl
+following-more (hears now ∷ done) more unread = following-more done more now
+following-more (replies piece ∷ done) more unread = following-more done more unread
 
-asked-more : (done more : Talk) (tells : Bool) (left : List ℕ) (faults : ℕ)
-    → after_talk more (after_talk done (record { tells = tells; left = left; faults = faults })) ≡ after_talk (done ++ more) (record { tells = tells; left = left; faults = faults })
-asked-more done more true left faults = ap (λ l. record { tells = true; left = l; faults = faults }) (following-more done more left)
-asked-more done more false left faults = refl
+asked-more : (done more : Talk) (tells : Bool) (unread : List ℕ) (faults : ℕ)
+    → after_talk more (after_talk done (record { tells = tells; unread = unread; faults = faults })) ≡ after_talk (done ++ more) (record { tells = tells; unread = unread; faults = faults })
+asked-more done more true unread faults = ap (λ l. record { tells = true; unread = l; faults = faults }) (following-more done more unread)
+asked-more done more false unread faults = refl
 
 and_more : (done more : Talk) (before mid after : SinkState) (old at new : PromptState) → Exchanged done before mid old at → Exchanged more mid after at new → Exchanged (done ++ more) before after old new
 and_more done more before mid after old at new first second = record {
   put = second.put ∙ ap (after_pieces (pieces_of more)) first.put ∙ put-more done more before;
-  asked = second.asked ∙ ap (after_talk more) first.asked ∙ asked-more done more old.tells old.left old.faults;
+  asked = second.asked ∙ ap (after_talk more) first.asked ∙ asked-more done more old.tells old.unread old.faults;
 }
 
 -- after a line that was asked for
-left-told : (old new : PromptState) → IsTrue old.tells → new ≡ after_line old → new.left ≡ left_after old.left
-left-told old new told is = ap (λ p. p.left) is ∙ rw told refl
+unread-told : (old new : PromptState) → IsTrue old.tells → new ≡ after_line old → new.unread ≡ unread_after old.unread
+unread-told old new told is = ap (λ p. p.unread) is ∙ rw told refl
 
-starts : {S : Type 0} (answered : S → List ℕ → List ℕ × S) (state : S) (lines : ℕ) (left : List ℕ)
-    → talk answered state (suc lines) left ≡ hears (left_after left) ∷ led_by answered (λ next. talk answered next lines (left_after left)) state (heard (asked_of left))
+starts : {S : Type 0} (answered : S → List ℕ → List ℕ × S) (state : S) (lines : ℕ) (unread : List ℕ)
+    → talk answered state (suc lines) unread ≡ hears (unread_after unread) ∷ led_by answered (λ next. talk answered next lines (unread_after unread)) state (heard (asked_of unread))
 unfolding talk
-starts answered state lines left = refl
+starts answered state lines unread = refl
 
 module _ {S : Type 0} (answered : S → List ℕ → List ℕ × S) (state : S) (lines : ℕ) (before : SinkState) (old : PromptState) where
   -- nothing was said yet
-  pub begins : (left : ℕ) → left ≡ lines → GoesOn answered state state lines left before before old old
-  begins left is = record {
+  pub begins : (unread : ℕ) → unread ≡ lines → GoesOn answered state state lines unread before before old old
+  begins unread is = record {
     done = [];
-    held = record { put = refl; asked = unasked old.tells old.left old.faults };
-    told = always old.tells (ap (λ n. talk answered state n old.left) (sym is));
+    held = record { put = refl; asked = unasked old.tells old.unread old.faults };
+    told = always old.tells (ap (λ n. talk answered state n old.unread) (sym is));
   } where
-    unasked : (tells : Bool) (left : List ℕ) (faults : ℕ) → record { tells = tells; left = left; faults = faults } ≡ after_talk [] (record { tells = tells; left = left; faults = faults })
-    unasked true left faults = refl
-    unasked false left faults = refl
+    unasked : (tells : Bool) (unread : List ℕ) (faults : ℕ) → record { tells = tells; unread = unread; faults = faults } ≡ after_talk [] (record { tells = tells; unread = unread; faults = faults })
+    unasked true unread faults = refl
+    unasked false unread faults = refl
 
-  module _ (now next : S) (here left : ℕ) (is : here ≡ suc left) (mid after : SinkState) (at new : PromptState) where
-    there : GoesOn answered state now lines here before mid old at → GoesOn answered state now lines (suc left) before mid old at
+  module _ (now next : S) (here unread : ℕ) (is : here ≡ suc unread) (mid after : SinkState) (at new : PromptState) where
+    there : GoesOn answered state now lines here before mid old at → GoesOn answered state now lines (suc unread) before mid old at
     there g = subst (λ n. GoesOn answered state now lines n before mid old at) is g
 
-    tells-stay : (g : GoesOn answered state now lines (suc left) before mid old at) → at.tells ≡ old.tells
+    tells-stay : (g : GoesOn answered state now lines (suc unread) before mid old at) → at.tells ≡ old.tells
     tells-stay g = ap (λ p. p.tells) g.held.asked
 
     -- one more turn
-    turned : GoesOn answered state now lines here before mid old at → Turns answered now next mid after at new (Ok true) → GoesOn answered state next lines left before after old new
-    turned at_here t = (let g = there at_here in let turn : Talk = hears (left_after at.left) ∷ replies t.by_result.1 ∷ [] in record {
+    turned : GoesOn answered state now lines here before mid old at → Turns answered now next mid after at new (Ok true) → GoesOn answered state next lines unread before after old new
+    turned at_here t = (let g = there at_here in let turn : Talk = hears (unread_after at.unread) ∷ replies t.by_result.1 ∷ [] in record {
       done = g.done ++ turn;
       held = and_more g.done turn before mid after old at new g.held (record { put = t.by_result.2; asked = t.by_result.0 });
       told = both old.tells g.told (moved _ at.tells old.tells (tells-stay g) t.by_result.3) (λ told whole one.
           whole
-          ∙ ap (λ t. g.done ++ t) (one left)
-          ∙ sym (append_assoc g.done turn (talk answered next left (left_after at.left)))
-          ∙ ap (λ l. (g.done ++ turn) ++ talk answered next left l) (sym (left-told at new (tells-stay g ∙ told) t.by_result.0)));
+          ∙ ap (λ t. g.done ++ t) (one unread)
+          ∙ sym (append_assoc g.done turn (talk answered next unread (unread_after at.unread)))
+          ∙ ap (λ l. (g.done ++ turn) ++ talk answered next unread l) (sym (unread-told at new (tells-stay g ∙ told) t.by_result.0)));
     })
 
     -- the last turn
     ended : GoesOn answered state now lines here before mid old at → Turns answered now next mid after at new (Ok false) → Converses (talk answered state lines) before after old new (Ok tt)
-    ended at_here t = (let g = there at_here in let turn : Talk = hears (left_after at.left) ∷ [] in record {
+    ended at_here t = (let g = there at_here in let turn : Talk = hears (unread_after at.unread) ∷ [] in record {
       by_result = record {
         done = g.done ++ turn;
         held = and_more g.done turn before mid after old at new g.held (record { put = t.by_result.1; asked = t.by_result.0 });
-        told = both old.tells g.told (moved _ at.tells old.tells (tells-stay g) t.by_result.2) (λ told whole one. whole ∙ ap (λ t. g.done ++ t) (one left));
+        told = both old.tells g.told (moved _ at.tells old.tells (tells-stay g) t.by_result.2) (λ told whole one. whole ∙ ap (λ t. g.done ++ t) (one unread));
       };
     })
 
     -- a turn that was cut
-    cut : (fail : PutFail) → GoesOn answered state now lines (suc left) before mid old at → Turns answered now next mid after at new (Err fail)
+    cut : (fail : PutFail) → GoesOn answered state now lines (suc unread) before mid old at → Turns answered now next mid after at new (Err fail)
         → Converses (talk answered state lines) before after old new (Err fail)
-    cut putting.OutOfMemory g t = (let turn : Talk = hears (left_after at.left) ∷ [] in let rest : Talk = led_by answered (λ s. talk answered s left (left_after at.left)) now (heard (asked_of at.left)) in record {
+    cut putting.OutOfMemory g t = (let turn : Talk = hears (unread_after at.unread) ∷ [] in let rest : Talk = led_by answered (λ s. talk answered s unread (unread_after at.unread)) now (heard (asked_of at.unread)) in record {
       by_result = record {
         done = g.done ++ turn;
         held = and_more g.done turn before mid after old at new g.held (record { put = t.by_result.1; asked = t.by_result.0 });
         told = told_of old.tells g.told (λ told whole. (
           rest,
-          whole ∙ ap (λ t. g.done ++ t) (starts answered now left at.left) ∙ sym (append_assoc g.done turn rest),
+          whole ∙ ap (λ t. g.done ++ t) (starts answered now unread at.unread) ∙ sym (append_assoc g.done turn rest),
         ));
       };
     })
@@ -119,13 +119,13 @@ module _ {S : Type 0} (answered : S → List ℕ → List ℕ × S) (state : S) 
           held = record { put = asked.1 ∙ g.held.put; asked = g.held.asked };
           line = asked.0;
           told = told_of old.tells g.told (λ told whole. (
-            left_after at.left,
-            led_by answered (λ s. talk answered s left (left_after at.left)) now (heard (asked_of at.left)),
-            whole ∙ ap (λ t. g.done ++ t) (starts answered now left at.left),
+            unread_after at.unread,
+            led_by answered (λ s. talk answered s unread (unread_after at.unread)) now (heard (asked_of at.unread)),
+            whole ∙ ap (λ t. g.done ++ t) (starts answered now unread at.unread),
           ));
         });
       }
-      | inr put ↦ (let turn : Talk = hears (left_after at.left) ∷ [] in record {
+      | inr put ↦ (let turn : Talk = hears (unread_after at.unread) ∷ [] in record {
         by_result = inr (record {
           done = g.done ++ turn;
           between = mid;
@@ -133,8 +133,8 @@ module _ {S : Type 0} (answered : S → List ℕ → List ℕ × S) (state : S) 
           piece = put.1;
           put = put.2;
           told = both old.tells g.told (moved _ at.tells old.tells (tells-stay g) put.3) (λ told whole one. (
-            (one left).0,
-            whole ∙ ap (λ t. g.done ++ t) (one left).1 ∙ sym (append_assoc g.done turn (replies put.1 ∷ (one left).0)),
+            (one unread).0,
+            whole ∙ ap (λ t. g.done ++ t) (one unread).1 ∙ sym (append_assoc g.done turn (replies put.1 ∷ (one unread).0)),
           ));
         });
       })
@@ -146,7 +146,7 @@ module _ {S : Type 0} (answered : S → List ℕ → List ℕ × S) (state : S) 
 
     -- the same, where a test says which
     pub turned_at : (goes : Bool) → goes ≡ true → GoesOn answered state now lines here before mid old at → Turns answered now next mid after at new (Ok goes)
-        → GoesOn answered state next lines left before after old new
+        → GoesOn answered state next lines unread before after old new
     turned_at goes is g t = turned g (subst (λ b. Turns answered now next mid after at new (Ok b)) is t)
 
     pub ended_at : (goes : Bool) → goes ≡ false → GoesOn answered state now lines here before mid old at → Turns answered now next mid after at new (Ok goes)
@@ -154,9 +154,9 @@ module _ {S : Type 0} (answered : S → List ℕ → List ℕ × S) (state : S) 
     ended_at goes is g t = ended g (subst (λ b. Turns answered now next mid after at new (Ok b)) is t)
 
   -- so many lines were answered
-  pub all : (now : S) (left : ℕ) → left ≡ zero → (after : SinkState) (new : PromptState) → GoesOn answered state now lines left before after old new → Converses (talk answered state lines) before after old new (Ok tt)
+  pub all : (now : S) (unread : ℕ) → unread ≡ zero → (after : SinkState) (new : PromptState) → GoesOn answered state now lines unread before after old new → Converses (talk answered state lines) before after old new (Ok tt)
   unfolding talk
-  all now left none after new at_left = (let g : GoesOn answered state now lines zero before after old new = subst (λ n. GoesOn answered state now lines n before after old new) none at_left in record {
+  all now unread none after new at_left = (let g : GoesOn answered state now lines zero before after old new = subst (λ n. GoesOn answered state now lines n before after old new) none at_left in record {
     by_result = record {
       done = g.done;
       held = g.held;

@@ -2,7 +2,7 @@
 use Rattle.std.specs.Prelude.{◌≡◌, ◌<◌, ℕ, Option, None, Some, List, [], ◌∷◌, length}
 use Rattle.std.specs.Io.KnownBytes.{Consumes, IsAtEnd}
 use Rattle.prompt.specs.declared.asking.Asked.{Asked}
-use Rattle.prompt.specs.Prompts.{asked_of, left_after, line_size}
+use Rattle.prompt.specs.Prompts.{asked_of, unread_after, line_size}
 
 -- the next byte was consumed, or the reader is at its end
 abbrev pub TakesByte : Option (List ℕ) → Option (List ℕ) → Option ℕ → Type 0
@@ -11,10 +11,10 @@ TakesByte old new None = Consumes old new [] × IsAtEnd new
 
 -- fewer than 65,536 bytes were consumed, none of them an LF: no whole line was consumed, unless the reader is at its end
 abbrev pub TakesNoLine : Option (List ℕ) → Option (List ℕ) → Type 0
-TakesNoLine old new = (front : List ℕ) × Consumes old new front × (line_size front ≡ length front) × (length front < 65_536)
+TakesNoLine old new = (prefix : List ℕ) × Consumes old new prefix × (line_size prefix ≡ length prefix) × (length prefix < 65_536)
 
 -- the result is the first line of the remaining bytes, and that line was consumed
 abbrev pub GivesLine : Option (List ℕ) → Option (List ℕ) → Asked → Type 0
 GivesLine None new asked = Unit {0}
-GivesLine (Some left) None asked = ⊥
-GivesLine (Some left) (Some rest) asked = (asked ≡ asked_of left) × (rest ≡ left_after left)
+GivesLine (Some unread) None asked = ⊥
+GivesLine (Some unread) (Some rest) asked = (asked ≡ asked_of unread) × (rest ≡ unread_after unread)

@@ -3,7 +3,7 @@
 use Rattle.std.specs.Prelude.{ℕ, zero, suc, Option, None, Some, List, [], ◌∷◌}
 use Rattle.prompt.specs.declared.asking.Asked.{Asked}
 use Rattle.prompt.specs.declared.asking.Asked.TheVariants.{Line, TooLong, End}
-use Rattle.prompt.specs.Prompts.{asked_of, left_after}
+use Rattle.prompt.specs.Prompts.{asked_of, unread_after}
 
 -- a line is read, after which the input has these bytes left; or a segment is written
 pub data Exchange : Type 0 where
@@ -16,14 +16,14 @@ Talk = List Exchange
 
 abbrev pub pieces_of : Talk → List (List ℕ)
 pieces_of [] = []
-pieces_of (hears left ∷ rest) = pieces_of rest
+pieces_of (hears unread ∷ rest) = pieces_of rest
 pieces_of (replies piece ∷ rest) = piece ∷ pieces_of rest
 
 -- the bytes left of an input after these exchanges
-abbrev pub left_following : Talk → List ℕ → List ℕ
-left_following [] left = left
-left_following (hears now ∷ rest) left = left_following rest now
-left_following (replies piece ∷ rest) left = left_following rest left
+abbrev pub unread_following : Talk → List ℕ → List ℕ
+unread_following [] unread = unread
+unread_following (hears now ∷ rest) unread = unread_following rest now
+unread_following (replies piece ∷ rest) unread = unread_following rest unread
 
 -- the line that is answered; a line that is too long is answered like an empty one
 abbrev pub heard : Asked → Option (List ℕ)
@@ -43,6 +43,6 @@ led_by answered next state (Some line) = replied (answered state line).0 (next (
 
 -- a session of at most this many lines over the remaining bytes of an input
 unfoldable pub talk : {S : Type 0} → (S → List ℕ → List ℕ × S) → S → ℕ → List ℕ → Talk
-talk answered state zero left = []
-talk answered state (suc lines) left =
-    hears (left_after left) ∷ led_by answered (λ next. talk answered next lines (left_after left)) state (heard (asked_of left))
+talk answered state zero unread = []
+talk answered state (suc lines) unread =
+    hears (unread_after unread) ∷ led_by answered (λ next. talk answered next lines (unread_after unread)) state (heard (asked_of unread))

@@ -83,6 +83,6 @@ pub trait Prompt {
 
     /// Reads the next line. Allocates nothing.
     fn line(&mut self) -> Result<Asked, Failed>
-        ensures told { OnTrue (state self.old).tells (IfOk result (λ asked. asked ≡ asked_of (state self.old).left)) }
+        ensures told { OnTrue (state self.old).tells (IfOk result (λ asked. asked ≡ asked_of (state self.old).unread)) }
         ensures leaves { LineLeaves (state self.old) result (state self.new) };
 }

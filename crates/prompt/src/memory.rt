@@ -26,50 +26,50 @@ impl Model for MemPrompt {
 
     ghost Value = { MemoryPrompt };
 
-    ghost view = { λ p. record { left = drop p.at p.bytes; lines = p.lines; failing_lines = p.failing_lines.items; faults = p.faults } };
+    ghost view = { λ p. record { unread = drop p.at p.bytes; lines = p.lines; failing_lines = p.failing_lines.items; faults = p.faults } };
 
     ghost invariant = { λ p. p.at ≤ length p.bytes };
 }
 
 /// The offset of the first LF.
-fn place_of_lf(left: &[u8]) -> Option<usize>
-    ensures value { result ≡ position (λ byte. byte == 10) left.now }
-    ensures within { IfSome result (λ at. at < length left.now) }
+fn offset_of_lf(unread: &[u8]) -> Option<usize>
+    ensures value { result ≡ position (λ byte. byte == 10) unread.now }
+    ensures within { IfSome result (λ at. at < length unread.now) }
 {
-    left.iter().position(|byte| *byte == b'\n')
+    unread.iter().position(|byte| *byte == b'\n')
 }
 
 /// The number of bytes before the first LF, or of all bytes without an LF.
-fn line_size(left: &[u8]) -> usize
-    ensures size { result ≡ line_size left.now }
-    ensures within { result ≤ length left.now }
+fn line_size(unread: &[u8]) -> usize
+    ensures size { result ≡ line_size unread.now }
+    ensures within { result ≤ length unread.now }
 {
-    match place_of_lf(left) {
+    match offset_of_lf(unread) {
         Some(at) => at,
-        None => left.len(),
+        None => unread.len(),
     }
 }
 
 /// The result of asking for a line when these bytes are left.
-fn asked(left: &[u8]) -> Asked
-    ensures { result ≡ asked_of left.now }
+fn asked(unread: &[u8]) -> Asked
+    ensures { result ≡ asked_of unread.now }
 {
-    if left.len() == 0 {
+    if unread.len() == 0 {
         return Asked::End;
     }
-    let size = line_size(left);
+    let size = line_size(unread);
     if size <= 256 {
-        Asked::Line(Line::of(&left[..size]))
+        Asked::Line(Line::of(&unread[..size]))
     } else {
         Asked::TooLong
     }
 }
 
 /// How many of these bytes a request for a line consumes.
-fn bytes_taken(left: &[u8]) -> usize
-    ensures value { result ≡ bytes_taken left.now }
+fn bytes_taken(unread: &[u8]) -> usize
+    ensures value { result ≡ bytes_taken unread.now }
 {
-    line_size(left).saturating_add(1).min(65_536)
+    line_size(unread).saturating_add(1).min(65_536)
 }
 
 /// Whether the call with this number was set to fail.
@@ -94,8 +94,8 @@ impl MemPrompt {
     }
 
     /// The bytes that are left.
-    pub fn left(&self) -> &[u8]
-        ensures { result.now ≡ self.now.left }
+    pub fn unread(&self) -> &[u8]
+        ensures { result.now ≡ self.now.unread }
     {
         &self.bytes.as_slice()[self.at..]
     }
@@ -111,7 +111,7 @@ impl MemPrompt {
 
     /// Consumes `count` bytes, or all if fewer are left.
     fn take(&mut self, count: usize)
-        ensures { self.new ≡ record self.old { left = drop count self.old.left } }
+        ensures { self.new ≡ record self.old { unread = drop count self.old.unread } }
     {
         self.at += count.min(self.bytes.len() - self.at);
     }
@@ -121,19 +121,19 @@ impl Prompt for MemPrompt {
     ghost state = { prompt_state };
 
     fn line(&mut self) -> Result<Asked, Failed>
-        ensures told { OnTrue (prompt_state self.old).tells (IfOk result (λ asked. asked ≡ asked_of (prompt_state self.old).left)) }
+        ensures told { OnTrue (prompt_state self.old).tells (IfOk result (λ asked. asked ≡ asked_of (prompt_state self.old).unread)) }
         ensures leaves { LineLeaves (prompt_state self.old) result (prompt_state self.new) }
         ensures exact { AsksHeld self.old result self.new }
     {
         let number = self.lines.saturating_add(1);
-        let size = bytes_taken(self.left());
+        let size = bytes_taken(self.unread());
         if is_failing(number, &self.failing_lines) {
             self.take(size / 2);
             self.lines = number;
             self.faults = self.faults.saturating_add(1);
             return Err(Failed);
         }
-        let asked = asked(self.left());
+        let asked = asked(self.unread());
         self.take(size);
         self.lines = number;
         Ok(asked)

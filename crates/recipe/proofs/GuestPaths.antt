@@ -9,7 +9,7 @@ use Rattle.recipe.specs.Text.Reading.{is_path, is_path_byte}
 use Rattle.recipe.proofs.TextLemmas.Accepted.{both_true, path_of_ok}
 use Rattle.recipe.specs.declared.parts.Output.{Output}
 use Rattle.recipe.specs.declared.parts.Output.TheVariants.{Stream, File}
-use Rattle.recipe.specs.Tables.{guest_path, output_said}
+use Rattle.recipe.specs.Tables.{guest_path, output_parsed}
 use Rattle.recipe.specs.Kept.{IsGuestPath, IsOutput}
 
 not_zero : (byte : ℕ) → is_path_byte byte ≡ true → (byte == 0) ≡ false
@@ -48,5 +48,5 @@ either_ok : (dash : Bool) (found : Option (List ℕ)) (output : Output) → ((pa
 either_ok true found output is e = subst IsOutput (some_same Stream output e) tt
 either_ok false found output is e = file_ok found output is e
 
-pub output_ok : (text : List ℕ) (output : Output) → output_said text ≡ Some output → IsOutput output
+pub output_ok : (text : List ℕ) (output : Output) → output_parsed text ≡ Some output → IsOutput output
 output_ok text output e = either_ok (bytes_eq text (codes "-")) (guest_path text) output (guest_path_ok text) e

@@ -20,13 +20,13 @@ use Rattle.recipe.specs.Reading.{first_walk, recipe_of}
 use Rattle.recipe.specs.SecondWalk.{second_walk}
 use Rattle.recipe.specs.Tables.{top_place, input_place, source_place, stage_place, Top, top_table, next_input, next_source, next_stage, compare_place, stages_key, is_among, next_stage_name, some_stage_names, one_stage, compared_stages, compare_table, IsFormat}
 use Rattle.recipe.proofs.DistinctNames.{not_false, distinct_push, names_of, input_added, source_added, stage_added}
-use Rattle.recipe.proofs.FirstWalk.{InputSaid, input_said, SourceSaid, source_said, StageSaid, stage_said}
+use Rattle.recipe.proofs.FirstWalk.{InputParsed, input_parsed, SourceParsed, source_parsed, StageParsed, stage_parsed}
 use Rattle.recipe.proofs.SecondWalk.{all_at, source_there, stage_refers_at, argued_at, walked}
 use Rattle.recipe.specs.declared.text.refusal.RecipeRefusal.{RecipeRefusal}
 
 -- ---- the top
 
-record TopSaid (top : Top) : Type 0 where
+record TopParsed (top : Top) : Type 0 where
   format : IsFormat top.format
   inputs : Few 1 256 (length top.inputs)
   sources : length top.sources ≤ 256
@@ -42,9 +42,9 @@ one_or_two n least most = elim (cases_lt n 2) [
   | inr more ↦ inr (omega arith)
 ]
 
-top_said : (table : Members) (top : Top) → top_table table ≡ Ok top → TopSaid top
+top_parsed : (table : Members) (top : Top) → top_table table ≡ Ok top → TopParsed top
 unfolding top_table
-top_said table top e =
+top_parsed table top e =
     bound _ (required (a_number 1 2) top_place key.Format table) _ top e (λ format format_is rest1.
     bound _ (required (a_list a_table 1 256) top_place key.Input table) _ top rest1 (λ inputs inputs_is rest2.
     bound _ (optional (a_list a_table 0 256) top_place key.Source table) _ top rest2 (λ sources sources_is rest3.
@@ -55,7 +55,7 @@ top_said table top e =
     let range = number_ok 1 2 top_place key.Format format_at.0 format format_at.1 in
     let inputs_at = required_ok (a_list a_table 1 256) top_place key.Input table inputs inputs_is in
     let stages_at = required_ok (a_list a_table 1 256) top_place key.Stage table stages stages_is in
-    subst TopSaid (ok_same (record { format = format; inputs = inputs; sources = unwrap_or sources []; stages = stages; compare = compare }) top rest6)
+    subst TopParsed (ok_same (record { format = format; inputs = inputs; sources = unwrap_or sources []; stages = stages; compare = compare }) top rest6)
     (record {
       format = one_or_two format range.0 range.1;
       inputs = (list_ok a_table 1 256 top_place key.Input inputs_at.0 inputs inputs_at.1).0;
@@ -66,7 +66,7 @@ top_said table top e =
 -- ---- compare
 
 -- of format 1 or of format 2
-record StagesSaid (one : Bool) (stages : List (List ℕ)) : Type 0 where
+record StagesParsed (one : Bool) (stages : List (List ℕ)) : Type 0 where
   some : 1 ≤ length stages
   few : length stages ≤ cond one 1 16
   once : IsDistinct bytes_eq stages
@@ -78,9 +78,9 @@ name_added before value name distinct e =
     let read = bind_unless (a_name compare_place key.Stages value) (DoubleName compare_place key.Stages) (λ name. not (is_among before name)) name e in
     distinct_push before name distinct (not_false (is_among before name) read.1)
 
-names_said : (value : Data) (names : List (List ℕ)) → some_stage_names compare_place key.Stages value ≡ Ok names → StagesSaid false names
+names_parsed : (value : Data) (names : List (List ℕ)) → some_stage_names compare_place key.Stages value ≡ Ok names → StagesParsed false names
 unfolding some_stage_names IsDistinct
-names_said value names e =
+names_parsed value names e =
     bound _ (an_array 1 16 compare_place key.Stages value) _ names e (λ values values_is rest.
     let count = array_ok 1 16 compare_place key.Stages value values values_is in
     let long = gathered_length (next_stage_name compare_place key.Stages) [] values names rest in
@@ -90,58 +90,58 @@ names_said value names e =
       once = gathered_keeps (λ names. IsDistinct bytes_eq names) (next_stage_name compare_place key.Stages) [] values names name_added tt rest;
     })
 
-stages_said : (one : Bool) (table : Members) (stages : List (List ℕ)) → cond one (one_stage table) (required some_stage_names compare_place key.Stages table) ≡ Ok stages
-    → StagesSaid one stages
+stages_parsed : (one : Bool) (table : Members) (stages : List (List ℕ)) → cond one (one_stage table) (required some_stage_names compare_place key.Stages table) ≡ Ok stages
+    → StagesParsed one stages
 unfolding IsDistinct
-stages_said true table stages e =
+stages_parsed true table stages e =
     bound _ (required a_name compare_place key.Stage table) _ stages e (λ stage stage_is rest.
-    subst (StagesSaid true) (ok_same (stage ∷ []) stages rest) (record { some = omega arith; few = omega arith; once = (tt, tt) }))
-stages_said false table stages e =
+    subst (StagesParsed true) (ok_same (stage ∷ []) stages rest) (record { some = omega arith; few = omega arith; once = (tt, tt) }))
+stages_parsed false table stages e =
     let at = required_ok some_stage_names compare_place key.Stages table stages e in
-    names_said at.0 stages at.1
+    names_parsed at.0 stages at.1
 
-compare_said : (format : ℕ) (table : Members) (compare : Compare) → compare_table format table ≡ Ok compare → StagesSaid (format == 1) compare.stages
+compare_parsed : (format : ℕ) (table : Members) (compare : Compare) → compare_table format table ≡ Ok compare → StagesParsed (format == 1) compare.stages
 unfolding compare_table compared_stages
-compare_said format table compare e =
+compare_parsed format table compare e =
     bound _ (compared_stages format table) _ compare e (λ stages stages_is rest1.
     bound _ (required a_name compare_place key.Binary table) _ compare rest1 (λ binary binary_is rest2.
     bound _ (no_other_key compare_place (stages_key format ∷ key.Binary ∷ []) table) _ compare rest2 (λ other closed_is rest3.
-    subst (λ c. StagesSaid (format == 1) c.stages) (ok_same (record { stages = stages; binary = binary }) compare rest3) (stages_said (format == 1) table stages stages_is))))
+    subst (λ c. StagesParsed (format == 1) c.stages) (ok_same (record { stages = stages; binary = binary }) compare rest3) (stages_parsed (format == 1) table stages stages_is))))
 
 -- ---- the first walk
 
-record FirstSaid (said : RecipeContents) : Type 0 where
-  format : IsFormat said.format
-  compare : StagesSaid (said.format == 1) said.compare.stages
-  digest : (bytes : List ℕ) × (said.digest.0 ≡ sha256 bytes)
-  few_inputs : Few 1 256 (length said.inputs)
-  few_sources : length said.sources ≤ 256
-  few_stages : Few 1 256 (length said.stages)
-  names : IsDistinct bytes_eq (names_of said.inputs said.sources said.stages)
-  inputs : (i : ℕ) (input : Input) → slice_get said.inputs i ≡ Some input → (before : List Input) × InputSaid before input
-  sources : (i : ℕ) (source : Source) → slice_get said.sources i ≡ Some source → (before : List Source) × SourceSaid said.inputs before source
-  stages : (i : ℕ) (stage : Stage) → slice_get said.stages i ≡ Some stage → (before : List Stage) × StageSaid said.inputs said.sources before stage
+record FirstParsed (parsed : RecipeContents) : Type 0 where
+  format : IsFormat parsed.format
+  compare : StagesParsed (parsed.format == 1) parsed.compare.stages
+  digest : (bytes : List ℕ) × (parsed.digest.0 ≡ sha256 bytes)
+  few_inputs : Few 1 256 (length parsed.inputs)
+  few_sources : length parsed.sources ≤ 256
+  few_stages : Few 1 256 (length parsed.stages)
+  names : IsDistinct bytes_eq (names_of parsed.inputs parsed.sources parsed.stages)
+  inputs : (i : ℕ) (input : Input) → slice_get parsed.inputs i ≡ Some input → (before : List Input) × InputParsed before input
+  sources : (i : ℕ) (source : Source) → slice_get parsed.sources i ≡ Some source → (before : List Source) × SourceParsed parsed.inputs before source
+  stages : (i : ℕ) (stage : Stage) → slice_get parsed.stages i ≡ Some stage → (before : List Stage) × StageParsed parsed.inputs parsed.sources before stage
 
-input_next : (before : List Input) (table : Members) (input : Input) → next_input before table ≡ Ok input → InputSaid before input
-input_next before table input e = input_said before (input_place (length before + 1)) table input e
+input_next : (before : List Input) (table : Members) (input : Input) → next_input before table ≡ Ok input → InputParsed before input
+input_next before table input e = input_parsed before (input_place (length before + 1)) table input e
 
-source_next : (inputs : List Input) (before : List Source) (table : Members) (source : Source) → next_source inputs before table ≡ Ok source → SourceSaid inputs before source
-source_next inputs before table source e = source_said inputs before (source_place (length before + 1)) table source e
+source_next : (inputs : List Input) (before : List Source) (table : Members) (source : Source) → next_source inputs before table ≡ Ok source → SourceParsed inputs before source
+source_next inputs before table source e = source_parsed inputs before (source_place (length before + 1)) table source e
 
 stage_next : (inputs : List Input) (sources : List Source) (before : List Stage) (table : Members) (stage : Stage) → next_stage inputs sources before table ≡ Ok stage
-    → StageSaid inputs sources before stage
-stage_next inputs sources before table stage e = stage_said inputs sources before (stage_place (length before + 1)) table stage e
+    → StageParsed inputs sources before stage
+stage_next inputs sources before table stage e = stage_parsed inputs sources before (stage_place (length before + 1)) table stage e
 
-walked_first : (bytes : List ℕ) (said : RecipeContents) → first_walk bytes ≡ Ok said → FirstSaid said
+walked_first : (bytes : List ℕ) (parsed : RecipeContents) → first_walk bytes ≡ Ok parsed → FirstParsed parsed
 unfolding first_walk IsDistinct
-walked_first bytes said e =
-    bound _ (document_of bytes) _ said e (λ document document_is rest1.
-    bound _ (top_table document) _ said rest1 (λ top top_is rest2.
-    bound _ (gathered next_input [] top.inputs) _ said rest2 (λ inputs inputs_is rest3.
-    bound _ (gathered (next_source inputs) [] top.sources) _ said rest3 (λ sources sources_is rest4.
-    bound _ (gathered (next_stage inputs sources) [] top.stages) _ said rest4 (λ stages stages_is rest5.
-    bound _ (compare_table top.format top.compare) _ said rest5 (λ compare compare_is rest6.
-    let top_said = top_said document top top_is in
+walked_first bytes parsed e =
+    bound _ (document_of bytes) _ parsed e (λ document document_is rest1.
+    bound _ (top_table document) _ parsed rest1 (λ top top_is rest2.
+    bound _ (gathered next_input [] top.inputs) _ parsed rest2 (λ inputs inputs_is rest3.
+    bound _ (gathered (next_source inputs) [] top.sources) _ parsed rest3 (λ sources sources_is rest4.
+    bound _ (gathered (next_stage inputs sources) [] top.stages) _ parsed rest4 (λ stages stages_is rest5.
+    bound _ (compare_table top.format top.compare) _ parsed rest5 (λ compare compare_is rest6.
+    let top_parsed = top_parsed document top top_is in
     let inputs_long = gathered_length next_input [] top.inputs inputs inputs_is in
     let sources_long = gathered_length (next_source inputs) [] top.sources sources sources_is in
     let stages_long = gathered_length (next_stage inputs sources) [] top.stages stages stages_is in
@@ -151,30 +151,30 @@ walked_first bytes said e =
     (λ before table source distinct is. source_added inputs before source distinct (source_next inputs before table source is).name.is_new) input_names sources_is in
     let stage_names = gathered_keeps (λ found. IsDistinct bytes_eq (names_of inputs sources found)) (next_stage inputs sources) [] top.stages stages
     (λ before table stage distinct is. stage_added inputs sources before stage distinct (stage_next inputs sources before table stage is).name.is_new) source_names stages_is in
-    subst FirstSaid (ok_same (record { digest = record { 0 = sha256 bytes }; format = top.format; inputs = inputs; sources = sources; stages = stages; compare = compare }) said rest6)
+    subst FirstParsed (ok_same (record { digest = record { 0 = sha256 bytes }; format = top.format; inputs = inputs; sources = sources; stages = stages; compare = compare }) parsed rest6)
     (record {
-      format = top_said.format;
-      compare = compare_said top.format top.compare compare compare_is;
+      format = top_parsed.format;
+      compare = compare_parsed top.format top.compare compare compare_is;
       digest = (bytes, refl);
-      few_inputs = record { some = omega (arith, top_said.inputs.some, inputs_long); few = omega (arith, top_said.inputs.few, inputs_long) };
-      few_sources = omega (arith, top_said.sources, sources_long);
-      few_stages = record { some = omega (arith, top_said.stages.some, stages_long); few = omega (arith, top_said.stages.few, stages_long) };
+      few_inputs = record { some = omega (arith, top_parsed.inputs.some, inputs_long); few = omega (arith, top_parsed.inputs.few, inputs_long) };
+      few_sources = omega (arith, top_parsed.sources, sources_long);
+      few_stages = record { some = omega (arith, top_parsed.stages.some, stages_long); few = omega (arith, top_parsed.stages.few, stages_long) };
       names = stage_names;
-      inputs = gathered_each (λ input. (before : List Input) × InputSaid before input) next_input top.inputs inputs
+      inputs = gathered_each (λ input. (before : List Input) × InputParsed before input) next_input top.inputs inputs
           (λ before table input is. (before, input_next before table input is)) inputs_is;
-      sources = gathered_each (λ source. (before : List Source) × SourceSaid inputs before source) (next_source inputs) top.sources sources
+      sources = gathered_each (λ source. (before : List Source) × SourceParsed inputs before source) (next_source inputs) top.sources sources
           (λ before table source is. (before, source_next inputs before table source is)) sources_is;
-      stages = gathered_each (λ stage. (before : List Stage) × StageSaid inputs sources before stage) (next_stage inputs sources) top.stages stages
+      stages = gathered_each (λ stage. (before : List Stage) × StageParsed inputs sources before stage) (next_stage inputs sources) top.stages stages
           (λ before table stage is. (before, stage_next inputs sources before table stage is)) stages_is;
     })))))))
 
 -- ---- both
 
-stage_kept : (said : RecipeContents) (i : ℕ) (stage : Stage) → FirstSaid said → second_walk said ≡ Ok tt → slice_get said.stages i ≡ Some stage → IsStage said (take i said.stages) stage
-stage_kept said i stage first second is =
-    let walk = walked said second in
+stage_kept : (parsed : RecipeContents) (i : ℕ) (stage : Stage) → FirstParsed parsed → second_walk parsed ≡ Ok tt → slice_get parsed.stages i ≡ Some stage → IsStage parsed (take i parsed.stages) stage
+stage_kept parsed i stage first second is =
+    let walk = walked parsed second in
     let told = (first.stages i stage is).1 in
-    let refers = stage_refers_at said i stage walk.stages is in
+    let refers = stage_refers_at parsed i stage walk.stages is in
     record {
       name = told.name.is_name;
       program = refers.program;
@@ -192,13 +192,13 @@ stage_kept said i stage first second is =
       heap = told.heap;
       check = refers.check;
       becomes = refers.becomes;
-      argued = argued_at said i stage walk.argued is refers.program;
+      argued = argued_at parsed i stage walk.argued is refers.program;
     }
 
-pub keeps : (bytes : List ℕ) (said : RecipeContents) → first_walk bytes ≡ Ok said → second_walk said ≡ Ok tt → IsRecipe said
-keeps bytes said is second =
-    let first = walked_first bytes said is in
-    let walk = walked said second in
+pub keeps : (bytes : List ℕ) (parsed : RecipeContents) → first_walk bytes ≡ Ok parsed → second_walk parsed ≡ Ok tt → IsRecipe parsed
+keeps bytes parsed is second =
+    let first = walked_first bytes parsed is in
+    let walk = walked parsed second in
     record {
       format = first.format;
       digest = first.digest;
@@ -211,16 +211,16 @@ keeps bytes said is second =
       inputs = λ i input at. let told = (first.inputs i input at).1 in record {
         name = told.name.is_name;
         path = told.path;
-        implements = source_there said.sources _ _ input.implements (passes_at _ 1 said.inputs i input walk.inputs at);
+        implements = source_there parsed.sources _ _ input.implements (passes_at _ 1 parsed.inputs i input walk.inputs at);
       };
       sources = λ i source at. let told = (first.sources i source at).1 in record {
         name = told.name.is_name;
         base = told.base;
         some_files = told.files.some;
         few_files = told.files.few;
-        files = all_at _ source.files (unless_ok _ _ tt (passes_at _ 1 said.sources i source walk.sources at));
+        files = all_at _ source.files (unless_ok _ _ tt (passes_at _ 1 parsed.sources i source walk.sources at));
       };
-      stages = λ i stage at. stage_kept said i stage first second at;
+      stages = λ i stage at. stage_kept parsed i stage first second at;
       some_compared = first.compare.some;
       few_compared = first.compare.few;
       compared_once = first.compare.once;
@@ -229,11 +229,11 @@ keeps bytes said is second =
     }
 
 -- what bytes that read say is a recipe
-pub reads_keep : (bytes : List ℕ) (said : RecipeContents) → recipe_of bytes ≡ Ok said → IsRecipe said
+pub reads_keep : (bytes : List ℕ) (parsed : RecipeContents) → recipe_of bytes ≡ Ok parsed → IsRecipe parsed
 unfolding recipe_of
-reads_keep bytes said is = bound (IsRecipe said) (first_walk bytes) (λ read. second_walk read >> Ok read) said is (λ read walked ends. by read walked (second_walk read) refl ends) where
-  by : (read : RecipeContents) → first_walk bytes ≡ Ok read → (second : Result (Unit {0}) RecipeRefusal) → second_walk read ≡ second → (second >> Ok read) ≡ Ok said → IsRecipe said
+reads_keep bytes parsed is = bound (IsRecipe parsed) (first_walk bytes) (λ read. second_walk read >> Ok read) parsed is (λ read walked ends. by read walked (second_walk read) refl ends) where
+  by : (read : RecipeContents) → first_walk bytes ≡ Ok read → (second : Result (Unit {0}) RecipeRefusal) → second_walk read ≡ second → (second >> Ok read) ≡ Ok parsed → IsRecipe parsed
   by read walked (Ok u) passed ends =
-      let same : read ≡ said = cc in
-      keeps bytes said (walked ∙ ap Ok same) (subst (λ (s : RecipeContents). second_walk s ≡ Ok u) same passed)
+      let same : read ≡ parsed = cc in
+      keeps bytes parsed (walked ∙ ap Ok same) (subst (λ (s : RecipeContents). second_walk s ≡ Ok u) same passed)
   by read walked (Err refusal) passed ends = absurd cc

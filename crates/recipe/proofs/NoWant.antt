@@ -5,6 +5,7 @@ use Rattle.std.specs.List.{list_all}
 use Rattle.ddc_base.specs.Results.{error_unless, or_error}
 use Rattle.toml.specs.Data.{Data, Members, get_member, as_str}
 use Rattle.ddc_base.specs.Names.{name_of}
+use Rattle.ddc_base.specs.Limits.{most_address, most_heap, most_steps}
 use Rattle.recipe.specs.declared.text.keys.Key.{Key}
 use Rattle.recipe.specs.declared.text.keys.Key.TheVariants as key
 use Rattle.recipe.specs.declared.text.keys.Place.{Place}
@@ -22,7 +23,7 @@ use Rattle.recipe.specs.declared.parts.StageFile.{StageFile}
 use Rattle.recipe.specs.Lookups.{source_named, content_named, content_source, input_at}
 use Rattle.recipe.specs.Reading.{first_walk, recipe_of}
 use Rattle.recipe.specs.SecondWalk.{is_content, refers_to_source, input_refers, source_refers, is_defined, checks_source, check_refers, stage_refers_after, stage_refers, compare_refers, has_source, is_argued, program_has_source, is_stage, second_walk}
-use Rattle.recipe.specs.Tables.{top_place, input_place, source_place, stage_place, compare_place, top_table, is_taken, a_new_name, input_table, next_input, source_language, a_language, source_table, next_source, guest_path, is_file_path, entry_text, next_file, some_files, output_said, an_output, stage_table, next_stage, stages_key, is_among, next_stage_name, some_stage_names, one_stage, compared_stages, compare_table}
+use Rattle.recipe.specs.Tables.{top_place, input_place, source_place, stage_place, compare_place, top_table, is_taken, a_new_name, input_table, next_input, source_language, a_language, source_table, next_source, guest_path, is_file_path, entry_text, next_file, some_files, output_parsed, an_output, stage_table, next_stage, stages_key, is_among, next_stage_name, some_stage_names, one_stage, compared_stages, compare_table}
 
 -- ---- the first walk
 
@@ -67,7 +68,7 @@ unfolding source_table
 sated_source inputs sources place table =
     sated_bind (required (a_new_name inputs sources []) place key.Name table) _ (sated_new_name inputs sources [] place table) (λ name.
     sated_bind (required a_language place key.Lang table) _ (sated_required a_language place key.Lang table (sated_language place key.Lang)) (λ lang.
-    sated_bind (optional (a_number 0 (2 ^ 37)) place key.Base table) _ (sated_optional (a_number 0 (2 ^ 37)) place key.Base table (sated_number 0 (2 ^ 37) place key.Base)) (λ base.
+    sated_bind (optional (a_number 0 most_address) place key.Base table) _ (sated_optional (a_number 0 most_address) place key.Base table (sated_number 0 most_address place key.Base)) (λ base.
     sated_bind (required (a_list a_name 1 64) place key.Files table) _
     (sated_required (a_list a_name 1 64) place key.Files table (λ value. sated_list a_name 1 64 place key.Files value (sated_name place key.Files))) (λ files.
     sated_bind (no_other_key place (key.Name ∷ key.Lang ∷ key.Base ∷ key.Files ∷ []) table) _ (sated_no_other_key place (key.Name ∷ key.Lang ∷ key.Base ∷ key.Files ∷ []) table) (λ other. sated_ok _)))))
@@ -92,7 +93,7 @@ sated_files place k value = sated_bind (an_array 0 256 place k value) _ (sated_a
 
 sated_output : (place : Place) (k : Key) (value : Data) → Sated (an_output place k value)
 unfolding an_output
-sated_output place k value = sated_bind (a_text place k value) _ (sated_text place k value) (λ text. sated_or (BadPath place k) (output_said text) (λ is. absurd cc))
+sated_output place k value = sated_bind (a_text place k value) _ (sated_text place k value) (λ text. sated_or (BadPath place k) (output_parsed text) (λ is. absurd cc))
 
 abbrev stage_keys : List Key
 stage_keys = key.Name ∷ key.Program ∷ key.Args ∷ key.Env ∷ key.Files ∷ key.Output ∷ key.Steps ∷ key.Heap ∷ key.Check ∷ key.Becomes ∷ []
@@ -108,8 +109,8 @@ sated_stage inputs sources stages place table =
     (sated_optional (a_list a_word 0 64) place key.Env table (λ value. sated_list a_word 0 64 place key.Env value (sated_word place key.Env))) (λ env.
     sated_bind (optional some_files place key.Files table) _ (sated_optional some_files place key.Files table (sated_files place key.Files)) (λ files.
     sated_bind (required an_output place key.Output table) _ (sated_required an_output place key.Output table (sated_output place key.Output)) (λ output.
-    sated_bind (required (a_number 1 (2 ^ 48)) place key.Steps table) _ (sated_required (a_number 1 (2 ^ 48)) place key.Steps table (sated_number 1 (2 ^ 48) place key.Steps)) (λ steps.
-    sated_bind (optional (a_number 0 (2 ^ 30)) place key.Heap table) _ (sated_optional (a_number 0 (2 ^ 30)) place key.Heap table (sated_number 0 (2 ^ 30) place key.Heap)) (λ heap.
+    sated_bind (required (a_number 1 most_steps) place key.Steps table) _ (sated_required (a_number 1 most_steps) place key.Steps table (sated_number 1 most_steps place key.Steps)) (λ steps.
+    sated_bind (optional (a_number 0 most_heap) place key.Heap table) _ (sated_optional (a_number 0 most_heap) place key.Heap table (sated_number 0 most_heap place key.Heap)) (λ heap.
     sated_bind (optional a_name place key.Check table) _ (sated_optional a_name place key.Check table (sated_name place key.Check)) (λ check.
     sated_bind (optional a_name place key.Becomes table) _ (sated_optional a_name place key.Becomes table (sated_name place key.Becomes)) (λ becomes.
     sated_bind (no_other_key place stage_keys table) _ (sated_no_other_key place stage_keys table) (λ other. sated_ok _)))))))))))
@@ -157,58 +158,58 @@ sated_reference : (sources : List Source) (place : Place) (k : Key) (name : Opti
 sated_reference sources place k None = sated_ok tt
 sated_reference sources place k (Some name) = sated_unless (NotMadeYet place k) (is_some (source_named sources name)) (λ is. absurd cc)
 
-sated_checks : (said : RecipeContents) (earlier : List Stage) (place : Place) (found : Option Source) → Sated (checks_source said earlier place found)
-sated_checks said earlier place None = sated_or {A = Unit {0}} (NotMadeYet place key.Check) None (λ is. absurd cc)
-sated_checks said earlier place (Some source) =
-    sated_bind (error_unless (NotMadeYet place key.Check) (list_all (is_content said.inputs earlier) source.files)) (λ _. error_unless (BadName place key.Check) (is_defined source.lang))
-    (sated_unless (NotMadeYet place key.Check) (list_all (is_content said.inputs earlier) source.files) (λ is. absurd cc)) (λ u.
+sated_checks : (parsed : RecipeContents) (earlier : List Stage) (place : Place) (found : Option Source) → Sated (checks_source parsed earlier place found)
+sated_checks parsed earlier place None = sated_or {A = Unit {0}} (NotMadeYet place key.Check) None (λ is. absurd cc)
+sated_checks parsed earlier place (Some source) =
+    sated_bind (error_unless (NotMadeYet place key.Check) (list_all (is_content parsed.inputs earlier) source.files)) (λ _. error_unless (BadName place key.Check) (is_defined source.lang))
+    (sated_unless (NotMadeYet place key.Check) (list_all (is_content parsed.inputs earlier) source.files) (λ is. absurd cc)) (λ u.
     sated_unless (BadName place key.Check) (is_defined source.lang) (λ is. absurd cc))
 
-sated_check : (said : RecipeContents) (earlier : List Stage) (place : Place) (check : Option (List ℕ)) → Sated (check_refers said earlier place check)
+sated_check : (parsed : RecipeContents) (earlier : List Stage) (place : Place) (check : Option (List ℕ)) → Sated (check_refers parsed earlier place check)
 unfolding check_refers
-sated_check said earlier place None = sated_ok tt
-sated_check said earlier place (Some name) = sated_checks said earlier place (source_named said.sources name)
+sated_check parsed earlier place None = sated_ok tt
+sated_check parsed earlier place (Some name) = sated_checks parsed earlier place (source_named parsed.sources name)
 
-sated_after : (said : RecipeContents) (earlier : List Stage) (place : Place) (stage : Stage) → Sated (stage_refers_after said earlier place stage)
+sated_after : (parsed : RecipeContents) (earlier : List Stage) (place : Place) (stage : Stage) → Sated (stage_refers_after parsed earlier place stage)
 unfolding stage_refers_after
-sated_after said earlier place stage =
-    sated_bind (error_unless (NotMadeYet place key.Program) (is_content said.inputs earlier stage.program)) _
-    (sated_unless (NotMadeYet place key.Program) (is_content said.inputs earlier stage.program) (λ is. absurd cc)) (λ u.
-    sated_bind (error_unless (NotMadeYet place key.Files) (list_all (λ file. is_content said.inputs earlier file.from) stage.files)) _
-    (sated_unless (NotMadeYet place key.Files) (list_all (λ file. is_content said.inputs earlier file.from) stage.files) (λ is. absurd cc)) (λ v.
-    sated_bind (check_refers said earlier place stage.check) (λ _. refers_to_source said.sources place key.Becomes stage.becomes) (sated_check said earlier place stage.check) (λ w.
-    sated_reference said.sources place key.Becomes stage.becomes)))
+sated_after parsed earlier place stage =
+    sated_bind (error_unless (NotMadeYet place key.Program) (is_content parsed.inputs earlier stage.program)) _
+    (sated_unless (NotMadeYet place key.Program) (is_content parsed.inputs earlier stage.program) (λ is. absurd cc)) (λ u.
+    sated_bind (error_unless (NotMadeYet place key.Files) (list_all (λ file. is_content parsed.inputs earlier file.from) stage.files)) _
+    (sated_unless (NotMadeYet place key.Files) (list_all (λ file. is_content parsed.inputs earlier file.from) stage.files) (λ is. absurd cc)) (λ v.
+    sated_bind (check_refers parsed earlier place stage.check) (λ _. refers_to_source parsed.sources place key.Becomes stage.becomes) (sated_check parsed earlier place stage.check) (λ w.
+    sated_reference parsed.sources place key.Becomes stage.becomes)))
 
-sated_comparison : (said : RecipeContents) → Sated (compare_refers said)
+sated_comparison : (parsed : RecipeContents) → Sated (compare_refers parsed)
 unfolding compare_refers
-sated_comparison said =
-    sated_bind (error_unless (NotMadeYet compare_place (stages_key said.format)) (list_all (is_stage said.stages) said.compare.stages))
-    (λ _. error_unless (NotMadeYet compare_place key.Binary) (is_some (input_at said.inputs said.compare.binary)))
-    (sated_unless (NotMadeYet compare_place (stages_key said.format)) (list_all (is_stage said.stages) said.compare.stages) (λ is. absurd cc)) (λ u.
-    sated_unless (NotMadeYet compare_place key.Binary) (is_some (input_at said.inputs said.compare.binary)) (λ is. absurd cc))
+sated_comparison parsed =
+    sated_bind (error_unless (NotMadeYet compare_place (stages_key parsed.format)) (list_all (is_stage parsed.stages) parsed.compare.stages))
+    (λ _. error_unless (NotMadeYet compare_place key.Binary) (is_some (input_at parsed.inputs parsed.compare.binary)))
+    (sated_unless (NotMadeYet compare_place (stages_key parsed.format)) (list_all (is_stage parsed.stages) parsed.compare.stages) (λ is. absurd cc)) (λ u.
+    sated_unless (NotMadeYet compare_place key.Binary) (is_some (input_at parsed.inputs parsed.compare.binary)) (λ is. absurd cc))
 
-sated_program : (said : RecipeContents) (found : Option Content) → Sated (has_source said found)
-sated_program said None = sated_ok tt
-sated_program said (Some (content.Input index)) = sated_unless _ (is_some (content_source said (content.Input index))) (λ is. absurd cc)
-sated_program said (Some (content.Stage index)) = sated_unless _ (is_some (content_source said (content.Stage index))) (λ is. absurd cc)
+sated_program : (parsed : RecipeContents) (found : Option Content) → Sated (has_source parsed found)
+sated_program parsed None = sated_ok tt
+sated_program parsed (Some (content.Input index)) = sated_unless _ (is_some (content_source parsed (content.Input index))) (λ is. absurd cc)
+sated_program parsed (Some (content.Stage index)) = sated_unless _ (is_some (content_source parsed (content.Stage index))) (λ is. absurd cc)
 
-sated_argued : (said : RecipeContents) (check : Option (List ℕ)) (program : List ℕ) → Sated (is_argued said check program)
-sated_argued said (Some check) program = sated_ok tt
-sated_argued said None program = sated_program said (content_named said.inputs said.stages program)
+sated_argued : (parsed : RecipeContents) (check : Option (List ℕ)) (program : List ℕ) → Sated (is_argued parsed check program)
+sated_argued parsed (Some check) program = sated_ok tt
+sated_argued parsed None program = sated_program parsed (content_named parsed.inputs parsed.stages program)
 
-sated_second : (said : RecipeContents) → Sated (second_walk said)
+sated_second : (parsed : RecipeContents) → Sated (second_walk parsed)
 unfolding second_walk
-sated_second said =
-    sated_bind (each_passes (input_refers said) 1 said.inputs) _
-    (sated_passes (input_refers said) 1 said.inputs (λ number input. sated_reference said.sources (input_place number) key.Implements input.implements)) (λ a.
-    sated_bind (each_passes (source_refers said) 1 said.sources) _
-    (sated_passes (source_refers said) 1 said.sources (λ number source. sated_unless (NotMadeYet (source_place number) key.Files) (list_all (is_content said.inputs said.stages) source.files) (λ is. absurd cc))) (λ b.
-    sated_bind (each_passes (stage_refers said) 1 said.stages) _
-    (sated_passes (stage_refers said) 1 said.stages (λ number stage. sated_after said (take (number - 1) said.stages) (stage_place number) stage)) (λ d.
-    sated_bind (compare_refers said) (λ _. each_passes (program_has_source said) 1 said.stages) (sated_comparison said) (λ f.
-    sated_passes (program_has_source said) 1 said.stages (λ number stage. sated_argued said stage.check stage.program)))))
+sated_second parsed =
+    sated_bind (each_passes (input_refers parsed) 1 parsed.inputs) _
+    (sated_passes (input_refers parsed) 1 parsed.inputs (λ number input. sated_reference parsed.sources (input_place number) key.Implements input.implements)) (λ a.
+    sated_bind (each_passes (source_refers parsed) 1 parsed.sources) _
+    (sated_passes (source_refers parsed) 1 parsed.sources (λ number source. sated_unless (NotMadeYet (source_place number) key.Files) (list_all (is_content parsed.inputs parsed.stages) source.files) (λ is. absurd cc))) (λ b.
+    sated_bind (each_passes (stage_refers parsed) 1 parsed.stages) _
+    (sated_passes (stage_refers parsed) 1 parsed.stages (λ number stage. sated_after parsed (take (number - 1) parsed.stages) (stage_place number) stage)) (λ d.
+    sated_bind (compare_refers parsed) (λ _. each_passes (program_has_source parsed) 1 parsed.stages) (sated_comparison parsed) (λ f.
+    sated_passes (program_has_source parsed) 1 parsed.stages (λ number stage. sated_argued parsed stage.check stage.program)))))
 
 pub never_want : (bytes : List ℕ) → ¬ (recipe_of bytes ≡ Err OutOfMemory)
 unfolding recipe_of
 never_want bytes is =
-    (sated_bind (first_walk bytes) _ (sated_first bytes) (λ said. sated_bind (second_walk said) (λ _. fine said) (sated_second said) (λ u. sated_ok said))).isnt is
+    (sated_bind (first_walk bytes) _ (sated_first bytes) (λ parsed. sated_bind (second_walk parsed) (λ _. fine parsed) (sated_second parsed) (λ u. sated_ok parsed))).isnt is

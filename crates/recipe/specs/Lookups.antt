@@ -45,12 +45,12 @@ stage_source sources stage = option_or stage.becomes (option_and_then (hex_check
 
 -- the name of a program's source
 unfoldable pub content_source : RecipeContents → Content → Option (List ℕ)
-content_source said (content.Input index) = option_and_then (λ input. input.implements) (slice_get said.inputs index)
-content_source said (content.Stage index) = option_and_then (stage_source said.sources) (slice_get said.stages index)
+content_source parsed (content.Input index) = option_and_then (λ input. input.implements) (slice_get parsed.inputs index)
+content_source parsed (content.Stage index) = option_and_then (stage_source parsed.sources) (slice_get parsed.stages index)
 
 -- the name of the source of the program with this name
 abbrev pub source_of : RecipeContents → List ℕ → Option (List ℕ)
-source_of said name = option_and_then (content_source said) (content_named said.inputs said.stages name)
+source_of parsed name = option_and_then (content_source parsed) (content_named parsed.inputs parsed.stages name)
 
 -- the index is one of an input or of a stage
 abbrev pub IsIndex : List Input → List Stage → Content → Type 0

@@ -21,6 +21,6 @@ first_walk bytes = do
 
 unfoldable pub recipe_of : List ℕ → Result RecipeContents RecipeRefusal
 recipe_of bytes = do
-  said ← first_walk bytes
-  second_walk said
-  Ok said
+  parsed ← first_walk bytes
+  second_walk parsed
+  Ok parsed

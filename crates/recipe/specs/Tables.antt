@@ -1,10 +1,11 @@
 -- The first walk: each table of a recipe with its keys in order (docs/reference/recipe.md, "Tables").
-use Rattle.std.specs.Prelude.{ℕ, ◌+◌, ◌^◌, ◌≡◌, ◌⊎◌, ◌==◌, Bool, ◌||◌, not, List, [], ◌∷◌, length, codes, bytes_eq, Option, Some, option_and_then, option_map, unwrap_or, Result, Ok, if◌then◌else◌}
+use Rattle.std.specs.Prelude.{ℕ, ◌+◌, ◌≡◌, ◌⊎◌, ◌==◌, Bool, ◌||◌, not, List, [], ◌∷◌, length, codes, bytes_eq, Option, Some, option_and_then, option_map, unwrap_or, Result, Ok, if◌then◌else◌}
 use Rattle.std.specs.List.{list_any}
 use Rattle.ddc_base.specs.Results.{◌>>=◌, ◌>>◌, error_unless, or_error}
 use Rattle.toml.specs.Data.{Data, Members, get_member, as_str}
 use Rattle.ddc_base.specs.Names.{name_of}
 use Rattle.ddc_base.specs.Languages.Words.{language_named}
+use Rattle.ddc_base.specs.Limits.{most_address, most_heap, most_steps, usual_heap}
 use Rattle.mem_files.specs.Names.{stripped}
 use Rattle.recipe.specs.Text.Keys.{key_word}
 use Rattle.recipe.specs.Text.Reading.{gathered, a_text, a_name, a_path, a_word, a_number, a_table, an_array, a_list, path_of, required, optional, no_other_key}
@@ -116,7 +117,7 @@ unfoldable pub source_table : List Input → List Source → Place → Members �
 source_table inputs sources place table = do
   name ← required (a_new_name inputs sources []) place key.Name table
   lang ← required a_language place key.Lang table
-  base ← optional (a_number 0 (2 ^ 37)) place key.Base table
+  base ← optional (a_number 0 most_address) place key.Base table
   files ← required (a_list a_name 1 64) place key.Files table
   no_other_key place (key.Name ∷ key.Lang ∷ key.Base ∷ key.Files ∷ []) table
   Ok (record { name = name; lang = lang; base = unwrap_or base 6291456; files = files })
@@ -155,13 +156,13 @@ some_files place key value = do
   gathered (next_file place key) [] entries
 
 -- standard output if it is written `-`, otherwise a file of the program
-abbrev pub output_said : List ℕ → Option Output
-output_said text = if bytes_eq text (codes "-") then Some Stream else option_map File (guest_path text)
+abbrev pub output_parsed : List ℕ → Option Output
+output_parsed text = if bytes_eq text (codes "-") then Some Stream else option_map File (guest_path text)
 
 unfoldable pub an_output : Place → Key → Data → Result Output RecipeRefusal
 an_output place key value = do
   text ← a_text place key value
-  or_error (BadPath place key) (output_said text)
+  or_error (BadPath place key) (output_parsed text)
 
 unfoldable pub stage_table : List Input → List Source → List Stage → Place → Members → Result Stage RecipeRefusal
 stage_table inputs sources stages place table = do
@@ -171,8 +172,8 @@ stage_table inputs sources stages place table = do
   env ← optional (a_list a_word 0 64) place key.Env table
   files ← optional some_files place key.Files table
   output ← required an_output place key.Output table
-  steps ← required (a_number 1 (2 ^ 48)) place key.Steps table
-  heap ← optional (a_number 0 (2 ^ 30)) place key.Heap table
+  steps ← required (a_number 1 most_steps) place key.Steps table
+  heap ← optional (a_number 0 most_heap) place key.Heap table
   check ← optional a_name place key.Check table
   becomes ← optional a_name place key.Becomes table
   no_other_key place (key.Name ∷ key.Program ∷ key.Args ∷ key.Env ∷ key.Files ∷ key.Output ∷ key.Steps ∷ key.Heap ∷ key.Check ∷ key.Becomes ∷ []) table
@@ -184,7 +185,7 @@ stage_table inputs sources stages place table = do
     files = unwrap_or files [];
     output = output;
     steps = steps;
-    heap = unwrap_or heap 536870912;
+    heap = unwrap_or heap usual_heap;
     check = check;
     becomes = becomes;
   })

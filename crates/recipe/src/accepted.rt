@@ -13,7 +13,7 @@ use std::marker::Model;
 /// A recipe that both walks accepted. Contracts see its contents.
 #[derive(Drop)]
 pub struct Recipe {
-    said: RecipeContents,
+    parsed: RecipeContents,
 }
 
 impl Model for Recipe {
@@ -22,18 +22,18 @@ impl Model for Recipe {
 
     ghost Value = { RecipeContents };
 
-    ghost view = { λ recipe. recipe.said };
+    ghost view = { λ recipe. recipe.parsed };
 
-    ghost invariant = { λ recipe. IsRecipe recipe.said };
+    ghost invariant = { λ recipe. IsRecipe recipe.parsed };
 }
 
 impl Recipe {
     /// A recipe with contents that both walks accepted.
-    pub(crate) fn new(said: RecipeContents) -> Recipe
-        requires { IsRecipe said }
-        ensures { result ≡ said }
+    pub(crate) fn new(parsed: RecipeContents) -> Recipe
+        requires { IsRecipe parsed }
+        ensures { result ≡ parsed }
     {
-        Recipe { said }
+        Recipe { parsed }
     }
 
     /// The SHA-256 digest (FIPS 180-4) of the recipe's bytes.
@@ -41,14 +41,14 @@ impl Recipe {
         ensures value { result.now ≡ self.now.digest }
         ensures kept { IsRecipe self.now }
     {
-        &self.said.digest
+        &self.parsed.digest
     }
 
     /// Shows that the recipe is well-formed (`IsRecipe`).
     pub fn show_rules(&self)
         ensures { IsRecipe self.now }
     {
-        let _ = &self.said;
+        let _ = &self.parsed;
     }
 
     /// The recipe's format: 1 or 2.
@@ -56,7 +56,7 @@ impl Recipe {
         ensures value { result ≡ self.now.format }
         ensures kept { IsRecipe self.now }
     {
-        self.said.format
+        self.parsed.format
     }
 
     /// The inputs.
@@ -64,7 +64,7 @@ impl Recipe {
         ensures value { result.now ≡ self.now.inputs }
         ensures kept { IsRecipe self.now }
     {
-        &self.said.inputs
+        &self.parsed.inputs
     }
 
     /// The sources.
@@ -72,7 +72,7 @@ impl Recipe {
         ensures value { result.now ≡ self.now.sources }
         ensures kept { IsRecipe self.now }
     {
-        &self.said.sources
+        &self.parsed.sources
     }
 
     /// The stages.
@@ -80,7 +80,7 @@ impl Recipe {
         ensures value { result.now ≡ self.now.stages }
         ensures kept { IsRecipe self.now }
     {
-        &self.said.stages
+        &self.parsed.stages
     }
 
     /// The stages and the binary that are compared.
@@ -88,7 +88,7 @@ impl Recipe {
         ensures value { result.now ≡ self.now.compare }
         ensures kept { IsRecipe self.now }
     {
-        &self.said.compare
+        &self.parsed.compare
     }
 
     /// The content that a name stands for: the input with that name, otherwise the artefact of the stage with that name.
@@ -97,8 +97,8 @@ impl Recipe {
         ensures index { IfSome result (IsIndex self.now.inputs self.now.stages) }
     {
         content_of(
-            self.said.inputs.as_slice(),
-            self.said.stages.as_slice(),
+            self.parsed.inputs.as_slice(),
+            self.parsed.stages.as_slice(),
             name,
         )
     }
@@ -110,8 +110,8 @@ impl Recipe {
         ensures index { IfSome result (IsIndex self.now.inputs (take stage self.now.stages)) }
     {
         content_of(
-            self.said.inputs.as_slice(),
-            &self.said.stages.as_slice()[..stage],
+            self.parsed.inputs.as_slice(),
+            &self.parsed.stages.as_slice()[..stage],
             name,
         )
     }
@@ -120,7 +120,7 @@ impl Recipe {
     pub fn source(&self, name: &Name) -> Option<&Source>
         ensures { option_map (λ x. x.now) result ≡ source_named self.now.sources name.now }
     {
-        source_named(self.said.sources.as_slice(), name)
+        source_named(self.parsed.sources.as_slice(), name)
     }
 
     /// The name of the source of the program with this name.
@@ -128,7 +128,7 @@ impl Recipe {
         ensures { option_map (λ x. x.now) result ≡ source_of self.now name.now }
     {
         match self.content(name) {
-            Some(content) => content_source(&self.said, content),
+            Some(content) => content_source(&self.parsed, content),
             None => None,
         }
     }

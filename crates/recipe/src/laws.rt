@@ -11,7 +11,7 @@ ghost use Rattle.recipe.specs.Reading.{recipe_of};
 
 /// Every parsed recipe is well-formed (`IsRecipe`).
 pub fn a_recipe_that_reads_keeps_the_rules()
-    ensures { (bytes : List ℕ) (said : RecipeContents) → recipe_of bytes ≡ Ok said → IsRecipe said }
+    ensures { (bytes : List ℕ) (parsed : RecipeContents) → recipe_of bytes ≡ Ok parsed → IsRecipe parsed }
 {}
 
 /// A name that stands for a content among the inputs and the first stages stands for it among all of them.

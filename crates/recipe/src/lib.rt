@@ -7,12 +7,12 @@
 mod accepted;
 mod comparison;
 mod contents;
-mod front;
 mod inputs;
 pub mod laws;
 mod lookups;
 mod names;
 mod parts;
+mod prefix;
 mod reading;
 mod references;
 mod sources;

@@ -49,14 +49,14 @@ pub(crate) fn content_of(inputs: &[Input], stages: &[Stage], name: &Name) -> Opt
 
 /// The name of the source of a program.
 #[tactic(auto, unfolding(crate::specs::Lookups::content_source))]
-pub(crate) fn content_source(said: &RecipeContents, content: Content) -> Option<&Name>
-    ensures { option_map (λ x. x.now) result ≡ content_source said.now content }
+pub(crate) fn content_source(parsed: &RecipeContents, content: Content) -> Option<&Name>
+    ensures { option_map (λ x. x.now) result ≡ content_source parsed.now content }
 {
     match content {
-        Content::Input(index) => input_source(said.inputs.as_slice(), index),
+        Content::Input(index) => input_source(parsed.inputs.as_slice(), index),
         Content::Stage(index) => artefact_source(
-            said.sources.as_slice(),
-            said.stages.as_slice(),
+            parsed.sources.as_slice(),
+            parsed.stages.as_slice(),
             index,
         ),
     }

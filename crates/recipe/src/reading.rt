@@ -5,8 +5,8 @@ ghost use Rattle.recipe.specs.Reading.{first_walk, recipe_of};
 use crate::accepted::Recipe;
 use crate::comparison::compare_of;
 use crate::contents::RecipeContents;
-use crate::front::top_of;
 use crate::inputs::inputs_of;
+use crate::prefix::top_of;
 use crate::references::second_walk;
 use crate::sources::sources_of;
 use crate::stages::stages_of;
@@ -18,18 +18,18 @@ use std::alloc::Global;
 pub fn read(alloc: Global, bytes: &[u8]) -> Result<Recipe, RecipeRefusal>
     ensures { Gives (λ recipe. recipe) result (recipe_of bytes.now) }
 {
-    let said = first_walk(alloc, bytes)?;
-    second_walk(&said)?;
-    Ok(Recipe::new(said))
+    let parsed = first_walk(alloc, bytes)?;
+    second_walk(&parsed)?;
+    Ok(Recipe::new(parsed))
 }
 
 /// The first walk: reads each table with its keys.
 #[tactic(auto, unfolding(crate::specs::Reading::first_walk))]
 fn first_walk(alloc: Global, bytes: &[u8]) -> Result<RecipeContents, RecipeRefusal>
-    ensures said { Gives (λ said. said) result (first_walk bytes.now) }
-    ensures few_inputs { IfOk result (λ said. length said.inputs ≤ 256) }
-    ensures few_sources { IfOk result (λ said. length said.sources ≤ 256) }
-    ensures few_stages { IfOk result (λ said. length said.stages ≤ 256) }
+    ensures parsed { Gives (λ parsed. parsed) result (first_walk bytes.now) }
+    ensures few_inputs { IfOk result (λ parsed. length parsed.inputs ≤ 256) }
+    ensures few_sources { IfOk result (λ parsed. length parsed.sources ≤ 256) }
+    ensures few_stages { IfOk result (λ parsed. length parsed.stages ≤ 256) }
 {
     let document = document(alloc, bytes)?;
     let top = top_of(alloc, &document)?;

@@ -18,36 +18,36 @@ use ddc_base::Name;
 
 /// Checks that every name refers to something that exists by then.
 #[tactic(auto, unfolding(crate::specs::SecondWalk::second_walk))]
-pub(crate) fn second_walk(said: &RecipeContents) -> Result<(), RecipeRefusal>
-    requires inputs { length said.now.inputs ≤ 256 }
-    requires sources { length said.now.sources ≤ 256 }
-    requires stages { length said.now.stages ≤ 256 }
-    ensures refers { Gives (λ x. x) result (second_walk said.now) }
+pub(crate) fn second_walk(parsed: &RecipeContents) -> Result<(), RecipeRefusal>
+    requires inputs { length parsed.now.inputs ≤ 256 }
+    requires sources { length parsed.now.sources ≤ 256 }
+    requires stages { length parsed.now.stages ≤ 256 }
+    ensures refers { Gives (λ x. x) result (second_walk parsed.now) }
     ensures memory { NeverWants result }
 {
-    inputs_refer(said, said.inputs.as_slice())?;
-    sources_refer(said, said.sources.as_slice())?;
-    stages_refer(said, said.stages.as_slice())?;
-    compare_refers(said)?;
-    programs_have_sources(said, said.stages.as_slice())
+    inputs_refer(parsed, parsed.inputs.as_slice())?;
+    sources_refer(parsed, parsed.sources.as_slice())?;
+    stages_refer(parsed, parsed.stages.as_slice())?;
+    compare_refers(parsed)?;
+    programs_have_sources(parsed, parsed.stages.as_slice())
 }
 
 /// Checks the inputs' `implements`.
-fn inputs_refer(said: &RecipeContents, inputs: &[Input]) -> Result<(), RecipeRefusal>
+fn inputs_refer(parsed: &RecipeContents, inputs: &[Input]) -> Result<(), RecipeRefusal>
     requires { length inputs.now < 2 ^ 32 - 1 }
-    ensures refers { Gives (λ x. x) result (each_passes (input_refers said.now) 1 inputs.now) }
+    ensures refers { Gives (λ x. x) result (each_passes (input_refers parsed.now) 1 inputs.now) }
     ensures memory { NeverWants result }
 {
     let mut number = 1u32;
     for input in inputs {
-        input_refers(said, number, input)?;
+        input_refers(parsed, number, input)?;
         number += 1;
     }
     Ok(())
 }
 
-fn input_refers(said: &RecipeContents, number: u32, input: &Input) -> Result<(), RecipeRefusal>
-    ensures refers { Gives (λ x. x) result (input_refers said.now number input.now) }
+fn input_refers(parsed: &RecipeContents, number: u32, input: &Input) -> Result<(), RecipeRefusal>
+    ensures refers { Gives (λ x. x) result (input_refers parsed.now number input.now) }
     ensures memory { NeverWants result }
 {
     let place = Place {
@@ -55,7 +55,7 @@ fn input_refers(said: &RecipeContents, number: u32, input: &Input) -> Result<(),
         number,
     };
     refers_to_source(
-        said.sources.as_slice(),
+        parsed.sources.as_slice(),
         place,
         Key::Implements,
         &input.implements,
@@ -91,21 +91,21 @@ fn made_by_now(made: bool, place: Place, key: Key) -> Result<(), RecipeRefusal>
 }
 
 /// Checks the sources' files.
-fn sources_refer(said: &RecipeContents, sources: &[Source]) -> Result<(), RecipeRefusal>
+fn sources_refer(parsed: &RecipeContents, sources: &[Source]) -> Result<(), RecipeRefusal>
     requires { length sources.now < 2 ^ 32 - 1 }
-    ensures refers { Gives (λ x. x) result (each_passes (source_refers said.now) 1 sources.now) }
+    ensures refers { Gives (λ x. x) result (each_passes (source_refers parsed.now) 1 sources.now) }
     ensures memory { NeverWants result }
 {
     let mut number = 1u32;
     for source in sources {
-        source_refers(said, number, source)?;
+        source_refers(parsed, number, source)?;
         number += 1;
     }
     Ok(())
 }
 
-fn source_refers(said: &RecipeContents, number: u32, source: &Source) -> Result<(), RecipeRefusal>
-    ensures refers { Gives (λ x. x) result (source_refers said.now number source.now) }
+fn source_refers(parsed: &RecipeContents, number: u32, source: &Source) -> Result<(), RecipeRefusal>
+    ensures refers { Gives (λ x. x) result (source_refers parsed.now number source.now) }
     ensures memory { NeverWants result }
 {
     let place = Place {
@@ -113,8 +113,8 @@ fn source_refers(said: &RecipeContents, number: u32, source: &Source) -> Result<
         number,
     };
     let made = are_contents(
-        said.inputs.as_slice(),
-        said.stages.as_slice(),
+        parsed.inputs.as_slice(),
+        parsed.stages.as_slice(),
         source.files.as_slice(),
     );
     made_by_now(made, place, Key::Files)
@@ -135,46 +135,46 @@ fn is_content(inputs: &[Input], stages: &[Stage], name: &Name) -> bool
 }
 
 /// Checks the stages' programs, files, checks and what they become.
-fn stages_refer(said: &RecipeContents, stages: &[Stage]) -> Result<(), RecipeRefusal>
+fn stages_refer(parsed: &RecipeContents, stages: &[Stage]) -> Result<(), RecipeRefusal>
     requires few { length stages.now < 2 ^ 32 - 1 }
-    requires same { stages.now ≡ said.now.stages }
-    ensures refers { Gives (λ x. x) result (each_passes (stage_refers said.now) 1 stages.now) }
+    requires same { stages.now ≡ parsed.now.stages }
+    ensures refers { Gives (λ x. x) result (each_passes (stage_refers parsed.now) 1 stages.now) }
     ensures memory { NeverWants result }
 {
     let mut number = 1u32;
     for stage in stages {
-        stage_refers(said, number, stage)?;
+        stage_refers(parsed, number, stage)?;
         number += 1;
     }
     Ok(())
 }
 
-fn stage_refers(said: &RecipeContents, number: u32, stage: &Stage) -> Result<(), RecipeRefusal>
+fn stage_refers(parsed: &RecipeContents, number: u32, stage: &Stage) -> Result<(), RecipeRefusal>
     requires from_one { 1 ≤ number }
-    requires within { number ≤ length said.now.stages }
-    ensures refers { Gives (λ x. x) result (stage_refers said.now number stage.now) }
+    requires within { number ≤ length parsed.now.stages }
+    ensures refers { Gives (λ x. x) result (stage_refers parsed.now number stage.now) }
     ensures memory { NeverWants result }
 {
     let place = Place {
         table: Table::Stage,
         number,
     };
-    let earlier = &said.stages.as_slice()[..number as usize - 1];
-    stage_refers_after(said, earlier, place, stage)
+    let earlier = &parsed.stages.as_slice()[..number as usize - 1];
+    stage_refers_after(parsed, earlier, place, stage)
 }
 
 /// Checks a stage that follows these earlier ones.
 #[tactic(auto, unfolding(crate::specs::SecondWalk::stage_refers_after))]
 fn stage_refers_after(
-    said: &RecipeContents,
+    parsed: &RecipeContents,
     earlier: &[Stage],
     place: Place,
     stage: &Stage,
 ) -> Result<(), RecipeRefusal>
-    ensures refers { Gives (λ x. x) result (stage_refers_after said.now earlier.now place stage.now) }
+    ensures refers { Gives (λ x. x) result (stage_refers_after parsed.now earlier.now place stage.now) }
     ensures memory { NeverWants result }
 {
-    let inputs = said.inputs.as_slice();
+    let inputs = parsed.inputs.as_slice();
     made_by_now(
         is_content(inputs, earlier, &stage.program),
         place,
@@ -185,8 +185,13 @@ fn stage_refers_after(
         place,
         Key::Files,
     )?;
-    check_refers(said, earlier, place, &stage.check)?;
-    refers_to_source(said.sources.as_slice(), place, Key::Becomes, &stage.becomes)
+    check_refers(parsed, earlier, place, &stage.check)?;
+    refers_to_source(
+        parsed.sources.as_slice(),
+        place,
+        Key::Becomes,
+        &stage.becomes,
+    )
 }
 
 /// Whether the content of each file is one of these inputs or the artefact of one of these stages.
@@ -201,46 +206,46 @@ fn are_made(inputs: &[Input], stages: &[Stage], files: &[StageFile]) -> bool
 /// Checks that a stage may be checked against its source, if it names one.
 #[tactic(auto, unfolding(crate::specs::SecondWalk::check_refers))]
 fn check_refers(
-    said: &RecipeContents,
+    parsed: &RecipeContents,
     earlier: &[Stage],
     place: Place,
     check: &Option<Name>,
 ) -> Result<(), RecipeRefusal>
-    ensures refers { Gives (λ x. x) result (check_refers said.now earlier.now place check.now) }
+    ensures refers { Gives (λ x. x) result (check_refers parsed.now earlier.now place check.now) }
     ensures memory { NeverWants result }
 {
     match check {
-        Some(name) => named_source_checks(said, earlier, place, name),
+        Some(name) => named_source_checks(parsed, earlier, place, name),
         None => Ok(()),
     }
 }
 
 fn named_source_checks(
-    said: &RecipeContents,
+    parsed: &RecipeContents,
     earlier: &[Stage],
     place: Place,
     name: &Name,
 ) -> Result<(), RecipeRefusal>
-    ensures refers { Gives (λ x. x) result (checks_source said.now earlier.now place (spec.source_named said.now.sources name.now)) }
+    ensures refers { Gives (λ x. x) result (checks_source parsed.now earlier.now place (spec.source_named parsed.now.sources name.now)) }
     ensures memory { NeverWants result }
 {
-    match source_named(said.sources.as_slice(), name) {
-        Some(source) => source_checks(said, earlier, place, source),
+    match source_named(parsed.sources.as_slice(), name) {
+        Some(source) => source_checks(parsed, earlier, place, source),
         None => Err(RecipeRefusal::NotMadeYet(place, Key::Check)),
     }
 }
 
 /// Checks that a source's files exist before the stage, and that its language has a definition.
 fn source_checks(
-    said: &RecipeContents,
+    parsed: &RecipeContents,
     earlier: &[Stage],
     place: Place,
     source: &Source,
 ) -> Result<(), RecipeRefusal>
-    ensures refers { Gives (λ x. x) result (checks_source said.now earlier.now place (Some source.now)) }
+    ensures refers { Gives (λ x. x) result (checks_source parsed.now earlier.now place (Some source.now)) }
     ensures memory { NeverWants result }
 {
-    if !are_contents(said.inputs.as_slice(), earlier, source.files.as_slice()) {
+    if !are_contents(parsed.inputs.as_slice(), earlier, source.files.as_slice()) {
         return Err(RecipeRefusal::NotMadeYet(place, Key::Check));
     }
     match source.lang {
@@ -251,13 +256,13 @@ fn source_checks(
 
 /// Checks the names that are compared.
 #[tactic(auto, unfolding(crate::specs::SecondWalk::compare_refers))]
-fn compare_refers(said: &RecipeContents) -> Result<(), RecipeRefusal>
-    ensures refers { Gives (λ x. x) result (compare_refers said.now) }
+fn compare_refers(parsed: &RecipeContents) -> Result<(), RecipeRefusal>
+    ensures refers { Gives (λ x. x) result (compare_refers parsed.now) }
     ensures memory { NeverWants result }
 {
-    let there = are_stages(said.stages.as_slice(), said.compare.stages.as_slice());
-    made_by_now(there, COMPARE, stages_key(said.format))?;
-    let binary = input_at(said.inputs.as_slice(), &said.compare.binary);
+    let there = are_stages(parsed.stages.as_slice(), parsed.compare.stages.as_slice());
+    made_by_now(there, COMPARE, stages_key(parsed.format))?;
+    let binary = input_at(parsed.inputs.as_slice(), &parsed.compare.binary);
     made_by_now(binary.is_some(), COMPARE, Key::Binary)
 }
 
@@ -276,58 +281,58 @@ fn is_stage(stages: &[Stage], name: &Name) -> bool
 }
 
 /// Checks that the program of each unchecked stage has a source.
-fn programs_have_sources(said: &RecipeContents, stages: &[Stage]) -> Result<(), RecipeRefusal>
+fn programs_have_sources(parsed: &RecipeContents, stages: &[Stage]) -> Result<(), RecipeRefusal>
     requires few { length stages.now < 2 ^ 32 - 1 }
-    requires few_inputs { length said.now.inputs ≤ 256 }
-    requires few_stages { length said.now.stages ≤ 256 }
-    ensures refers { Gives (λ x. x) result (each_passes (program_has_source said.now) 1 stages.now) }
+    requires few_inputs { length parsed.now.inputs ≤ 256 }
+    requires few_stages { length parsed.now.stages ≤ 256 }
+    ensures refers { Gives (λ x. x) result (each_passes (program_has_source parsed.now) 1 stages.now) }
     ensures memory { NeverWants result }
 {
     let mut number = 1u32;
     for stage in stages {
-        program_has_source(said, number, stage)?;
+        program_has_source(parsed, number, stage)?;
         number += 1;
     }
     Ok(())
 }
 
 fn program_has_source(
-    said: &RecipeContents,
+    parsed: &RecipeContents,
     number: u32,
     stage: &Stage,
 ) -> Result<(), RecipeRefusal>
-    requires few_inputs { length said.now.inputs ≤ 256 }
-    requires few_stages { length said.now.stages ≤ 256 }
-    ensures refers { Gives (λ x. x) result (program_has_source said.now number stage.now) }
+    requires few_inputs { length parsed.now.inputs ≤ 256 }
+    requires few_stages { length parsed.now.stages ≤ 256 }
+    ensures refers { Gives (λ x. x) result (program_has_source parsed.now number stage.now) }
     ensures memory { NeverWants result }
 {
     match &stage.check {
         Some(_) => Ok(()),
-        None => named_has_source(said, &stage.program),
+        None => named_has_source(parsed, &stage.program),
     }
 }
 
-fn named_has_source(said: &RecipeContents, program: &Name) -> Result<(), RecipeRefusal>
-    requires few_inputs { length said.now.inputs ≤ 256 }
-    requires few_stages { length said.now.stages ≤ 256 }
-    ensures refers { Gives (λ x. x) result (has_source said.now (spec.content_named said.now.inputs said.now.stages program.now)) }
+fn named_has_source(parsed: &RecipeContents, program: &Name) -> Result<(), RecipeRefusal>
+    requires few_inputs { length parsed.now.inputs ≤ 256 }
+    requires few_stages { length parsed.now.stages ≤ 256 }
+    ensures refers { Gives (λ x. x) result (has_source parsed.now (spec.content_named parsed.now.inputs parsed.now.stages program.now)) }
     ensures memory { NeverWants result }
 {
-    match content_of(said.inputs.as_slice(), said.stages.as_slice(), program) {
-        Some(content) => has_source(said, content),
+    match content_of(parsed.inputs.as_slice(), parsed.stages.as_slice(), program) {
+        Some(content) => has_source(parsed, content),
         None => Ok(()),
     }
 }
 
 /// Refuses a program without a source, at the key where its source would be.
-fn has_source(said: &RecipeContents, content: Content) -> Result<(), RecipeRefusal>
-    requires index { IsIndex said.now.inputs said.now.stages content }
-    requires few_inputs { length said.now.inputs ≤ 256 }
-    requires few_stages { length said.now.stages ≤ 256 }
-    ensures refers { Gives (λ x. x) result (has_source said.now (Some content)) }
+fn has_source(parsed: &RecipeContents, content: Content) -> Result<(), RecipeRefusal>
+    requires index { IsIndex parsed.now.inputs parsed.now.stages content }
+    requires few_inputs { length parsed.now.inputs ≤ 256 }
+    requires few_stages { length parsed.now.stages ≤ 256 }
+    ensures refers { Gives (λ x. x) result (has_source parsed.now (Some content)) }
     ensures memory { NeverWants result }
 {
-    if content_source(said, content).is_some() {
+    if content_source(parsed, content).is_some() {
         return Ok(());
     }
     match content {

@@ -10,6 +10,7 @@ use crate::text::{
     Key, Place, RecipeRefusal, array, names, no_other_key, optional_number, required, text,
 };
 use ddc_base::languages::Language;
+use ddc_base::limits::MOST_ADDRESS;
 use ddc_base::{ListOf, Name};
 use std::alloc::Global;
 use toml::{Table, Value};
@@ -70,7 +71,7 @@ fn source_of(
     };
     let name = required_new_name(&above, place, table)?;
     let lang = required_language(place, table)?;
-    let base = optional_number(0, 1 << 37, place, Key::Base, table)?.unwrap_or(DEFAULT_BASE);
+    let base = optional_number(0, MOST_ADDRESS, place, Key::Base, table)?.unwrap_or(DEFAULT_BASE);
     let files = required_names(alloc, place, table)?;
     no_other_key(place, &[Key::Name, Key::Lang, Key::Base, Key::Files], table)?;
     Ok(Source {

@@ -3,7 +3,7 @@
 ghost use Rattle.std.specs.Prelude.{◌≡◌, [], IfOk, map, option_map};
 ghost use Rattle.toml.specs.View.{table_view, view};
 ghost use Rattle.recipe.specs.Text.Reading.{Gives, NeverWants, gathered, optional, required};
-ghost use Rattle.recipe.specs.Tables.{an_output, entry_text, guest_path, is_file_path, next_file, output_said, some_files};
+ghost use Rattle.recipe.specs.Tables.{an_output, entry_text, guest_path, is_file_path, next_file, output_parsed, some_files};
 
 use crate::parts::{Output, StageFile};
 use crate::text::{
@@ -141,7 +141,7 @@ fn output(alloc: Global, place: Place, value: &Value) -> Result<Output, RecipeRe
 
 /// The output that a text names.
 fn output_of(alloc: Global, text: &[u8]) -> Result<Option<Output>, OutOfMemory>
-    ensures { IfOk result (λ x. x ≡ output_said text.now) }
+    ensures { IfOk result (λ x. x ≡ output_parsed text.now) }
 {
     if text == "-".as_bytes() {
         return Ok(Some(Output::Stream));

@@ -11,12 +11,10 @@ use crate::text::{
     Key, Place, RecipeRefusal, array, find, no_other_key, optional_name, optional_number, required,
     required_name, required_number, words,
 };
+use ddc_base::limits::{MOST_HEAP, MOST_STEPS, USUAL_HEAP};
 use ddc_base::{Bytes, ListOf};
 use std::alloc::Global;
 use toml::Table;
-
-/// The heap size of a stage that names none: 512 MiB, in bytes.
-const DEFAULT_HEAP: u64 = 536_870_912;
 
 /// The keys of a stage.
 const KEYS: [Key; 10] = [
@@ -90,8 +88,8 @@ fn stage_of(
     let env = optional_env(alloc, place, table)?.unwrap_or(ListOf::new(alloc));
     let files = optional_files(alloc, place, table)?.unwrap_or(ListOf::new(alloc));
     let output = required_output(alloc, place, table)?;
-    let steps = required_number(1, 1 << 48, place, Key::Steps, table)?;
-    let heap = optional_number(0, 1 << 30, place, Key::Heap, table)?.unwrap_or(DEFAULT_HEAP);
+    let steps = required_number(1, MOST_STEPS, place, Key::Steps, table)?;
+    let heap = optional_number(0, MOST_HEAP, place, Key::Heap, table)?.unwrap_or(USUAL_HEAP);
     let check = optional_name(place, Key::Check, table)?;
     let becomes = optional_name(place, Key::Becomes, table)?;
     no_other_key(place, &KEYS, table)?;

@@ -37,7 +37,7 @@ abbrev pub check_cause_text : CheckCause → List ℕ
 check_cause_text (check.Hex cause) = spaced (codes "hex" ∷ decimal (hex_cause_number cause) ∷ decimal (hex_cause_place cause) ∷ [])
 check_cause_text (check.M1 cause) = spaced (codes "m1" ∷ decimal (m1_cause_number cause) ∷ decimal (m1_cause_place cause) ∷ [])
 check_cause_text (check.NotItems cause) = spaced (codes "items" ∷ decimal (hex_cause_number cause) ∷ decimal (hex_cause_place cause) ∷ [])
-check_cause_text (check.Differs place) = spaced (codes "differs" ∷ decimal place ∷ [])
+check_cause_text (check.Differs offset) = spaced (codes "differs" ∷ decimal offset ∷ [])
 
 -- the name of the stage of this number, from 1
 unfoldable pub stage_name : List Stage → ℕ → List ℕ

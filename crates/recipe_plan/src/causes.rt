@@ -43,7 +43,7 @@ pub fn check_cause(alloc: Global, cause: CheckCause) -> Result<String, OutOfMemo
         CheckCause::Hex(cause) => numbered(alloc, "hex", cause.number(), cause.place()),
         CheckCause::M1(cause) => numbered(alloc, "m1", cause.number(), cause.place()),
         CheckCause::NotItems(cause) => numbered(alloc, "items", cause.number(), cause.place()),
-        CheckCause::Differs(place) => Ok(format!(in alloc; "differs {place}")?),
+        CheckCause::Differs(offset) => Ok(format!(in alloc; "differs {offset}")?),
     }
 }
 

@@ -1,6 +1,7 @@
 //! Loading the inputs of a recipe.
 
 ghost use Rattle.std.specs.Prelude.{◌≡◌, ◌≤◌, IfOk, All, length, map};
+ghost use Rattle.ddc_base.specs.Limits.{most_content};
 ghost use Rattle.mem_files.specs.Outputs.{IsContent};
 ghost use Rattle.recipe.specs.Kept.{IsRecipe};
 ghost use Rattle.audit_rules.specs.Valid.{IsInputs};
@@ -8,14 +9,11 @@ ghost use Rattle.command_plan.specs.Plan.{needs_all};
 ghost use Rattle.command_plan.specs.Steps.{Obtains};
 ghost use Rattle.recipe_plan.specs.Recipes.{needs_inputs, needs_inputs_within};
 
-use audit_rules::MAX_INPUT;
 use command_plan::{FileName, Stop, fetch};
 use ddc_base::Shelf;
+use ddc_base::limits::{MOST_CONTENT, MOST_INPUTS};
 use recipe::{Input, Inputs, Path, Recipe};
 use std::alloc::Global;
-
-/// The most bytes of all inputs together that a command loads.
-pub const INPUTS_LIMIT: u64 = 1_073_741_824;
 
 /// A recipe, and a content for each of its inputs.
 #[derive(Drop)]
@@ -31,21 +29,21 @@ pub fn fetch_inputs<S: Shelf>(alloc: Global, shelf: &mut S, recipe: &Recipe) -> 
     ensures inputs { IfOk result (IsInputs recipe.now) }
     ensures kept { IsRecipe recipe.now }
 {
-    fetch_inputs_within(alloc, shelf, recipe, INPUTS_LIMIT)
+    fetch_inputs_within(alloc, shelf, recipe, MOST_INPUTS)
 }
 
-/// Loads the inputs of a recipe, in order, at most `room` bytes together. Errors: those of `command_plan::fetch`.
+/// Loads the inputs of a recipe, in order, at most `budget` bytes together. Errors: those of `command_plan::fetch`.
 pub fn fetch_inputs_within<S: Shelf>(
     alloc: Global,
     shelf: &mut S,
     recipe: &Recipe,
-    room: u64,
+    budget: u64,
 ) -> Result<Inputs, Stop>
-    ensures obtained { Obtains (needs_inputs_within room recipe.now) (S.state shelf.old) (S.state shelf.new) result }
+    ensures obtained { Obtains (needs_inputs_within budget recipe.now) (S.state shelf.old) (S.state shelf.new) result }
     ensures inputs { IfOk result (IsInputs recipe.now) }
     ensures kept { IsRecipe recipe.now }
 {
-    fetch_each(alloc, shelf, recipe.inputs().as_slice(), room)
+    fetch_each(alloc, shelf, recipe.inputs().as_slice(), budget)
 }
 
 /// Loads these inputs, in order.
@@ -53,17 +51,22 @@ fn fetch_each<S: Shelf>(
     alloc: Global,
     shelf: &mut S,
     inputs: &[Input],
-    mut room: u64,
+    mut budget: u64,
 ) -> Result<Inputs, Stop>
-    ensures obtained { Obtains (needs_all 268_435_456 room (map (λ input. input.path) inputs.now))
+    ensures obtained { Obtains (needs_all most_content budget (map (λ input. input.path) inputs.now))
         (S.state shelf.old) (S.state shelf.new) result }
     ensures count { IfOk result (λ contents. length contents ≡ length inputs.now) }
     ensures each { IfOk result (All IsContent) }
 {
     let mut contents = Inputs::new(alloc);
     for input in inputs {
-        let content = fetch(alloc, shelf, &name_of(&input.path), MAX_INPUT.min(room))?;
-        room -= size_of(content.as_slice());
+        let content = fetch(
+            alloc,
+            shelf,
+            &name_of(&input.path),
+            MOST_CONTENT.min(budget),
+        )?;
+        budget -= size_of(content.as_slice());
         contents.push(content)?;
     }
     Ok(contents)
@@ -79,7 +82,7 @@ fn name_of(path: &Path) -> FileName<'_>
 
 /// The length of an input in bytes.
 fn size_of(content: &[u8]) -> u64
-    requires { length content.now ≤ 268_435_456 }
+    requires { length content.now ≤ most_content }
     ensures size { result ≡ length content.now }
     ensures content { IsContent content.now }
 {

@@ -12,7 +12,7 @@ mod reports;
 pub mod texts;
 mod words;
 
-pub use inputs::{INPUTS_LIMIT, Supplied, fetch_inputs, fetch_inputs_within};
+pub use inputs::{Supplied, fetch_inputs, fetch_inputs_within};
 pub use not_done::{about_stage, run_failed, stage_name, unfinished};
 pub use recipes::{apart, fetch_recipe, fetch_recipe_after, read_recipe};
 pub use reports::{compared_status, fetch_report, fetch_report_after};

@@ -61,16 +61,16 @@ pub fn stage_name(recipe: &Recipe, number: u32) -> &[u8]
     }
 }
 
-/// A line about a stage: `front`, the stage's name, and `after`. Error: out of memory.
+/// A line about a stage: `prefix`, the stage's name, and `after`. Error: out of memory.
 pub fn about_stage(
     alloc: Global,
-    front: &[u8],
+    prefix: &[u8],
     stage: &[u8],
     after: &str,
 ) -> Result<Bytes, OutOfMemory>
-    ensures { IfOk result (λ text. text ≡ front.now ++ (stage.now ++ after.now)) }
+    ensures { IfOk result (λ text. text ≡ prefix.now ++ (stage.now ++ after.now)) }
 {
-    let mut text = Bytes::from_slice(alloc, front)?;
+    let mut text = Bytes::from_slice(alloc, prefix)?;
     put_two(&mut text, stage, after.as_bytes())?;
     Ok(text)
 }

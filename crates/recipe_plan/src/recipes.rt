@@ -11,12 +11,10 @@ ghost use Rattle.recipe_plan.specs.Texts.{recipe_line};
 use crate::texts;
 use command_plan::words::is_one_file;
 use command_plan::{Answer, FileName, Status, Stop, fetch, usage};
+use ddc_base::limits::MOST_RECIPE;
 use ddc_base::{Bytes, Shelf};
 use recipe::{Recipe, RecipeRefusal};
 use std::alloc::Global;
-
-/// The most bytes of a recipe that is loaded.
-const RECIPE_LIMIT: u64 = 1_048_576;
 
 /// Loads and reads a recipe. Errors: not a recipe, and those of `command_plan::fetch`.
 pub fn fetch_recipe<S: Shelf>(
@@ -29,45 +27,45 @@ pub fn fetch_recipe<S: Shelf>(
     fetch_recipe_after(alloc, shelf, file, &[])
 }
 
-/// Loads and reads a recipe; the answer to any other file stands after `front`. Errors: that answer, and those of `command_plan::fetch`.
+/// Loads and reads a recipe; the answer to any other file stands after `prefix`. Errors: that answer, and those of `command_plan::fetch`.
 pub fn fetch_recipe_after<S: Shelf>(
     alloc: Global,
     shelf: &mut S,
     file: &FileName<'_>,
-    front: &[u8],
+    prefix: &[u8],
 ) -> Result<Recipe, Stop>
-    ensures { Obtains (needs_recipe_after front.now file.now) (S.state shelf.old) (S.state shelf.new) result }
+    ensures { Obtains (needs_recipe_after prefix.now file.now) (S.state shelf.old) (S.state shelf.new) result }
 {
-    let bytes = fetch(alloc, shelf, file, RECIPE_LIMIT)?;
-    read(alloc, bytes, front)
+    let bytes = fetch(alloc, shelf, file, MOST_RECIPE)?;
+    read(alloc, bytes, prefix)
 }
 
 /// Reads a recipe and drops its text.
-fn read(alloc: Global, bytes: Bytes, front: &[u8]) -> Result<Recipe, Stop>
-    ensures { (shelf : ShelfState) → Obtains (reads_recipe_after front.now bytes) shelf shelf result }
+fn read(alloc: Global, bytes: Bytes, prefix: &[u8]) -> Result<Recipe, Stop>
+    ensures { (shelf : ShelfState) → Obtains (reads_recipe_after prefix.now bytes) shelf shelf result }
 {
-    read_recipe(alloc, bytes.as_slice(), front)
+    read_recipe(alloc, bytes.as_slice(), prefix)
 }
 
-/// Reads a text as a recipe; the answer to any other text stands after `front`. Errors: that answer, and out of memory.
-pub fn read_recipe(alloc: Global, text: &[u8], front: &[u8]) -> Result<Recipe, Stop>
-    ensures { (shelf : ShelfState) → Obtains (reads_recipe_after front.now text.now) shelf shelf result }
+/// Reads a text as a recipe; the answer to any other text stands after `prefix`. Errors: that answer, and out of memory.
+pub fn read_recipe(alloc: Global, text: &[u8], prefix: &[u8]) -> Result<Recipe, Stop>
+    ensures { (shelf : ShelfState) → Obtains (reads_recipe_after prefix.now text.now) shelf shelf result }
 {
     match recipe::read(alloc, text) {
         Ok(recipe) => Ok(recipe),
         Err(RecipeRefusal::OutOfMemory) => Err(Stop::OutOfMemory),
-        Err(refusal) => Err(Stop::Answered(refused(alloc, refusal, front)?)),
+        Err(refusal) => Err(Stop::Answered(refused(alloc, refusal, prefix)?)),
     }
 }
 
-/// The answer to a file that is not a recipe, after `front`.
-fn refused(alloc: Global, refusal: RecipeRefusal, front: &[u8]) -> Result<Answer, Stop>
-    ensures { Says (answers RecipeRefused (front.now ++ recipe_line refusal)) result }
+/// The answer to a file that is not a recipe, after `prefix`.
+fn refused(alloc: Global, refusal: RecipeRefusal, prefix: &[u8]) -> Result<Answer, Stop>
+    ensures { Says (answers RecipeRefused (prefix.now ++ recipe_line refusal)) result }
 {
     let line = texts::recipe_line(alloc, refusal)?;
     Ok(Answer {
         status: Status::RecipeRefused,
-        text: texts::after(alloc, front, line.as_slice())?,
+        text: texts::after(alloc, prefix, line.as_slice())?,
     })
 }
 

@@ -13,12 +13,10 @@ ghost use Rattle.command_plan.specs.Texts.{report_line};
 use crate::texts;
 use audit_rules::all_equal;
 use command_plan::{Answer, FileName, Status, Stop, fetch};
+use ddc_base::limits::MOST_REPORT;
 use ddc_base::{Bytes, Shelf};
 use report::{CompareLine, Report, ReportRefusal};
 use std::alloc::Global;
-
-/// The most bytes of a report that is loaded. Every report has fewer.
-const REPORT_LIMIT: u64 = 1_073_741_824;
 
 /// Loads and reads a report. Errors: not a report, and those of `command_plan::fetch`.
 pub fn fetch_report<S: Shelf>(
@@ -32,41 +30,41 @@ pub fn fetch_report<S: Shelf>(
     fetch_report_after(alloc, shelf, file, &[])
 }
 
-/// Loads and reads a report; the answer to any other file stands after `front`. Errors: that answer, and those of `command_plan::fetch`.
+/// Loads and reads a report; the answer to any other file stands after `prefix`. Errors: that answer, and those of `command_plan::fetch`.
 pub fn fetch_report_after<S: Shelf>(
     alloc: Global,
     shelf: &mut S,
     file: &FileName<'_>,
-    front: &[u8],
+    prefix: &[u8],
 ) -> Result<Report, Stop>
-    ensures obtained { Obtains (needs_report_after front.now file.now) (S.state shelf.old) (S.state shelf.new) result }
+    ensures obtained { Obtains (needs_report_after prefix.now file.now) (S.state shelf.old) (S.state shelf.new) result }
     ensures report { IfOk result IsReport }
 {
-    let bytes = fetch(alloc, shelf, file, REPORT_LIMIT)?;
-    read(alloc, bytes, front)
+    let bytes = fetch(alloc, shelf, file, MOST_REPORT)?;
+    read(alloc, bytes, prefix)
 }
 
 /// Reads a report and drops its text.
-fn read(alloc: Global, bytes: Bytes, front: &[u8]) -> Result<Report, Stop>
-    ensures obtained { (shelf : ShelfState) → Obtains (unless_refused (report_of bytes) (λ number. answers ReportRefused (front.now ++ report_line number)))
+fn read(alloc: Global, bytes: Bytes, prefix: &[u8]) -> Result<Report, Stop>
+    ensures obtained { (shelf : ShelfState) → Obtains (unless_refused (report_of bytes) (λ number. answers ReportRefused (prefix.now ++ report_line number)))
         shelf shelf result }
     ensures report { IfOk result IsReport }
 {
     match report::read(alloc, bytes.as_slice()) {
         Ok(report) => Ok(report),
-        Err(ReportRefusal::Form(number)) => Err(Stop::Answered(refused(alloc, number, front)?)),
+        Err(ReportRefusal::Form(number)) => Err(Stop::Answered(refused(alloc, number, prefix)?)),
         Err(ReportRefusal::OutOfMemory) => Err(Stop::OutOfMemory),
     }
 }
 
-/// The answer to a file that is not a report, with its first invalid line, after `front`.
-fn refused(alloc: Global, number: u64, front: &[u8]) -> Result<Answer, Stop>
-    ensures { Says (answers ReportRefused (front.now ++ report_line number)) result }
+/// The answer to a file that is not a report, with its first invalid line, after `prefix`.
+fn refused(alloc: Global, number: u64, prefix: &[u8]) -> Result<Answer, Stop>
+    ensures { Says (answers ReportRefused (prefix.now ++ report_line number)) result }
 {
     let line = command_plan::texts::report(alloc, number)?;
     Ok(Answer {
         status: Status::ReportRefused,
-        text: texts::after(alloc, front, line.as_slice())?,
+        text: texts::after(alloc, prefix, line.as_slice())?,
     })
 }
 

@@ -10,11 +10,11 @@ use recipe::{Key, Place, RecipeRefusal};
 use report::{CompareLine, Compared};
 use std::alloc::Global;
 
-/// A copy of `front` and then `text`. Error: out of memory.
-pub fn after(alloc: Global, front: &[u8], text: &[u8]) -> Result<Bytes, OutOfMemory>
-    ensures { IfOk result (λ whole. whole ≡ front.now ++ text.now) }
+/// A copy of `prefix` and then `text`. Error: out of memory.
+pub fn after(alloc: Global, prefix: &[u8], text: &[u8]) -> Result<Bytes, OutOfMemory>
+    ensures { IfOk result (λ whole. whole ≡ prefix.now ++ text.now) }
 {
-    let mut whole = Bytes::from_slice(alloc, front)?;
+    let mut whole = Bytes::from_slice(alloc, prefix)?;
     whole.extend(text)?;
     Ok(whole)
 }

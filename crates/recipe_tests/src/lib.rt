@@ -17,23 +17,23 @@ mod formats;
 mod limits;
 #[cfg(test)]
 mod orders;
-pub mod reports;
 #[cfg(test)]
-mod said;
+mod parsed;
+pub mod reports;
 #[cfg(test)]
 mod texts;
 
 /// A piece so many times between two others.
 pub fn repeated(
     alloc: Global,
-    front: &str,
+    prefix: &str,
     piece: &str,
     count: usize,
     back: &str,
 ) -> Result<String, OutOfMemory>
-    ensures { IfOk result (λ text. string_bytes text ≡ front.now ++ repeat count piece.now ++ back.now) }
+    ensures { IfOk result (λ text. string_bytes text ≡ prefix.now ++ repeat count piece.now ++ back.now) }
 {
-    let mut text = String::from_str(alloc, front)?;
+    let mut text = String::from_str(alloc, prefix)?;
     text.push_str(piece.repeat(alloc, count)?.as_str())?;
     text.push_str(back)?;
     Ok(text)

@@ -157,15 +157,15 @@ static TABLES: [Row; 6] = [
 
 /// Whether the reader answers to the good recipe with the pieces of a row in place of one.
 fn answers_value(alloc: Global, row: &Row) -> Result<bool, OutOfMemory> {
-    let (old, [front, piece, back], count, wanted) = *row;
-    let new = repeated(alloc, front, piece, count, back)?;
+    let (old, [prefix, piece, back], count, wanted) = *row;
+    let new = repeated(alloc, prefix, piece, count, back)?;
     answers_once(alloc, GOOD, (old, new.as_str()), wanted)
 }
 
 /// Whether the reader answers to the pieces of a row.
 fn answers_table(alloc: Global, row: &Row) -> Result<bool, OutOfMemory> {
-    let (_, [front, piece, back], count, wanted) = *row;
-    let text = repeated(alloc, front, piece, count, back)?;
+    let (_, [prefix, piece, back], count, wanted) = *row;
+    let text = repeated(alloc, prefix, piece, count, back)?;
     answers(alloc, text.as_bytes(), wanted)
 }
 

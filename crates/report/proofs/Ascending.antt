@@ -39,13 +39,13 @@ ascend_push (first ∷ next ∷ left) file h k =
     and_both _ _ parts.0 (ascend_push (next ∷ left) file parts.1 (ap (λ (o : Option LeftLine). is_after o file.name) (sym at_last) ∙ k))
 
 -- what the neighbours say: a name is after the last one before it
-pub follows_last : (front : List LeftLine) (file : LeftLine) (more : List LeftLine) → ascend (front ++ file ∷ more) ≡ true → follows front file.name ≡ true
+pub follows_last : (prefix : List LeftLine) (file : LeftLine) (more : List LeftLine) → ascend (prefix ++ file ∷ more) ≡ true → follows prefix file.name ≡ true
 follows_last [] file more h = refl
 follows_last (first ∷ []) file more h = (and_parts (is_lt (slice_cmp nat_cmp first.name file.name)) (ascend (file ∷ more)) h).0
-follows_last (first ∷ next ∷ front) file more h =
-    let rest = (and_parts (is_lt (slice_cmp nat_cmp first.name next.name)) (ascend (next ∷ (front ++ file ∷ more))) h).1 in
-    let at_last : slice_get (first ∷ next ∷ front) (length (first ∷ next ∷ front) - 1) ≡ slice_get (next ∷ front) (length (next ∷ front) - 1) =
-    (let a : suc (suc (length front)) - 1 ≡ suc (length front) = omega arith in
-    let b : suc (length front) - 1 ≡ length front = omega arith in
+follows_last (first ∷ next ∷ prefix) file more h =
+    let rest = (and_parts (is_lt (slice_cmp nat_cmp first.name next.name)) (ascend (next ∷ (prefix ++ file ∷ more))) h).1 in
+    let at_last : slice_get (first ∷ next ∷ prefix) (length (first ∷ next ∷ prefix) - 1) ≡ slice_get (next ∷ prefix) (length (next ∷ prefix) - 1) =
+    (let a : suc (suc (length prefix)) - 1 ≡ suc (length prefix) = omega arith in
+    let b : suc (length prefix) - 1 ≡ length prefix = omega arith in
     rw (a, b) refl) in
-    ap (λ (o : Option LeftLine). is_after o file.name) at_last ∙ follows_last (next ∷ front) file more rest
+    ap (λ (o : Option LeftLine). is_after o file.name) at_last ∙ follows_last (next ∷ prefix) file more rest

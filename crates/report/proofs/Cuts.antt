@@ -39,11 +39,11 @@ cut_at-takes byte bytes text rest e =
     let f : ℕ → List ℕ × List ℕ = λ k. (take k bytes, drop (k + 1) bytes) in
     let cut = found (ltb at (length bytes)) at f (text, rest) e in
     let below : at < length bytes = (Decides-ltb at (length bytes)).0 cut.0 in
-    let front : take at bytes ≡ text = ap (λ (x : List ℕ × List ℕ). x.0) cut.1 in
+    let prefix : take at bytes ≡ text = ap (λ (x : List ℕ × List ℕ). x.0) cut.1 in
     let back : drop (at + 1) bytes ≡ rest = ap (λ (x : List ℕ × List ℕ). x.1) cut.1 in
     let there : position (λ b. b == byte) bytes ≡ Some at = rw cut.0 refl in
     let here : get_or bytes at 0 ≡ byte = (Decides-eqb (get_or bytes at 0) byte).0 (position-Some (λ b. b == byte) bytes at 0 there).1 in
-    sym (take-append-drop at bytes) ∙ ap (λ (t : List ℕ). t ++ drop at bytes) front
+    sym (take-append-drop at bytes) ∙ ap (λ (t : List ℕ). t ++ drop at bytes) prefix
     ∙ ap (λ (t : List ℕ). text ++ t) (drop_more bytes at 0 below ∙ ap (λ (b : ℕ). b ∷ drop (at + 1) bytes) here ∙ ap (λ (t : List ℕ). byte ∷ t) back)
 
 -- ---- steps that may give nothing

@@ -25,7 +25,7 @@ use Rattle.report.specs.Reports.{AreBytes, IsCount, IsDigest, IsLeft, IsMark, Is
 use Rattle.report.proofs.Cuts.{Without, Without-append, cut_at-joined, cut_at-takes, bind_some, if_some, same_some}
 use Rattle.report.proofs.Hexes.{hex_of-is, hex_of-takes, digest_again, digest_takes}
 use Rattle.report.proofs.Plain.{no_blank, no_feed, decimal_plain, name_plain, hex_plain, language_plain}
-use Rattle.report.proofs.Spelled.{Spells, IsWord, two_spell}
+use Rattle.report.proofs.Encoded.{Encodes, IsWord, two_encode}
 
 -- ---- numbers, names and languages
 
@@ -41,9 +41,9 @@ number_takes word n e =
     let below : value < 2 ^ 64 = (Decides-ltb _ _).0 q.1 in
     (subst IsNumber same below, (bytes_eq-Decides _ _).0 q.0 ∙ ap decimal same)
 
-pub number : Spells IsNumber decimal as_decimal
+pub number : Encodes IsNumber decimal as_decimal
 number = record {
-  again = λ n small. as_decimal-is (decimal n) n (record { small = small; spelled = refl });
+  again = λ n small. as_decimal-is (decimal n) n (record { small = small; encoded = refl });
   takes = number_takes;
   no_feed = λ n small. no_feed (decimal n) (decimal_plain n small);
 }
@@ -60,7 +60,7 @@ name_takes word name e =
     let same = same_some word name p.1 in
     (subst IsName same p.0, same)
 
-pub name : Spells IsName itself name_of
+pub name : Encodes IsName itself name_of
 name = record {
   again = λ n is. rw is refl;
   takes = name_takes;
@@ -73,7 +73,7 @@ name_word = record { no_blank = λ n is. no_blank n (name_plain n is) }
 abbrev pub Any : {A : Type 0} → A → Type 0
 Any _ = Unit {0}
 
-pub language : Spells Any language_word language_named
+pub language : Encodes Any language_word language_named
 language = record {
   again = λ l is. named-word l;
   takes = λ word l e. (tt, word-named word l e);
@@ -104,7 +104,7 @@ file_name_again bytes is =
     let size = twice bytes in
     let some : 1 ≤ length (encode_lower bytes) = omega (arith, size, is.count.0) in
     let few : length (encode_lower bytes) ≤ 510 = omega (arith, size, is.count.1) in
-    rw (both_true _ _ (tested _ _ some) (tested _ _ few)) (hex_of-is (encode_lower bytes) bytes (record { are_bytes = is.bytes; spelled = refl }))
+    rw (both_true _ _ (tested _ _ some) (tested _ _ few)) (hex_of-is (encode_lower bytes) bytes (record { are_bytes = is.bytes; encoded = refl }))
 
 file_name_takes : (word bytes : List ℕ) → file_name_of word ≡ Some bytes → IsFileName bytes × (word ≡ encode_lower bytes)
 unfolding file_name_of
@@ -112,14 +112,14 @@ file_name_takes word bytes e =
     let p = if_some (nat_le 1 (length word) && nat_le (length word) 510) (hex_of word) bytes e in
     let q = and_parts (nat_le 1 (length word)) (nat_le (length word) 510) p.0 in
     let is = hex_of-takes word bytes p.1 in
-    let size : length word ≡ 2 * length bytes = ap length is.spelled ∙ twice bytes in
+    let size : length word ≡ 2 * length bytes = ap length is.encoded ∙ twice bytes in
     let some = at_most 1 (length word) q.0 in
     let few = at_most (length word) 510 q.1 in
     let least : 1 ≤ length bytes = omega (arith, size, some) in
     let most : length bytes ≤ 255 = omega (arith, size, few) in
-    (record { count = (least, most); bytes = is.are_bytes }, is.spelled)
+    (record { count = (least, most); bytes = is.are_bytes }, is.encoded)
 
-pub file_name : Spells IsFileName encode_lower file_name_of
+pub file_name : Encodes IsFileName encode_lower file_name_of
 file_name = record {
   again = file_name_again;
   takes = file_name_takes;
@@ -132,7 +132,7 @@ file_name_word = record { no_blank = λ bytes is. no_blank (encode_lower bytes) 
 abbrev pub digest_text : Digest → List ℕ
 digest_text digest = encode_lower digest.0
 
-pub digest : Spells IsDigest digest_text digest_of
+pub digest : Encodes IsDigest digest_text digest_of
 digest = record {
   again = digest_again;
   takes = digest_takes;
@@ -144,9 +144,9 @@ digest = record {
 abbrev pub mark_text : Mark → List ℕ
 mark_text mark = decimal mark.length ++ 32 ∷ encode_lower mark.digest.0
 
-pub mark : Spells IsMark mark_text mark_of
+pub mark : Encodes IsMark mark_text mark_of
 unfolding mark_of
-mark = two_spell number number_word digest IsMark (λ length digest. record { length = length; digest = digest }) (λ m. m.length) (λ m. m.digest)
+mark = two_encode number number_word digest IsMark (λ length digest. record { length = length; digest = digest }) (λ m. m.length) (λ m. m.digest)
     (λ m. refl) (λ a b. refl) (λ a b. refl) (λ a b is_a is_b. record { length = is_a; digest = is_b }) (λ m is. (is.length, is.digest))
 
 -- ---- a name and a mark, and the marks of streams
@@ -154,9 +154,9 @@ mark = two_spell number number_word digest IsMark (λ length digest. record { le
 abbrev pub file_text : LeftLine → List ℕ
 file_text file = encode_lower file.name ++ 32 ∷ mark_text file.mark
 
-pub file_line : Spells IsLeft file_text file_line_of
+pub file_line : Encodes IsLeft file_text file_line_of
 unfolding file_line_of
-file_line = two_spell file_name file_name_word mark IsLeft (λ name mark. record { name = name; mark = mark }) (λ f. f.name) (λ f. f.mark)
+file_line = two_encode file_name file_name_word mark IsLeft (λ name mark. record { name = name; mark = mark }) (λ f. f.name) (λ f. f.mark)
     (λ f. refl) (λ a b. refl) (λ a b. refl) (λ a b is_a is_b. record { count = is_a.count; bytes = is_a.bytes; mark = is_b })
     (λ f is. (record { count = is.count; bytes = is.bytes }, is.mark))
 
@@ -168,9 +168,9 @@ AreNumbers two = IsNumber two.0 × IsNumber two.1
 abbrev lengths_text : ℕ × ℕ → List ℕ
 lengths_text two = decimal two.0 ++ 32 ∷ decimal two.1
 
-lengths : Spells AreNumbers lengths_text lengths_of
+lengths : Encodes AreNumbers lengths_text lengths_of
 unfolding lengths_of
-lengths = two_spell number number_word number AreNumbers (λ ours theirs. (ours, theirs)) (λ two. two.0) (λ two. two.1)
+lengths = two_encode number number_word number AreNumbers (λ ours theirs. (ours, theirs)) (λ two. two.0) (λ two. two.1)
     (λ two. refl) (λ a b. refl) (λ a b. refl) (λ a b is_a is_b. (is_a, is_b)) (λ two is. is)
 
 abbrev pub compared_text : Compared → List ℕ
@@ -263,18 +263,18 @@ stream_line_takes {Line} P first second fields l is_first is_second e =
     let read = λ (make : Mark → Line) (t : List ℕ). mark_of t >>= λ m. Some (make m) in
     let x = bind_some (cut_at 32 fields) (λ cut. cond (bytes_eq cut.0 (codes "1")) (read first cut.1) (cond (bytes_eq cut.0 (codes "2")) (read second cut.1) None)) l e in
     let joined = cut_at-takes 32 fields x.0.0 x.0.1 x.1 in
-    let spelled = λ (word mark : List ℕ) (is : x.0.0 ≡ word) (text : x.0.1 ≡ mark).
+    let encoded = λ (word mark : List ℕ) (is : x.0.0 ≡ word) (text : x.0.1 ≡ mark).
     joined ∙ ap (λ (t : List ℕ). t ++ 32 ∷ x.0.1) is ∙ ap (λ (t : List ℕ). word ++ 32 ∷ t) text in
     by_word x.0.0 (codes "1") (read first x.0.1) _ l
     (λ is here. (
     let y = bind_some (mark_of x.0.1) (λ m. Some (first m)) l here in
     let m = mark.takes x.0.1 y.0 y.1 in
-    subst P (same_some (first y.0) l y.2) (is_first y.0 m.0 (spelled (codes "1") (mark_text y.0) is m.1))))
+    subst P (same_some (first y.0) l y.2) (is_first y.0 m.0 (encoded (codes "1") (mark_text y.0) is m.1))))
     (by_word x.0.0 (codes "2") (read second x.0.1) None l
     (λ is here. (
     let y = bind_some (mark_of x.0.1) (λ m. Some (second m)) l here in
     let m = mark.takes x.0.1 y.0 y.1 in
-    subst P (same_some (second y.0) l y.2) (is_second y.0 m.0 (spelled (codes "2") (mark_text y.0) is m.1))))
+    subst P (same_some (second y.0) l y.2) (is_second y.0 m.0 (encoded (codes "2") (mark_text y.0) is m.1))))
     (λ none. absurd cc)) x.2
 
 compared_takes : (text : List ℕ) (found : Compared) → compared_of text ≡ Some found → IsCompared found × (text ≡ compared_text found)
@@ -297,7 +297,7 @@ compared_no_feed (Differs o a b) is =
     Without-append 10 (codes "differs") (32 ∷ (decimal o ++ 32 ∷ (decimal a ++ 32 ∷ decimal b))) (no_feed (codes "differs") refl)
     (refl, Without-append 10 (decimal o) (32 ∷ (decimal a ++ 32 ∷ decimal b)) (number.no_feed o small) (refl, lengths.no_feed (a, b) (is.small_ours, is.small_theirs)))
 
-pub compared : Spells IsCompared compared_text compared_of
+pub compared : Encodes IsCompared compared_text compared_of
 compared = record { again = compared_again; takes = compared_takes; no_feed = compared_no_feed }
 
 abbrev pub IsBinary : List ℕ × Compared → Type 0
@@ -306,7 +306,7 @@ IsBinary found = IsName found.0 × IsCompared found.1
 abbrev pub binary_text : List ℕ × Compared → List ℕ
 binary_text found = found.0 ++ 32 ∷ compared_text found.1
 
-pub binary : Spells IsBinary binary_text binary_of
+pub binary : Encodes IsBinary binary_text binary_of
 unfolding binary_of
-binary = two_spell name name_word compared IsBinary (λ binary result. (binary, result)) (λ found. found.0) (λ found. found.1)
+binary = two_encode name name_word compared IsBinary (λ binary result. (binary, result)) (λ found. found.0) (λ found. found.1)
     (λ found. refl) (λ a b. refl) (λ a b. refl) (λ a b is_a is_b. (is_a, is_b)) (λ found is. is)

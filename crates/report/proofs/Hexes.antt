@@ -11,7 +11,7 @@ use Rattle.hex.proofs.HexLemmas.{length-encode_with, decode_of-encode_lower}
 use Rattle.ddc_base.specs.HexTexts.{IsHexOf, is_lower_digit}
 use Rattle.ddc_base.specs.Inside.HexTests.{is_lower_hex}
 use Rattle.ddc_base.specs.declared.digests.Digest.{Digest}
-use Rattle.ddc_base.proofs.HexTexts.{passes, decoded, spells}
+use Rattle.ddc_base.proofs.HexTexts.{passes, decoded, encodes}
 use Rattle.report.specs.Inside.Fields.{hex_of, digit_value, pairs_of, digest_of}
 use Rattle.report.specs.Reports.{AreBytes, IsDigest}
 use Rattle.report.proofs.Cuts.{if_some, same_some}
@@ -22,7 +22,7 @@ from_all (byte ∷ rest) all zero = All-head (λ byte. byte < 256) byte rest all
 from_all (byte ∷ rest) all (suc i) = from_all rest (All-tail (λ byte. byte < 256) byte rest all) i
 
 back : (text bytes : List ℕ) → IsHexOf text bytes → decode_of text ≡ Ok bytes
-back text bytes is = ap decode_of is.spelled ∙ decode_of-encode_lower bytes (from_all bytes is.are_bytes)
+back text bytes is = ap decode_of is.encoded ∙ decode_of-encode_lower bytes (from_all bytes is.are_bytes)
 
 ok_of : (r : Result (List ℕ) FromHexError) (bytes : List ℕ) → result_ok r ≡ Some bytes → r ≡ Ok bytes
 ok_of (Ok b) bytes e = ap Ok (same_some b bytes e)
@@ -66,8 +66,8 @@ pub digest_again : (digest : Digest) → IsDigest digest → digest_of (encode_l
 unfolding digest_of
 digest_again digest is =
     let text = encode_lower digest.0 in
-    let spelled : IsHexOf text digest.0 = record { are_bytes = is.bytes; spelled = refl } in
-    let digits = (and_parts (length text % 2 == 0) (list_all is_lower_digit text) (passes text digest.0 spelled)).1 in
+    let encoded : IsHexOf text digest.0 = record { are_bytes = is.bytes; encoded = refl } in
+    let digits = (and_parts (length text % 2 == 0) (list_all is_lower_digit text) (passes text digest.0 encoded)).1 in
     let size : length text ≡ 64 = omega (arith, length-encode_with lower_digits digest.0, is.count) in
     rw (eq-eqb (length text) 64 size, digits, pairs_again digest.0 is.bytes) refl
 
@@ -80,13 +80,13 @@ digest_takes word digest e =
     let halves : length word % 2 ≡ 0 = omega (arith, size) in
     let even : (length word % 2 == 0) ≡ true = eq-eqb (length word % 2) 0 halves in
     let lower : is_lower_hex word ≡ true = rw (even, q.1) refl in
-    let spelt = spells word lower in
-    let pairs : pairs_of word ≡ spelt.0 = ap pairs_of spelt.1.spelled ∙ pairs_again spelt.0 spelt.1.are_bytes in
-    let twice : length word ≡ 2 * length spelt.0 = ap length spelt.1.spelled ∙ length-encode_with lower_digits spelt.0 in
-    let count : length spelt.0 ≡ 32 = omega (arith, size, twice) in
+    let encoding = encodes word lower in
+    let pairs : pairs_of word ≡ encoding.0 = ap pairs_of encoding.1.encoded ∙ pairs_again encoding.0 encoding.1.are_bytes in
+    let twice : length word ≡ 2 * length encoding.0 = ap length encoding.1.encoded ∙ length-encode_with lower_digits encoding.0 in
+    let count : length encoding.0 ≡ 32 = omega (arith, size, twice) in
     let P = λ (d : Digest). IsDigest d × (word ≡ encode_lower d.0) in
     subst P (ap (λ (bytes : List ℕ). record { 0 = bytes }) (sym pairs) ∙ same_some (record { 0 = pairs_of word }) digest p.1)
-    (record { count = count; bytes = spelt.1.are_bytes }, spelt.1.spelled)
+    (record { count = count; bytes = encoding.1.are_bytes }, encoding.1.encoded)
 
 -- ---- the pairs by their index
 

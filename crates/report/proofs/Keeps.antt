@@ -6,6 +6,7 @@ use Rattle.std.proofs.lemmas.Bool.Decides.{Decides-ltb}
 use Rattle.std.proofs.lemmas.List.Elements.{All-append, All-cons, All-head, All-map, All-nil, All-push, All-tail}
 use Rattle.ddc_base.specs.Names.{is_name, IsName}
 use Rattle.ddc_base.specs.declared.digests.Digest.{Digest}
+use Rattle.ddc_base.specs.Limits.{most_names}
 use Rattle.report.specs.declared.line.ReportLine.{ReportLine}
 use Rattle.report.specs.declared.line.ReportLine.TheVariants.{Header, Recipe, Input, Stage, Stream1, Stream2, Left, Made, Checked, Compare, End}
 use Rattle.report.specs.declared.types.Mark.{Mark}
@@ -14,8 +15,8 @@ use Rattle.report.specs.declared.types.StageLine.{StageLine}
 use Rattle.report.specs.declared.types.CompareLine.{CompareLine}
 use Rattle.report.specs.declared.types.Compared.TheVariants.{Equal}
 use Rattle.report.specs.declared.types.Report.{Report}
-use Rattle.report.specs.declared.state.BlockFront.{BlockFront}
-use Rattle.report.specs.declared.state.Front.{Front}
+use Rattle.report.specs.declared.state.BlockPrefix.{BlockPrefix}
+use Rattle.report.specs.declared.state.Prefix.{Prefix}
 use Rattle.report.specs.declared.state.Opened.{Opened}
 use Rattle.report.specs.declared.state.State.{State}
 use Rattle.report.specs.declared.state.State.TheVariants.{Start, Titled, Inputs, Named, Heard, Leaving, Closing, Stages, Compared, Ended}
@@ -29,52 +30,52 @@ use Rattle.report.proofs.Marks.{some_digest, some_digest_is, some_mark, some_mar
 use Rattle.report.proofs.LineTexts.{IsLine}
 use Rattle.report.proofs.Takes.{so_far, step_takes}
 
-pub record IsFront (front : Front) : Type 0 where
-  pub form : IsForm front.form
-  pub recipe : IsDigest front.recipe
-  pub inputs : IsCount 1 256 (length front.inputs)
-  pub each_input : All IsInputLine front.inputs
-  pub stages : length front.stages ≤ 256
-  pub each_stage : All IsStageLine front.stages
+pub record IsPrefix (prefix : Prefix) : Type 0 where
+  pub form : IsForm prefix.form
+  pub recipe : IsDigest prefix.recipe
+  pub inputs : IsCount 1 256 (length prefix.inputs)
+  pub each_input : All IsInputLine prefix.inputs
+  pub stages : length prefix.stages ≤ 256
+  pub each_stage : All IsStageLine prefix.stages
 
 pub record IsOpened (stage : Opened) : Type 0 where
   pub name : IsName stage.name
   pub steps : stage.steps < 2 ^ 64
   pub stream1 : IsMark stage.stream1
   pub stream2 : IsMark stage.stream2
-  pub count : length stage.left ≤ 4096
+  pub count : length stage.left ≤ most_names
   pub each_left : All IsLeft stage.left
   pub ascending : ascend stage.left ≡ true
 
 -- a report with room for one more stage
-pub record HasRoom (front : Front) : Type 0 where
-  pub fits : IsFront front
-  pub room : length front.stages < 256
+pub record HasCapacity (prefix : Prefix) : Type 0 where
+  pub fits : IsPrefix prefix
+  pub capacity : length prefix.stages < 256
 
 -- what a state keeps
 abbrev pub Good : State → Type 0
 Good Start = Unit {0}
 Good (Titled form) = IsForm form
 Good (Inputs form recipe inputs) = IsDigest recipe × (length inputs ≤ 256) × All IsInputLine inputs × IsForm form
-Good (Named front name steps) = HasRoom front × IsName name × (steps < 2 ^ 64)
-Good (Heard front stage) = HasRoom front × IsName stage.name × (stage.steps < 2 ^ 64) × IsMark stage.stream1
-Good (Leaving front stage) = HasRoom front × IsOpened stage
-Good (Closing front stage made) = HasRoom front × IsOpened stage × IsMark made
-Good (Stages front) = IsFront front × (1 ≤ length front.stages)
+Good (Named prefix name steps) = HasCapacity prefix × IsName name × (steps < 2 ^ 64)
+Good (Heard prefix stage) = HasCapacity prefix × IsName stage.name × (stage.steps < 2 ^ 64) × IsMark stage.stream1
+Good (Leaving prefix stage) = HasCapacity prefix × IsOpened stage
+Good (Closing prefix stage made) = HasCapacity prefix × IsOpened stage × IsMark made
+Good (Stages prefix) = IsPrefix prefix × (1 ≤ length prefix.stages)
 Good (Compared report) = IsReport report
 Good (Ended report) = IsReport report
 
-with_room : (front : Front) (stage : StageLine) → HasRoom front → IsStageLine stage → Good (Stages (with_stage front stage))
-with_room front stage has is = (
+with_reserved : (prefix : Prefix) (stage : StageLine) → HasCapacity prefix → IsStageLine stage → Good (Stages (with_stage prefix stage))
+with_reserved prefix stage has is = (
   record {
     form = has.fits.form;
     recipe = has.fits.recipe;
     inputs = has.fits.inputs;
     each_input = has.fits.each_input;
-    stages = omega (arith, has.room, grown front.stages stage);
-    each_stage = All-push IsStageLine front.stages stage has.fits.each_stage is;
+    stages = omega (arith, has.capacity, grown prefix.stages stage);
+    each_stage = All-push IsStageLine prefix.stages stage has.fits.each_stage is;
   },
-  omega (arith, grown front.stages stage),
+  omega (arith, grown prefix.stages stage),
 )
 
 -- there is room for one comparison in every form
@@ -93,21 +94,21 @@ step_keeps (Inputs form recipe inputs) (Input input) t good is e =
     let p = if_some (ltb (length inputs) 256) (Some (Inputs form recipe (inputs ++ input ∷ []))) t e in
     subst Good (same_some (Inputs form recipe (inputs ++ input ∷ [])) t p.1) (good.0, omega (arith, is_below _ _ p.0, grown inputs input), All-push IsInputLine inputs input good.2 is, good.3)
 step_keeps (Inputs form recipe inputs) (Stage name steps) t good is e =
-    let front : Front = record { form = form; recipe = recipe; inputs = inputs; stages = [] } in
-    let p = if_some (ltb 0 (length inputs)) (Some (Named front name steps)) t e in
+    let prefix : Prefix = record { form = form; recipe = recipe; inputs = inputs; stages = [] } in
+    let p = if_some (ltb 0 (length inputs)) (Some (Named prefix name steps)) t e in
     let some : 1 ≤ length inputs = omega (arith, is_below _ _ p.0) in
-    let fits : IsFront front = record { form = good.3; recipe = good.0; inputs = (some, good.1); each_input = good.2; stages = omega arith; each_stage = All-nil IsStageLine } in
-    subst Good (same_some (Named front name steps) t p.1) (record { fits = fits; room = lit< tt }, is.0, is.1)
-step_keeps (Named front name steps) (Stream1 mark) t good is e =
-    subst Good (same_some (Heard front (record { name = name; steps = steps; stream1 = mark })) t e) (good.0, good.1, good.2, is)
-step_keeps (Heard front stage) (Stream2 mark) t good is e =
+    let fits : IsPrefix prefix = record { form = good.3; recipe = good.0; inputs = (some, good.1); each_input = good.2; stages = omega arith; each_stage = All-nil IsStageLine } in
+    subst Good (same_some (Named prefix name steps) t p.1) (record { fits = fits; capacity = lit< tt }, is.0, is.1)
+step_keeps (Named prefix name steps) (Stream1 mark) t good is e =
+    subst Good (same_some (Heard prefix (record { name = name; steps = steps; stream1 = mark })) t e) (good.0, good.1, good.2, is)
+step_keeps (Heard prefix stage) (Stream2 mark) t good is e =
     let opened : Opened = record { name = stage.name; steps = stage.steps; stream1 = stage.stream1; stream2 = mark; left = [] } in
     let fits : IsOpened opened = record { name = good.1; steps = good.2; stream1 = good.3; stream2 = is; count = omega arith; each_left = All-nil IsLeft; ascending = refl } in
-    subst Good (same_some (Leaving front opened) t e) (good.0, fits)
-step_keeps (Leaving front stage) (Left file) t good is e =
+    subst Good (same_some (Leaving prefix opened) t e) (good.0, fits)
+step_keeps (Leaving prefix stage) (Left file) t good is e =
     let next : Opened = record stage { left = stage.left ++ file ∷ [] } in
-    let p = if_some (ltb (length stage.left) 4096) (cond (follows stage.left file.name) (Some (Leaving front next)) None) t e in
-    let q = if_some (follows stage.left file.name) (Some (Leaving front next)) t p.1 in
+    let p = if_some (ltb (length stage.left) most_names) (cond (follows stage.left file.name) (Some (Leaving prefix next)) None) t e in
+    let q = if_some (follows stage.left file.name) (Some (Leaving prefix next)) t p.1 in
     let fits : IsOpened next = record {
       name = good.1.name;
       steps = good.1.steps;
@@ -117,9 +118,9 @@ step_keeps (Leaving front stage) (Left file) t good is e =
       each_left = All-push IsLeft stage.left file good.1.each_left is;
       ascending = ascend_push stage.left file good.1.ascending q.0;
     } in
-    subst Good (same_some (Leaving front next) t q.1) (good.0, fits)
-step_keeps (Leaving front stage) (Made mark) t good is e = subst Good (same_some (Closing front stage mark) t e) (good.0, good.1, is)
-step_keeps (Closing front stage made) (Checked checked) t good is e =
+    subst Good (same_some (Leaving prefix next) t q.1) (good.0, fits)
+step_keeps (Leaving prefix stage) (Made mark) t good is e = subst Good (same_some (Closing prefix stage mark) t e) (good.0, good.1, is)
+step_keeps (Closing prefix stage made) (Checked checked) t good is e =
     let fits : IsStageLine (closed stage made checked) = record {
       name = good.1.name;
       steps = good.1.steps;
@@ -130,12 +131,12 @@ step_keeps (Closing front stage made) (Checked checked) t good is e =
       ascending = good.1.ascending;
       made = good.2;
     } in
-    subst Good (same_some (Stages (with_stage front (closed stage made checked))) t e) (with_room front (closed stage made checked) good.0 fits)
-step_keeps (Stages front) (Stage name steps) t good is e =
-    let p = if_some (ltb (length front.stages) 256) (Some (Named front name steps)) t e in
-    subst Good (same_some (Named front name steps) t p.1) (record { fits = good.0; room = is_below _ _ p.0 }, is.0, is.1)
-step_keeps (Stages front) (Compare compare) t good is e =
-    let report : Report = record { form = front.form; recipe = front.recipe; inputs = front.inputs; stages = front.stages; compare = compare ∷ [] } in
+    subst Good (same_some (Stages (with_stage prefix (closed stage made checked))) t e) (with_reserved prefix (closed stage made checked) good.0 fits)
+step_keeps (Stages prefix) (Stage name steps) t good is e =
+    let p = if_some (ltb (length prefix.stages) 256) (Some (Named prefix name steps)) t e in
+    subst Good (same_some (Named prefix name steps) t p.1) (record { fits = good.0; capacity = is_below _ _ p.0 }, is.0, is.1)
+step_keeps (Stages prefix) (Compare compare) t good is e =
+    let report : Report = record { form = prefix.form; recipe = prefix.recipe; inputs = prefix.inputs; stages = prefix.stages; compare = compare ∷ [] } in
     subst Good (same_some (Compared report) t e)
     (record {
       form = good.0.form;
@@ -144,7 +145,7 @@ step_keeps (Stages front) (Compare compare) t good is e =
       each_input = good.0.each_input;
       stages = (good.1, good.0.stages);
       each_stage = good.0.each_stage;
-      compares = (omega arith, some_compared front.form);
+      compares = (omega arith, some_compared prefix.form);
       each_compare = All-cons IsCompare compare [] is (All-nil IsCompare);
     })
 step_keeps (Compared report) (Compare compare) t good is e =
@@ -194,35 +195,35 @@ from_compared : (report : Report) → Good (Compared report) → Finished (Compa
 unfolding step
 from_compared report good = by (Compared report) End (Ended report) tt refl good (from_ended report)
 
-from_stages : (front : Front) → Good (Stages front) → Finished (Stages front)
+from_stages : (prefix : Prefix) → Good (Stages prefix) → Finished (Stages prefix)
 unfolding step
-from_stages front good = by (Stages front) (Compare some_compare) _ some_compare_is refl good (from_compared _)
+from_stages prefix good = by (Stages prefix) (Compare some_compare) _ some_compare_is refl good (from_compared _)
 
-from_closing : (front : Front) (stage : Opened) (made : Mark) → Good (Closing front stage made) → Finished (Closing front stage made)
+from_closing : (prefix : Prefix) (stage : Opened) (made : Mark) → Good (Closing prefix stage made) → Finished (Closing prefix stage made)
 unfolding step
-from_closing front stage made good = by (Closing front stage made) (Checked None) _ tt refl good (from_stages _)
+from_closing prefix stage made good = by (Closing prefix stage made) (Checked None) _ tt refl good (from_stages _)
 
-from_leaving : (front : Front) (stage : Opened) → Good (Leaving front stage) → Finished (Leaving front stage)
+from_leaving : (prefix : Prefix) (stage : Opened) → Good (Leaving prefix stage) → Finished (Leaving prefix stage)
 unfolding step
-from_leaving front stage good = by (Leaving front stage) (Made some_mark) _ some_mark_is refl good (from_closing front stage some_mark)
+from_leaving prefix stage good = by (Leaving prefix stage) (Made some_mark) _ some_mark_is refl good (from_closing prefix stage some_mark)
 
-from_heard : (front : Front) (stage : BlockFront) → Good (Heard front stage) → Finished (Heard front stage)
+from_heard : (prefix : Prefix) (stage : BlockPrefix) → Good (Heard prefix stage) → Finished (Heard prefix stage)
 unfolding step
-from_heard front stage good = by (Heard front stage) (Stream2 some_mark) _ some_mark_is refl good (from_leaving front _)
+from_heard prefix stage good = by (Heard prefix stage) (Stream2 some_mark) _ some_mark_is refl good (from_leaving prefix _)
 
-from_named : (front : Front) (name : List ℕ) (steps : ℕ) → Good (Named front name steps) → Finished (Named front name steps)
+from_named : (prefix : Prefix) (name : List ℕ) (steps : ℕ) → Good (Named prefix name steps) → Finished (Named prefix name steps)
 unfolding step
-from_named front name steps good =
-    by (Named front name steps) (Stream1 some_mark) _ some_mark_is refl good (from_heard front (record { name = name; steps = steps; stream1 = some_mark }))
+from_named prefix name steps good =
+    by (Named prefix name steps) (Stream1 some_mark) _ some_mark_is refl good (from_heard prefix (record { name = name; steps = steps; stream1 = some_mark }))
 
 from_inputs : (form : ℕ) (recipe : Digest) (input : InputLine) (inputs : List InputLine) → Good (Inputs form recipe (input ∷ inputs))
     → Finished (Inputs form recipe (input ∷ inputs))
 unfolding step
 from_inputs form recipe input inputs good =
-    let front : Front = record { form = form; recipe = recipe; inputs = input ∷ inputs; stages = [] } in
+    let prefix : Prefix = record { form = form; recipe = recipe; inputs = input ∷ inputs; stages = [] } in
     let some : ltb 0 (suc (length inputs)) ≡ true = (Decides-ltb 0 (suc (length inputs))).1 (omega arith) in
-    let opens : step (Inputs form recipe (input ∷ inputs)) (Stage some_name 0) ≡ Some (Named front some_name 0) = rw some refl in
-    by (Inputs form recipe (input ∷ inputs)) (Stage some_name 0) (Named front some_name 0) (some_name_is, lit< tt) opens good (from_named front some_name 0)
+    let opens : step (Inputs form recipe (input ∷ inputs)) (Stage some_name 0) ≡ Some (Named prefix some_name 0) = rw some refl in
+    by (Inputs form recipe (input ∷ inputs)) (Stage some_name 0) (Named prefix some_name 0) (some_name_is, lit< tt) opens good (from_named prefix some_name 0)
 
 from_no_input : (form : ℕ) (recipe : Digest) → Good (Inputs form recipe []) → Finished (Inputs form recipe [])
 unfolding step
@@ -240,11 +241,11 @@ finished Start good = by Start (Header 1) (Titled 1) (inl refl) refl tt (from_ti
 finished (Titled form) good = from_titled form good
 finished (Inputs form recipe []) good = from_no_input form recipe good
 finished (Inputs form recipe (input ∷ inputs)) good = from_inputs form recipe input inputs good
-finished (Named front name steps) good = from_named front name steps good
-finished (Heard front stage) good = from_heard front stage good
-finished (Leaving front stage) good = from_leaving front stage good
-finished (Closing front stage made) good = from_closing front stage made good
-finished (Stages front) good = from_stages front good
+finished (Named prefix name steps) good = from_named prefix name steps good
+finished (Heard prefix stage) good = from_heard prefix stage good
+finished (Leaving prefix stage) good = from_leaving prefix stage good
+finished (Closing prefix stage made) good = from_closing prefix stage made good
+finished (Stages prefix) good = from_stages prefix good
 finished (Compared report) good = from_compared report good
 finished (Ended report) good = from_ended report good
 
@@ -270,11 +271,11 @@ pub lines_are : (report : Report) → IsReport report → All IsLine (report_lin
 lines_are report is =
     let inputs = map Input report.inputs in
     let stages = flat_map stage_block report.stages in
-    let front : All IsLine (Header report.form ∷ Recipe report.recipe ∷ inputs) =
+    let prefix : All IsLine (Header report.form ∷ Recipe report.recipe ∷ inputs) =
     All-cons IsLine (Header report.form) (Recipe report.recipe ∷ inputs) is.form (All-cons IsLine (Recipe report.recipe) inputs is.recipe (All-map IsLine Input report.inputs is.each_input)) in
     let compares = map Compare report.compare in
     let above : All IsLine ((Header report.form ∷ Recipe report.recipe ∷ inputs) ++ stages) =
-    All-append IsLine (Header report.form ∷ Recipe report.recipe ∷ inputs) stages front (stages_are report.stages is.each_stage) in
+    All-append IsLine (Header report.form ∷ Recipe report.recipe ∷ inputs) stages prefix (stages_are report.stages is.each_stage) in
     All-append IsLine (((Header report.form ∷ Recipe report.recipe ∷ inputs) ++ stages) ++ compares) (End ∷ [])
     (All-append IsLine ((Header report.form ∷ Recipe report.recipe ∷ inputs) ++ stages) compares above (All-map IsLine Compare report.compare is.each_compare))
     (All-cons IsLine End [] tt (All-nil IsLine))

@@ -11,6 +11,7 @@ use Rattle.ddc_base.proofs.NameTexts.{fits}
 use Rattle.ddc_base.specs.Languages.Words.{language_word}
 use Rattle.ddc_base.specs.declared.languages.Language.{Language}
 use Rattle.ddc_base.specs.declared.languages.Language.TheVariants.{Hex0, Hex1, Hex2, M1}
+use Rattle.ddc_base.specs.Limits.{most_report}
 use Rattle.report.specs.declared.line.ReportLine.{ReportLine}
 use Rattle.report.specs.declared.line.ReportLine.TheVariants.{Header, Recipe, Input, Stage, Stream1, Stream2, Left, Made, Checked, Compare, End}
 use Rattle.report.specs.declared.types.Mark.{Mark}
@@ -119,10 +120,10 @@ lines_few report is =
       few_compared report.form,
     )
 
-pub short : (report : Report) → IsReport report → length (report_text report) < 1073741824
+pub short : (report : Report) → IsReport report → length (report_text report) < most_report
 short report is = omega (arith, lines_short (report_lines report) (lines_are report is), lines_few report is)
 
-pub short_result : {E : Type 0} (text : List ℕ) (result : Result (List ℕ) E) → length text < 1073741824 → IfOk result (λ found. found ≡ text)
-    → IfOk result (λ found. length found < 1073741824)
+pub short_result : {E : Type 0} (text : List ℕ) (result : Result (List ℕ) E) → length text < most_report → IfOk result (λ found. found ≡ text)
+    → IfOk result (λ found. length found < most_report)
 short_result text (Ok found) short gives = rw gives short
 short_result text (Err e) short gives = tt

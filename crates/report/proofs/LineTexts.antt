@@ -17,7 +17,7 @@ use Rattle.report.specs.Reports.{IsForm, IsDigest, IsMark, IsInputLine, IsLeft, 
 use Rattle.report.proofs.Cuts.{Without, Without-append, cut_at-joined, cut_at-takes, bind_some, same_some}
 use Rattle.report.proofs.Plain.{no_blank, no_feed}
 use Rattle.report.proofs.LineByLine.Rules.{line_is_next, next_is_line}
-use Rattle.report.proofs.Spelled.{two_again, two_takes}
+use Rattle.report.proofs.Encoded.{two_again, two_takes}
 use Rattle.report.proofs.FieldTexts.{by_word, number, name, name_word, language, digest, digest_text, mark, mark_text, file_line, file_text, stream_line_takes, binary, binary_text, compared_text}
 
 -- a line that is spelled one way
@@ -140,13 +140,13 @@ input_takes : (fields : List ℕ) (l : ReportLine) → input_of fields ≡ Some 
 unfolding input_of
 input_takes fields l e =
     let two = two_takes name mark (λ n m. Input (record { name = n; mark = m })) fields l e in
-    subst (Is (codes "input" ++ 32 ∷ fields)) two.is (record { name = two.is_first; mark = two.is_second }, ap (λ (t : List ℕ). codes "input" ++ 32 ∷ t) two.spelled)
+    subst (Is (codes "input" ++ 32 ∷ fields)) two.is (record { name = two.is_first; mark = two.is_second }, ap (λ (t : List ℕ). codes "input" ++ 32 ∷ t) two.encoded)
 
 stage_takes : (fields : List ℕ) (l : ReportLine) → stage_of fields ≡ Some l → Is (codes "stage" ++ 32 ∷ fields) l
 unfolding stage_of
 stage_takes fields l e =
     let two = two_takes name number (λ n steps. Stage n steps) fields l e in
-    subst (Is (codes "stage" ++ 32 ∷ fields)) two.is ((two.is_first, two.is_second), ap (λ (t : List ℕ). codes "stage" ++ 32 ∷ t) two.spelled)
+    subst (Is (codes "stage" ++ 32 ∷ fields)) two.is ((two.is_first, two.is_second), ap (λ (t : List ℕ). codes "stage" ++ 32 ∷ t) two.encoded)
 
 stream_takes : (fields : List ℕ) (l : ReportLine) → stream_of fields ≡ Some l → Is (codes "stream" ++ 32 ∷ fields) l
 unfolding stream_of
@@ -180,7 +180,7 @@ unfolding compare_of
 compare_takes fields l e =
     let two = two_takes name binary (λ s f. Compare (record { stage = s; binary = f.0; result = f.1 })) fields l e in
     subst (Is (codes "compare" ++ 32 ∷ fields)) two.is
-    (record { stage = two.is_first; binary = two.is_second.0; result = two.is_second.1 }, ap (λ (t : List ℕ). codes "compare" ++ 32 ∷ t) two.spelled)
+    (record { stage = two.is_first; binary = two.is_second.0; result = two.is_second.1 }, ap (λ (t : List ℕ). codes "compare" ++ 32 ∷ t) two.encoded)
 
 kind_takes : (kind fields : List ℕ) (l : ReportLine) → line_of_kind kind fields ≡ Some l → Is (kind ++ 32 ∷ fields) l
 unfolding line_of_kind
@@ -208,26 +208,26 @@ line_takes text l e =
 
 -- ---- lines with their LF
 
-spelled : (l : ReportLine) → line_text (line_words l) ≡ text_of l ++ 10 ∷ []
-spelled (Header form) = simp append_assoc
-spelled (Recipe d) = refl
-spelled (Input i) = simp append_assoc
-spelled (Stage n steps) = simp append_assoc
-spelled (Stream1 m) = simp append_assoc
-spelled (Stream2 m) = simp append_assoc
-spelled (Left f) = simp append_assoc
-spelled (Made m) = simp append_assoc
-spelled (Checked (Some l)) = refl
-spelled (Checked None) = refl
-spelled (Compare c) = on c.result
+encoded : (l : ReportLine) → line_text (line_words l) ≡ text_of l ++ 10 ∷ []
+encoded (Header form) = simp append_assoc
+encoded (Recipe d) = refl
+encoded (Input i) = simp append_assoc
+encoded (Stage n steps) = simp append_assoc
+encoded (Stream1 m) = simp append_assoc
+encoded (Stream2 m) = simp append_assoc
+encoded (Left f) = simp append_assoc
+encoded (Made m) = simp append_assoc
+encoded (Checked (Some l)) = refl
+encoded (Checked None) = refl
+encoded (Compare c) = on c.result
   where
     on : (r : Compared) → line_text (codes "compare" ∷ c.stage ∷ c.binary ∷ compared_words r) ≡ (codes "compare" ++ 32 ∷ (c.stage ++ 32 ∷ (c.binary ++ 32 ∷ compared_text r))) ++ 10 ∷ []
     on (Equal n) = simp append_assoc
     on (Differs o a b) = simp append_assoc
-spelled End = refl
+encoded End = refl
 
 pub next_again : (l : ReportLine) (rest : List ℕ) → IsLine l → next_line line_of (line_text (line_words l) ++ rest) ≡ Some (l, rest)
-next_again l rest is = line_is_next line_of (line_words l) (text_of l) rest l (spelled l) (line_no_feed l is) (line_again l is)
+next_again l rest is = line_is_next line_of (line_words l) (text_of l) rest l (encoded l) (line_no_feed l is) (line_again l is)
 
 pub next_takes : (bytes : List ℕ) (l : ReportLine) (rest : List ℕ) → next_line line_of bytes ≡ Some (l, rest) → IsLine l × (bytes ≡ line_text (line_words l) ++ rest)
-next_takes = next_is_line line_of line_words IsLine (λ text l e. (let found = line_takes text l e in (found.0, spelled l ∙ ap (λ (t : List ℕ). t ++ 10 ∷ []) (sym found.1))))
+next_takes = next_is_line line_of line_words IsLine (λ text l e. (let found = line_takes text l e in (found.0, encoded l ∙ ap (λ (t : List ℕ). t ++ 10 ∷ []) (sym found.1))))

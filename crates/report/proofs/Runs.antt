@@ -5,6 +5,7 @@ use Rattle.std.specs.List.{flat_map}
 use Rattle.std.proofs.lemmas.List.{append-nil}
 use Rattle.std.proofs.lemmas.List.Elements.{All-head, All-tail}
 use Rattle.ddc_base.specs.declared.digests.Digest.{Digest}
+use Rattle.ddc_base.specs.Limits.{most_names}
 use Rattle.report.specs.declared.line.ReportLine.{ReportLine}
 use Rattle.report.specs.declared.line.ReportLine.TheVariants.{Input, Stream1, Stream2, Left, Made, Checked, Compare, End}
 use Rattle.report.specs.declared.types.InputLine.{InputLine}
@@ -12,7 +13,7 @@ use Rattle.report.specs.declared.types.LeftLine.{LeftLine}
 use Rattle.report.specs.declared.types.StageLine.{StageLine}
 use Rattle.report.specs.declared.types.CompareLine.{CompareLine}
 use Rattle.report.specs.declared.types.Report.{Report}
-use Rattle.report.specs.declared.state.Front.{Front}
+use Rattle.report.specs.declared.state.Prefix.{Prefix}
 use Rattle.report.specs.declared.state.Opened.{Opened}
 use Rattle.report.specs.declared.state.State.{State}
 use Rattle.report.specs.declared.state.State.TheVariants.{Start, Inputs, Named, Leaving, Stages, Compared, Ended}
@@ -27,45 +28,45 @@ abbrev run : State → List ReportLine → Option State
 run state lines = runs step state lines
 
 -- two runs, one after the other
-then : (s t : State) (front more : List ReportLine) → run s front ≡ Some t → run s (front ++ more) ≡ run t more
-then s t front more first = runs_then step s t front more first
+then : (s t : State) (prefix more : List ReportLine) → run s prefix ≡ Some t → run s (prefix ++ more) ≡ run t more
+then s t prefix more first = runs_then step s t prefix more first
 
-run_inputs : (form : ℕ) (recipe : Digest) (front more : List InputLine) → length front + length more ≤ 256 → run (Inputs form recipe front) (map Input more) ≡ Some (Inputs form recipe (front ++ more))
+run_inputs : (form : ℕ) (recipe : Digest) (prefix more : List InputLine) → length prefix + length more ≤ 256 → run (Inputs form recipe prefix) (map Input more) ≡ Some (Inputs form recipe (prefix ++ more))
 unfolding step
-run_inputs form recipe front [] few = ap (λ (inputs : List InputLine). Some (Inputs form recipe inputs)) (sym (append-nil front))
-run_inputs form recipe front (input ∷ more) few =
-    rw (below (length front) 256 (omega arith)) (run_inputs form recipe (front ++ input ∷ []) more (omega (arith, length-append front (input ∷ [])))
-    ∙ ap (λ (inputs : List InputLine). Some (Inputs form recipe inputs)) (append_assoc front (input ∷ []) more))
+run_inputs form recipe prefix [] few = ap (λ (inputs : List InputLine). Some (Inputs form recipe inputs)) (sym (append-nil prefix))
+run_inputs form recipe prefix (input ∷ more) few =
+    rw (below (length prefix) 256 (omega arith)) (run_inputs form recipe (prefix ++ input ∷ []) more (omega (arith, length-append prefix (input ∷ [])))
+    ∙ ap (λ (inputs : List InputLine). Some (Inputs form recipe inputs)) (append_assoc prefix (input ∷ []) more))
 
-run_left : (front : Front) (stage : Opened) (more : List LeftLine) → length stage.left + length more ≤ 4096 → ascend (stage.left ++ more) ≡ true
-    → run (Leaving front stage) (map Left more) ≡ Some (Leaving front (record stage { left = stage.left ++ more }))
+run_left : (prefix : Prefix) (stage : Opened) (more : List LeftLine) → length stage.left + length more ≤ most_names → ascend (stage.left ++ more) ≡ true
+    → run (Leaving prefix stage) (map Left more) ≡ Some (Leaving prefix (record stage { left = stage.left ++ more }))
 unfolding step
-run_left front stage [] few ascending = ap (λ (left : List LeftLine). Some (Leaving front (record stage { left = left }))) (sym (append-nil stage.left))
-run_left front stage (file ∷ more) few ascending =
-    rw (below (length stage.left) 4096 (omega arith), follows_last stage.left file more ascending)
-    (run_left front (record stage { left = stage.left ++ file ∷ [] }) more (omega (arith, length-append stage.left (file ∷ []))) (rw (append_assoc stage.left (file ∷ []) more) ascending)
-    ∙ ap (λ (left : List LeftLine). Some (Leaving front (record stage { left = left }))) (append_assoc stage.left (file ∷ []) more))
+run_left prefix stage [] few ascending = ap (λ (left : List LeftLine). Some (Leaving prefix (record stage { left = left }))) (sym (append-nil stage.left))
+run_left prefix stage (file ∷ more) few ascending =
+    rw (below (length stage.left) most_names (omega arith), follows_last stage.left file more ascending)
+    (run_left prefix (record stage { left = stage.left ++ file ∷ [] }) more (omega (arith, length-append stage.left (file ∷ []))) (rw (append_assoc stage.left (file ∷ []) more) ascending)
+    ∙ ap (λ (left : List LeftLine). Some (Leaving prefix (record stage { left = left }))) (append_assoc stage.left (file ∷ []) more))
 
 -- a block after its first line
-run_block : (front : Front) (stage : StageLine) → IsStageLine stage
-    → run (Named front stage.name stage.steps) (Stream1 stage.stream1 ∷ Stream2 stage.stream2 ∷ map Left stage.left ++ Made stage.made ∷ Checked stage.checked ∷ [])
-    ≡ Some (Stages (with_stage front stage))
+run_block : (prefix : Prefix) (stage : StageLine) → IsStageLine stage
+    → run (Named prefix stage.name stage.steps) (Stream1 stage.stream1 ∷ Stream2 stage.stream2 ∷ map Left stage.left ++ Made stage.made ∷ Checked stage.checked ∷ [])
+    ≡ Some (Stages (with_stage prefix stage))
 unfolding step
-run_block front stage is =
+run_block prefix stage is =
     let opened : Opened = record { name = stage.name; steps = stage.steps; stream1 = stage.stream1; stream2 = stage.stream2; left = [] } in
-    then (Leaving front opened) (Leaving front (record opened { left = stage.left })) (map Left stage.left) (Made stage.made ∷ Checked stage.checked ∷ [])
-    (run_left front opened stage.left (omega (arith, is.count)) is.ascending)
+    then (Leaving prefix opened) (Leaving prefix (record opened { left = stage.left })) (map Left stage.left) (Made stage.made ∷ Checked stage.checked ∷ [])
+    (run_left prefix opened stage.left (omega (arith, is.count)) is.ascending)
 
-run_stages : (front : Front) (more : List StageLine) → length front.stages + length more ≤ 256 → All IsStageLine more
-    → run (Stages front) (flat_map stage_block more) ≡ Some (Stages (record front { stages = front.stages ++ more }))
+run_stages : (prefix : Prefix) (more : List StageLine) → length prefix.stages + length more ≤ 256 → All IsStageLine more
+    → run (Stages prefix) (flat_map stage_block more) ≡ Some (Stages (record prefix { stages = prefix.stages ++ more }))
 unfolding step
-run_stages front [] few each = ap (λ (stages : List StageLine). Some (Stages (record front { stages = stages }))) (sym (append-nil front.stages))
-run_stages front (stage ∷ more) few each =
-    let opened : run (Stages front) (stage_block stage) ≡ Some (Stages (with_stage front stage)) =
-    rw (below (length front.stages) 256 (omega arith)) (run_block front stage (All-head IsStageLine stage more each)) in
-    then (Stages front) (Stages (with_stage front stage)) (stage_block stage) (flat_map stage_block more) opened
-    ∙ run_stages (with_stage front stage) more (omega (arith, length-append front.stages (stage ∷ []))) (All-tail IsStageLine stage more each)
-    ∙ ap (λ (stages : List StageLine). Some (Stages (record front { stages = stages }))) (append_assoc front.stages (stage ∷ []) more)
+run_stages prefix [] few each = ap (λ (stages : List StageLine). Some (Stages (record prefix { stages = stages }))) (sym (append-nil prefix.stages))
+run_stages prefix (stage ∷ more) few each =
+    let opened : run (Stages prefix) (stage_block stage) ≡ Some (Stages (with_stage prefix stage)) =
+    rw (below (length prefix.stages) 256 (omega arith)) (run_block prefix stage (All-head IsStageLine stage more each)) in
+    then (Stages prefix) (Stages (with_stage prefix stage)) (stage_block stage) (flat_map stage_block more) opened
+    ∙ run_stages (with_stage prefix stage) more (omega (arith, length-append prefix.stages (stage ∷ []))) (All-tail IsStageLine stage more each)
+    ∙ ap (λ (stages : List StageLine). Some (Stages (record prefix { stages = stages }))) (append_assoc prefix.stages (stage ∷ []) more)
 
 -- the blocks, the first of which ends the inputs
 run_blocks : (form : ℕ) (recipe : Digest) (inputs : List InputLine) (stages : List StageLine) → 1 ≤ length inputs → 1 ≤ length stages → length stages ≤ 256 → All IsStageLine stages
@@ -73,11 +74,11 @@ run_blocks : (form : ℕ) (recipe : Digest) (inputs : List InputLine) (stages : 
 unfolding step
 run_blocks form recipe inputs [] some one few each = absurd (omega arith)
 run_blocks form recipe inputs (stage ∷ more) some one few each =
-    let front : Front = record { form = form; recipe = recipe; inputs = inputs; stages = [] } in
-    let opened : run (Inputs form recipe inputs) (stage_block stage) ≡ Some (Stages (with_stage front stage)) =
-    rw (below 0 (length inputs) (omega arith)) (run_block front stage (All-head IsStageLine stage more each)) in
-    then (Inputs form recipe inputs) (Stages (with_stage front stage)) (stage_block stage) (flat_map stage_block more) opened
-    ∙ run_stages (with_stage front stage) more (omega arith) (All-tail IsStageLine stage more each)
+    let prefix : Prefix = record { form = form; recipe = recipe; inputs = inputs; stages = [] } in
+    let opened : run (Inputs form recipe inputs) (stage_block stage) ≡ Some (Stages (with_stage prefix stage)) =
+    rw (below 0 (length inputs) (omega arith)) (run_block prefix stage (All-head IsStageLine stage more each)) in
+    then (Inputs form recipe inputs) (Stages (with_stage prefix stage)) (stage_block stage) (flat_map stage_block more) opened
+    ∙ run_stages (with_stage prefix stage) more (omega arith) (All-tail IsStageLine stage more each)
 
 -- the comparisons after the first one
 run_compares : (report : Report) (more : List CompareLine) → length report.compare + length more ≤ most_comparisons report.form
@@ -104,10 +105,10 @@ run_report report is =
     let stages = flat_map stage_block report.stages in
     let compares = map Compare report.compare in
     let start = Inputs report.form report.recipe [] in
-    let front = Stages (record { form = report.form; recipe = report.recipe; inputs = report.inputs; stages = report.stages }) in
+    let prefix = Stages (record { form = report.form; recipe = report.recipe; inputs = report.inputs; stages = report.stages }) in
     let read : run start inputs ≡ Some (Inputs report.form report.recipe report.inputs) = run_inputs report.form report.recipe [] report.inputs (omega (arith, is.inputs.1)) in
-    let before : run start (inputs ++ stages) ≡ Some front =
+    let before : run start (inputs ++ stages) ≡ Some prefix =
     then start (Inputs report.form report.recipe report.inputs) inputs stages read
     ∙ run_blocks report.form report.recipe report.inputs report.stages is.inputs.0 is.stages.0 is.stages.1 is.each_stage in
-    let compared : run start ((inputs ++ stages) ++ compares) ≡ Some (Compared report) = then start front (inputs ++ stages) compares before ∙ run_compared report report.compare is.compares in
+    let compared : run start ((inputs ++ stages) ++ compares) ≡ Some (Compared report) = then start prefix (inputs ++ stages) compares before ∙ run_compared report report.compare is.compares in
     then start (Compared report) ((inputs ++ stages) ++ compares) (End ∷ []) compared

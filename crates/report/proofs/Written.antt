@@ -17,9 +17,9 @@ pub writes_more : {X L : Type 0} (words : L → List (List ℕ)) (lines : List X
 writes_more words lines one adds old xs i x out more within is writes grown =
     let text = text_of_lines words in
     let rest = drop (i + 1) xs in
-    let front : drop i xs ≡ x ∷ rest = drop_more xs i x within ∙ ap (λ y. y ∷ rest) (sym is) in
+    let prefix : drop i xs ≡ x ∷ rest = drop_more xs i x within ∙ ap (λ y. y ∷ rest) (sym is) in
     let split : text (lines (drop i xs)) ≡ text (one x) ++ text (lines rest) =
-    ap (λ ys. text (lines ys)) front ∙ ap text (adds x rest) ∙ flat_map-append (λ l. line_text (words l)) (one x) (lines rest) in
+    ap (λ ys. text (lines ys)) prefix ∙ ap text (adds x rest) ∙ flat_map-append (λ l. line_text (words l)) (one x) (lines rest) in
     record {
       so_far = ap (λ (t : List ℕ). t ++ text (lines rest)) grown ∙ append_assoc out (text (one x)) (text (lines rest))
           ∙ ap (λ (t : List ℕ). out ++ t) (sym split) ∙ writes.so_far;

@@ -7,6 +7,7 @@ use Rattle.std.specs.Cmp.Lexicographic.{slice_cmp}
 pub use Rattle.ddc_base.specs.ByteLists.{AreBytes}
 use Rattle.ddc_base.specs.Names.{IsName}
 use Rattle.ddc_base.specs.declared.digests.Digest.{Digest}
+use Rattle.ddc_base.specs.Limits.{most_names}
 use Rattle.report.specs.declared.line.ReportLine.{ReportLine}
 use Rattle.report.specs.declared.line.ReportLine.TheVariants.{Header, Recipe, Input, Stage, Stream1, Stream2, Left, Made, Checked, Compare, End}
 use Rattle.report.specs.declared.types.Mark.{Mark}
@@ -29,11 +30,11 @@ stage_block stage =
     ++ Made stage.made ∷ Checked stage.checked ∷ []
 
 -- the lines above the comparisons
-abbrev pub front_lines : ℕ → Digest → List InputLine → List StageLine → List ReportLine
-front_lines form recipe inputs stages = (Header form ∷ Recipe recipe ∷ map Input inputs) ++ flat_map stage_block stages
+abbrev pub prefix_lines : ℕ → Digest → List InputLine → List StageLine → List ReportLine
+prefix_lines form recipe inputs stages = (Header form ∷ Recipe recipe ∷ map Input inputs) ++ flat_map stage_block stages
 
 abbrev pub report_lines : Report → List ReportLine
-report_lines report = front_lines report.form report.recipe report.inputs report.stages ++ map Compare report.compare ++ End ∷ []
+report_lines report = prefix_lines report.form report.recipe report.inputs report.stages ++ map Compare report.compare ++ End ∷ []
 
 -- the unique text of a report
 abbrev pub report_text : Report → List ℕ
@@ -72,7 +73,7 @@ pub record IsStageLine (stage : StageLine) : Type 0 where
   pub steps : stage.steps < 2 ^ 64
   pub stream1 : IsMark stage.stream1
   pub stream2 : IsMark stage.stream2
-  pub count : length stage.left ≤ 4096
+  pub count : length stage.left ≤ most_names
   pub each_left : All IsLeft stage.left
   pub ascending : IsTrue (ascend stage.left)
   pub made : IsMark stage.made

@@ -4,6 +4,7 @@ ghost use Rattle.std.specs.Prelude.{◌≡◌, ◌<◌, ◌^◌, ◌↔◌, ℕ,
 ghost use Rattle.std.specs.Ordering.{nat_cmp};
 ghost use Rattle.std.specs.Cmp.Lexicographic.{slice_cmp};
 ghost use Rattle.std.specs.List.Sorted.{IsStrictlySortedBy};
+ghost use Rattle.ddc_base.specs.Limits.{most_report};
 ghost use Rattle.sha2.specs.Sha256.{sha256};
 ghost use Rattle.report.specs.Reading.{report_of};
 ghost use Rattle.report.specs.Reports.{IsMark, IsReport, ascend, report_text, report_texts};
@@ -18,7 +19,7 @@ pub fn one_text()
 
 /// The text of a well-formed report has fewer than 2^30 bytes.
 pub fn short_text()
-    ensures { (report : ReportValue) → IsReport report → length (report_text report) < 1_073_741_824 }
+    ensures { (report : ReportValue) → IsReport report → length (report_text report) < most_report }
 {}
 
 /// A text has exactly one reading: the report with this text, or otherwise its first fault.

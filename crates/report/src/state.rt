@@ -14,21 +14,19 @@ use crate::types::{
 };
 use ddc_base::digests::Digest;
 use ddc_base::languages::Language;
+use ddc_base::limits::MOST_NAMES;
 use ddc_base::{ListOf, Name, OutOfMemory};
 use std::alloc::Global;
 
 /// The most inputs, and the most stages.
 const MANY: usize = 256;
 
-/// The most files that a stage leaves.
-const MANY_LEFT: usize = 4096;
-
 /// The most comparisons of a report of format 2.
 const MANY_COMPARED: usize = 16;
 
 /// The part of a report above the comparisons.
 #[derive(Drop)]
-pub struct Front {
+pub struct Prefix {
     pub form: u32,
     pub recipe: Digest,
     pub inputs: InputLines,
@@ -37,7 +35,7 @@ pub struct Front {
 
 /// A stage's block up to its first stream.
 #[derive(Drop)]
-pub struct BlockFront {
+pub struct BlockPrefix {
     pub name: Name,
     pub steps: u64,
     pub stream1: Mark,
@@ -63,15 +61,15 @@ pub enum State {
     /// After the header: the recipe's digest, and these inputs.
     Inputs(u32, Digest, InputLines),
     /// In a block: the stage's name and steps.
-    Named(Front, Name, u64),
+    Named(Prefix, Name, u64),
     /// In a block: the first stream as well.
-    Heard(Front, BlockFront),
+    Heard(Prefix, BlockPrefix),
     /// In a block: both streams, and these left files.
-    Leaving(Front, Opened),
+    Leaving(Prefix, Opened),
     /// In a block: its artefact as well.
-    Closing(Front, Opened, Mark),
+    Closing(Prefix, Opened, Mark),
     /// Whole blocks, at least one.
-    Stages(Front),
+    Stages(Prefix),
     /// Comparisons, at least one.
     Compared(Report),
     /// The end line.
@@ -90,11 +88,11 @@ impl State {
             State::Inputs(form, recipe, inputs) => {
                 after_inputs(alloc, form, recipe, inputs, line)
             }
-            State::Named(front, name, steps) => Ok(after_name(front, name, steps, line)),
-            State::Heard(front, stage) => Ok(after_stream1(alloc, front, stage, line)),
-            State::Leaving(front, stage) => after_stream2(front, stage, line),
-            State::Closing(front, stage, made) => after_made(front, stage, made, line),
-            State::Stages(front) => after_stages(alloc, front, line),
+            State::Named(prefix, name, steps) => Ok(after_name(prefix, name, steps, line)),
+            State::Heard(prefix, stage) => Ok(after_stream1(alloc, prefix, stage, line)),
+            State::Leaving(prefix, stage) => after_stream2(prefix, stage, line),
+            State::Closing(prefix, stage, made) => after_made(prefix, stage, made, line),
+            State::Stages(prefix) => after_stages(alloc, prefix, line),
             State::Compared(report) => after_compared(report, line),
             State::Ended(_) => Ok(None),
         }
@@ -144,38 +142,43 @@ fn after_inputs(
             if inputs.is_empty() {
                 return Ok(None);
             }
-            let front = Front {
+            let prefix = Prefix {
                 form,
                 recipe,
                 inputs,
                 stages: ListOf::new(alloc),
             };
-            Ok(Some(State::Named(front, name, steps)))
+            Ok(Some(State::Named(prefix, name, steps)))
         }
         _ => Ok(None),
     }
 }
 
 #[tactic(auto, unfolding(crate::specs::Inside::States::step))]
-fn after_name(front: Front, name: Name, steps: u64, line: ReportLine) -> Option<State>
-    ensures { result ≡ step (state.Named front name steps) line }
+fn after_name(prefix: Prefix, name: Name, steps: u64, line: ReportLine) -> Option<State>
+    ensures { result ≡ step (state.Named prefix name steps) line }
 {
     match line {
         ReportLine::Stream1(stream1) => {
-            let stage = BlockFront {
+            let stage = BlockPrefix {
                 name,
                 steps,
                 stream1,
             };
-            Some(State::Heard(front, stage))
+            Some(State::Heard(prefix, stage))
         }
         _ => None,
     }
 }
 
 #[tactic(auto, unfolding(crate::specs::Inside::States::step))]
-fn after_stream1(alloc: Global, front: Front, stage: BlockFront, line: ReportLine) -> Option<State>
-    ensures { result ≡ step (state.Heard front stage) line }
+fn after_stream1(
+    alloc: Global,
+    prefix: Prefix,
+    stage: BlockPrefix,
+    line: ReportLine,
+) -> Option<State>
+    ensures { result ≡ step (state.Heard prefix stage) line }
 {
     match line {
         ReportLine::Stream2(stream2) => {
@@ -186,7 +189,7 @@ fn after_stream1(alloc: Global, front: Front, stage: BlockFront, line: ReportLin
                 stream2,
                 left: ListOf::new(alloc),
             };
-            Some(State::Leaving(front, opened))
+            Some(State::Leaving(prefix, opened))
         }
         _ => None,
     }
@@ -194,40 +197,40 @@ fn after_stream1(alloc: Global, front: Front, stage: BlockFront, line: ReportLin
 
 #[tactic(auto, unfolding(crate::specs::Inside::States::step))]
 fn after_stream2(
-    front: Front,
+    prefix: Prefix,
     mut stage: Opened,
     line: ReportLine,
 ) -> Result<Option<State>, OutOfMemory>
-    ensures { IfOk result (λ next. next ≡ step (state.Leaving front stage) line) }
+    ensures { IfOk result (λ next. next ≡ step (state.Leaving prefix stage) line) }
 {
     match line {
         ReportLine::Left(file) => {
-            if stage.left.len() < MANY_LEFT
+            if stage.left.len() < MOST_NAMES
                 && follows(stage.left.as_slice(), file.name.as_slice())
             {
                 stage.left.push(file)?;
-                Ok(Some(State::Leaving(front, stage)))
+                Ok(Some(State::Leaving(prefix, stage)))
             } else {
                 Ok(None)
             }
         }
-        ReportLine::Made(made) => Ok(Some(State::Closing(front, stage, made))),
+        ReportLine::Made(made) => Ok(Some(State::Closing(prefix, stage, made))),
         _ => Ok(None),
     }
 }
 
 #[tactic(auto, unfolding(crate::specs::Inside::States::step))]
 fn after_made(
-    mut front: Front,
+    mut prefix: Prefix,
     stage: Opened,
     made: Mark,
     line: ReportLine,
 ) -> Result<Option<State>, OutOfMemory>
-    ensures { IfOk result (λ next. next ≡ step (state.Closing front stage made) line) }
+    ensures { IfOk result (λ next. next ≡ step (state.Closing prefix stage made) line) }
 {
     match line {
         ReportLine::Checked(checked) => {
-            front.stages.push(StageLine {
+            prefix.stages.push(StageLine {
                 name: stage.name,
                 steps: stage.steps,
                 stream1: stage.stream1,
@@ -236,20 +239,24 @@ fn after_made(
                 made,
                 checked,
             })?;
-            Ok(Some(State::Stages(front)))
+            Ok(Some(State::Stages(prefix)))
         }
         _ => Ok(None),
     }
 }
 
 #[tactic(auto, unfolding(crate::specs::Inside::States::step))]
-fn after_stages(alloc: Global, front: Front, line: ReportLine) -> Result<Option<State>, OutOfMemory>
-    ensures { IfOk result (λ next. next ≡ step (state.Stages front) line) }
+fn after_stages(
+    alloc: Global,
+    prefix: Prefix,
+    line: ReportLine,
+) -> Result<Option<State>, OutOfMemory>
+    ensures { IfOk result (λ next. next ≡ step (state.Stages prefix) line) }
 {
     match line {
         ReportLine::Stage(name, steps) => {
-            if front.stages.len() < MANY {
-                Ok(Some(State::Named(front, name, steps)))
+            if prefix.stages.len() < MANY {
+                Ok(Some(State::Named(prefix, name, steps)))
             } else {
                 Ok(None)
             }
@@ -258,10 +265,10 @@ fn after_stages(alloc: Global, front: Front, line: ReportLine) -> Result<Option<
             let mut compares: CompareLines = ListOf::new(alloc);
             compares.push(compare)?;
             Ok(Some(State::Compared(Report {
-                form: front.form,
-                recipe: front.recipe,
-                inputs: front.inputs,
-                stages: front.stages,
+                form: prefix.form,
+                recipe: prefix.recipe,
+                inputs: prefix.inputs,
+                stages: prefix.stages,
                 compare: compares,
             })))
         }

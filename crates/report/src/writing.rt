@@ -3,6 +3,7 @@
 ghost use Rattle.std.specs.Prelude.{◌≡◌, ◌++◌, ◌∷◌, ◌<◌, [], decimal, map, length, OnOk, IfOk};
 ghost use Rattle.std.specs.List.{flat_map};
 ghost use Rattle.ddc_base.specs.Lines.{line as line_text};
+ghost use Rattle.ddc_base.specs.Limits.{most_report};
 ghost use Rattle.report.specs.Lines.{line_words, mark_words, compared_words, checked_words, form_word, lines_text};
 ghost use Rattle.report.specs.Reports.{IsReport, stage_block, report_text};
 ghost use Rattle.report.specs.declared.line.ReportLine.TheVariants as line;
@@ -16,21 +17,21 @@ use std::alloc::Global;
 /// Capacity for the lines around the inputs, stages and comparisons; for an input's line; for a stage's block without
 /// left files; for a left file's line without its name; and for a comparison's line. Lengths and steps have at most 20
 /// digits.
-const FRONT_ROOM: usize = 128;
+const PREFIX_CAPACITY: usize = 128;
 
-const INPUT_ROOM: usize = 128;
+const INPUT_CAPACITY: usize = 128;
 
-const STAGE_ROOM: usize = 384;
+const STAGE_CAPACITY: usize = 384;
 
-const LEFT_ROOM: usize = 92;
+const LEFT_CAPACITY: usize = 92;
 
-const COMPARE_ROOM: usize = 160;
+const COMPARE_CAPACITY: usize = 160;
 
 /// The unique text of a well-formed report. It has fewer than 2^30 bytes.
 pub fn write(alloc: Global, report: &Report) -> Result<Bytes, OutOfMemory>
     requires { IsReport report.now }
     ensures value { IfOk result (λ text. text ≡ report_text report.now) }
-    ensures short { IfOk result (λ text. length text < 1_073_741_824) }
+    ensures short { IfOk result (λ text. length text < most_report) }
 {
     text_of(alloc, report)
 }
@@ -38,8 +39,8 @@ pub fn write(alloc: Global, report: &Report) -> Result<Bytes, OutOfMemory>
 fn text_of(alloc: Global, report: &Report) -> Result<Bytes, OutOfMemory>
     ensures { IfOk result (λ text. text ≡ report_text report.now) }
 {
-    let mut out = Bytes::with_capacity(alloc, room(report))?;
-    put_front(&mut out, report)?;
+    let mut out = Bytes::with_capacity(alloc, capacity(report))?;
+    put_prefix(&mut out, report)?;
     put_stages(&mut out, report.stages.as_slice())?;
     put_compares(&mut out, report.compare.as_slice())?;
     out.extend(b"end\n")?;
@@ -47,27 +48,27 @@ fn text_of(alloc: Global, report: &Report) -> Result<Bytes, OutOfMemory>
 }
 
 /// Capacity for a report's text, so that it is not moved as it grows. It is little more than needed.
-fn room(report: &Report) -> usize {
-    let mut room = report
+fn capacity(report: &Report) -> usize {
+    let mut capacity = report
         .inputs
         .len()
-        .saturating_mul(INPUT_ROOM)
-        .saturating_add(FRONT_ROOM);
-    let compares = report.compare.len().saturating_mul(COMPARE_ROOM);
-    room = room.saturating_add(compares);
+        .saturating_mul(INPUT_CAPACITY)
+        .saturating_add(PREFIX_CAPACITY);
+    let compares = report.compare.len().saturating_mul(COMPARE_CAPACITY);
+    capacity = capacity.saturating_add(compares);
     for stage in report.stages.as_slice() {
-        room = room.saturating_add(STAGE_ROOM);
+        capacity = capacity.saturating_add(STAGE_CAPACITY);
         for file in stage.left.as_slice() {
             let name = file.name.len().saturating_mul(2);
-            room = room.saturating_add(LEFT_ROOM).saturating_add(name);
+            capacity = capacity.saturating_add(LEFT_CAPACITY).saturating_add(name);
         }
     }
-    room
+    capacity
 }
 
 /// Writes the lines above the stages.
 #[tactic(auto, using(crate::proofs::Written::written))]
-fn put_front(out: &mut Bytes, report: &Report) -> Result<(), OutOfMemory>
+fn put_prefix(out: &mut Bytes, report: &Report) -> Result<(), OutOfMemory>
     ensures { OnOk result (out.new ≡ out.old ++ lines_text (line.Header report.now.form ∷ line.Recipe report.now.recipe ∷ map line.Input report.now.inputs)) }
 {
     out.extend(b"ddc-report ")?;

@@ -4,7 +4,7 @@ use Rattle.std.specs.Prelude.{option_map, if◌then◌else◌}
 use Rattle.rv64_table.specs.declared.Row.{Row}
 use Rattle.rv64_table.specs.declared.Op.{Op}
 use Rattle.rv64_table.specs.declared.Form.{Form}
-use Rattle.rv64_table.proofs.Places.{row_for-op}
+use Rattle.rv64_table.proofs.RowIndices.{row_for-op}
 use Rattle.rv64_decode.specs.Fields.{bits, immediate, has_rd, has_rs1, has_rs2}
 use Rattle.rv64_table.specs.Table.{row_for, row_with}
 use Rattle.rv64_decode.specs.declared.Inst.{Inst}

@@ -9,7 +9,7 @@ use Rattle.rv64_table.specs.Table.{mask_of}
 use Rattle.rv64_table.specs.Inside.Lookup.{has_fields, fits_funct3, fits_registers, fits_funct7}
 use Rattle.rv64_table.proofs.RowsByField.{matches-form}
 use Rattle.rv64_table.proofs.Masks.{and-fixed}
-use Rattle.rv64_table.proofs.Places.{Wants}
+use Rattle.rv64_table.proofs.RowIndices.{Wants}
 use Rattle.rv64_decode.specs.Fields.{bits, branch_offset, jump_offset, signed, immediate, has_rd, has_rs1, has_rs2}
 use Rattle.rv64_decode.specs.Encode.{immediate_bits, has_immediate, is_signed, is_multiple}
 use Rattle.rv64_decode.proofs.Signed.{signed-code, unsigned-code, multiple-2, multiple-4096}

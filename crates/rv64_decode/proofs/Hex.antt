@@ -16,7 +16,7 @@ hex_digits-last i m = rw (add-one i) refl
 pub hex_digits-more : (count i n : ℕ) → i < count
     → hex_digits (i + 1) (n / 2 ^ (4 * (count - (i + 1)))) ≡ hex_digits i (n / 2 ^ (4 * (count - i))) ++ hex_digit (n / 2 ^ (4 * (count - 1 - i)) % 16) ∷ []
 hex_digits-more count i n h =
-    let place : 4 * (count - (i + 1)) + 4 ≡ 4 * (count - i) = omega arith in
+    let exponent : 4 * (count - (i + 1)) + 4 ≡ 4 * (count - i) = omega arith in
     let same : 4 * (count - 1 - i) ≡ 4 * (count - (i + 1)) = omega arith in
-    let high : n / 2 ^ (4 * (count - (i + 1))) / 16 ≡ n / 2 ^ (4 * (count - i)) = shr-shr n (4 * (count - (i + 1))) 4 ∙ ap (λ j. n / 2 ^ j) place in
+    let high : n / 2 ^ (4 * (count - (i + 1))) / 16 ≡ n / 2 ^ (4 * (count - i)) = shr-shr n (4 * (count - (i + 1))) 4 ∙ ap (λ j. n / 2 ^ j) exponent in
     hex_digits-last i (n / 2 ^ (4 * (count - (i + 1)))) ∙ rw (high, same) refl

@@ -9,7 +9,7 @@ use Rattle.rv64_table.specs.declared.Form.TheVariants.{R, I, H, K, S, B, U, J, E
 use Rattle.rv64_table.specs.Table.{mask_of, row, matches, row_for, row_with, op_number, table}
 use Rattle.rv64_table.proofs.Apart.{row_for-matches}
 use Rattle.rv64_table.proofs.OpRows.{row_with-at, op-at}
-use Rattle.rv64_table.proofs.Places.{find-listed, regular-at, row_with-row_for}
+use Rattle.rv64_table.proofs.RowIndices.{find-listed, regular-at, row_with-row_for}
 use Rattle.rv64_decode.specs.declared.Inst.{Inst}
 use Rattle.rv64_decode.specs.Fields.{bits, branch_offset, jump_offset, immediate, has_rd, has_rs1, has_rs2}
 use Rattle.rv64_decode.specs.Decode.{instruction, decoded}
@@ -76,7 +76,7 @@ decoded-encodable w i e =
 given : (i : Inst) (r : Row) → row_with i.op ≡ Some r → is_encodable i ≡ true → Given r.form r.want i.rd i.rs1 i.rs2 i.imm
 given i r e h =
     let listed = find-listed (λ s. op_number s.op == op_number i.op) table r e in
-    let regular = regular-at listed.place r listed.at in
+    let regular = regular-at listed.index r listed.at in
     let fields : fits_form r.form i ≡ true = rw e at h in
     let rd = and_parts (nat_lt i.rd (if has_rd r.form then 32 else 1)) _ fields in
     let rs1 = and_parts (nat_lt i.rs1 (if has_rs1 r.form then 32 else 1)) _ rd.1 in
@@ -101,16 +101,16 @@ joined-word i r n e op h immediate =
     let w : ℕ = joined_fields r.want i n in
     let reading = reads r.form r.want i.rd i.rs1 i.rs2 i.imm w (given i r e h) (ap (joined_fields r.want i) immediate) in
     let listed = find-listed (λ s. op_number s.op == op_number i.op) table r e in
-    let regular = regular-at listed.place r listed.at in
+    let regular = regular-at listed.index r listed.at in
     let fit : matches r w ≡ true = rw regular.mask reading.matches in
     let fields = same-fields i r w op reading.rd reading.rs1 reading.rs2 reading.imm in
-    record { below = reading.below; decodes = decoded-row w r (row_for-matches w listed.place r listed.at fit) ∙ ap Some fields }
+    record { below = reading.below; decodes = decoded-row w r (row_for-matches w listed.index r listed.at fit) ∙ ap Some fields }
 
 -- a word of a row matches it
 row-matches : (w : ℕ) (r : Row) → row_for w ≡ Some r → (bit_and w (mask_of r.form) == r.want) ≡ true
 row-matches w r e =
     let listed = find-listed (λ s. matches s w) table r e in
-    let regular = regular-at listed.place r listed.at in
+    let regular = regular-at listed.index r listed.at in
     rw (← regular.mask) listed.passes
 
 -- the only one

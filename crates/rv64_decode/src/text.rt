@@ -55,7 +55,7 @@ impl InstText {
     fn push_register(&mut self, before: &[u8], number: u8)
         requires { length self.old + length before.now ≤ 44 }
         ensures text { self.new ≡ self.old ++ before.now ++ spec.register number }
-        ensures room { length self.new ≤ length self.old + length before.now + 4 }
+        ensures capacity { length self.new ≤ length self.old + length before.now + 4 }
     {
         let mut digits = Buffer::new();
         self.push(before);
@@ -66,7 +66,7 @@ impl InstText {
     fn push_signed(&mut self, before: &[u8], number: i64)
         requires { length self.old + length before.now ≤ 28 }
         ensures text { self.new ≡ self.old ++ before.now ++ signed_decimal number }
-        ensures room { length self.new ≤ length self.old + length before.now + 20 }
+        ensures capacity { length self.new ≤ length self.old + length before.now + 20 }
     {
         let mut digits = Buffer::new();
         self.push(before);
@@ -75,9 +75,9 @@ impl InstText {
 
     fn push_hex(&mut self, before: &[u8], number: u64, count: u32)
         requires few { count ≤ 16 }
-        requires room { length self.old + length before.now + count ≤ 48 }
+        requires capacity { length self.old + length before.now + count ≤ 48 }
         ensures text { self.new ≡ self.old ++ before.now ++ spec.hex_digits count number }
-        ensures room { length self.new ≡ length self.old + length before.now + count }
+        ensures capacity { length self.new ≡ length self.old + length before.now + count }
     {
         self.push(before);
         for i in 0..count {
@@ -161,7 +161,7 @@ impl InstText {
         requires named { self.old ≡ spec.name inst.now.op }
         requires short { length self.old ≤ 9 }
         ensures text { self.new ≡ spec.ordered_text inst.now }
-        ensures room { length self.new ≤ 19 }
+        ensures capacity { length self.new ≤ 19 }
     {
         self.push(order_suffix(inst.imm.cast_unsigned()).as_bytes());
         self.push_register(b" ", inst.rd);
@@ -237,7 +237,7 @@ fn target(pc: u64, imm: i64) -> u64
 /// The order of accesses, as a suffix of the name.
 fn order_suffix(bits: u64) -> &'static str
     ensures text { result.now ≡ spec.order_suffix bits }
-    ensures room { length result.now ≤ 5 }
+    ensures capacity { length result.now ≤ 5 }
 {
     match bits {
         1 => ".rl",
@@ -266,7 +266,7 @@ macro_rules! names {
 
 fn name(op: Op) -> &'static str
     ensures text { result.now ≡ spec.name op }
-    ensures room { length result.now ≤ 9 }
+    ensures capacity { length result.now ≤ 9 }
 {
     names! { op;
         Lui "lui" Auipc "auipc" Jal "jal" Jalr "jalr" Beq "beq" Bne "bne" Blt "blt" Bge "bge"

@@ -6,6 +6,7 @@ use Rattle.std.proofs.lemmas.Bool.{eqb-false}
 use Rattle.std.proofs.lemmas.Grind.{common_steps}
 use Rattle.std.proofs.lemmas.List.{length-set}
 use Rattle.std.proofs.lemmas.List.Elements.{All-from_get_or}
+use Rattle.ddc_base.specs.Limits.{address_end}
 use borrow.Author.Tests.{eqb-true as tested}
 use Rattle.paged_mem.specs.Memory.{Memory, IsWhole, bytes_at, bytes_of, maps, number_of, writes, reads}
 use Rattle.paged_mem.specs.Ram.{count_of}
@@ -81,15 +82,15 @@ unreserved-hart : (hart : HartState) → IsHart hart → IsHart (record hart { r
 unreserved-hart hart is = record { count = is.count; zero = is.zero; aligned = is.aligned; whole = is.whole; reserved = tt }
 
 -- an address at which bytes are found is a multiple of their count, and low
-pub found-placed : (m : Memory) (at count value : ℕ) → reads_aligned m at count ≡ Some value → IsWhole m → 1 ≤ count → (at % count ≡ 0) × (at < 2 ^ 38)
+pub found-placed : (m : Memory) (at count value : ℕ) → reads_aligned m at count ≡ Some value → IsWhole m → 1 ≤ count → (at % count ≡ 0) × (at < address_end)
 found-placed m at zero value is whole some = absurd (omega arith)
 found-placed m at (suc count) value is whole some = by_test (at % suc count == 0) refl is
   where
-    by_bytes : (o : Option (List ℕ)) → bytes_at m at (suc count) ≡ o → option_map number_of o ≡ Some value → at < 2 ^ 38
+    by_bytes : (o : Option (List ℕ)) → bytes_at m at (suc count) ≡ o → option_map number_of o ≡ Some value → at < address_end
     by_bytes None was e = absurd cc
     by_bytes (Some bytes) was e = whole.low at _ (get_in_bytes_at m at (suc count) bytes was at (omega arith) (omega arith))
 
-    by_test : (t : Bool) → (at % suc count == 0) ≡ t → cond t (reads m at (suc count)) None ≡ Some value → (at % suc count ≡ 0) × (at < 2 ^ 38)
+    by_test : (t : Bool) → (at % suc count == 0) ≡ t → cond t (reads m at (suc count)) None ≡ Some value → (at % suc count ≡ 0) × (at < address_end)
     by_test true was e = (tested (at % suc count) 0 was, by_bytes (bytes_at m at (suc count)) refl e)
     by_test false was e = absurd cc
 

@@ -1,5 +1,6 @@
 -- A hart and one act of it (docs/reference/machine.md).
 use Rattle.std.specs.Prelude.{◌≡◌, ℕ, zero, suc, ◌+◌, ◌*◌, ◌%◌, ◌^◌, ◌<◌, ◌==◌, ◌&&◌, ◌⊎◌, Bool, true, false, if◌then◌else◌, IsTrue, length, All, List, slice_index, slice_set, Option, None, Some, option_map, option_and_then}
+use Rattle.ddc_base.specs.Limits.{address_end}
 use Rattle.paged_mem.specs.Memory.{IsWhole, Memory, maps, reads, writes}
 use Rattle.paged_mem.specs.Ram.{count_of}
 use Rattle.paged_mem.specs.declared.ram.Width.{Width}
@@ -21,7 +22,7 @@ use Rattle.rv64_machine.specs.Meaning.{meaning}
 -- The standard leaves the set of reserved bytes to the machine. This project's profile reserves exactly these bytes
 abbrev pub IsReservation : Option (ℕ × ℕ) → Type 0
 IsReservation None = Unit {0}
-IsReservation (Some (count, at)) = ((count ≡ 4) ⊎ (count ≡ 8)) × (at % count ≡ 0) × (at < 2 ^ 38)
+IsReservation (Some (count, at)) = ((count ≡ 4) ⊎ (count ≡ 8)) × (at % count ≡ 0) × (at < address_end)
 
 -- a reservation of the code as the definitions have it
 abbrev pub reserved_bytes : Reservation → ℕ × ℕ

@@ -5,7 +5,7 @@ use Rattle.std.specs.List.{list_all}
 use Rattle.std.proofs.lemmas.Nat.{and_comm, and_assoc}
 use Rattle.std.proofs.lemmas.Bool.{and_parts, eqb-true, eq-eqb, cases_order, false_from_ne_true}
 use Rattle.rv64_table.specs.declared.Row.{Row}
-use Rattle.rv64_table.proofs.Places.{list_all-at}
+use Rattle.rv64_table.proofs.RowIndices.{list_all-at}
 use Rattle.rv64_table.specs.Table.{matches, row_for, table}
 
 -- the wanted values of two rows differ where both masks are set

@@ -1,5 +1,5 @@
 pub mod Masks
 pub mod OpRows
 pub mod Apart
-pub mod Places
+pub mod RowIndices
 pub mod RowsByField

@@ -1,4 +1,4 @@
 pub mod Loop
-pub mod Spells
+pub mod Encodes
 pub mod Kept
 pub mod Law

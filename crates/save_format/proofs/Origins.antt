@@ -10,63 +10,63 @@ use Rattle.save_format.proofs.StateTextLemmas.Mapped.{onward, same_rest, same_va
 
 -- so many digests
 abbrev pub digests_at : ℕ → List ℕ → Read (List Digest)
-digests_at count left = several (λ (any : ℕ). digest_at) (λ input. 0) 0 count left
+digests_at count remaining = several (λ (any : ℕ). digest_at) (λ input. 0) 0 count remaining
 
-pub none_at : (left rest : List ℕ) (digests : List Digest) → digests_at 0 left ≡ Ok (digests, rest) → digests ≡ []
+pub none_at : (remaining rest : List ℕ) (digests : List Digest) → digests_at 0 remaining ≡ Ok (digests, rest) → digests ≡ []
 unfolding several
-none_at left rest digests e = sym (same_value [] digests left rest e)
+none_at remaining rest digests e = sym (same_value [] digests remaining rest e)
 
-pub one_at : (count : ℕ) (left following rest : List ℕ) (first : Digest) (digests : List Digest) → digest_at left ≡ Ok (first, following) → digests_at (suc count) left ≡ Ok (digests, rest)
+pub one_at : (count : ℕ) (remaining following rest : List ℕ) (first : Digest) (digests : List Digest) → digest_at remaining ≡ Ok (first, following) → digests_at (suc count) remaining ≡ Ok (digests, rest)
     → (more : List Digest) × (digests_at count following ≡ Ok (more, rest)) × (digests ≡ first ∷ more)
 unfolding several
-one_at count left following rest first digests is e =
+one_at count remaining following rest first digests is e =
     let on = onward (digests_at count following) (λ more. done (first ∷ more)) digests rest (rw is at e) in
     let after_is : on.1 ≡ rest = same_rest (first ∷ on.0) digests on.1 rest on.3 in
     (on.0, subst (λ (l : List ℕ). digests_at count following ≡ Ok (on.0, l)) after_is on.2, sym (same_value (first ∷ on.0) digests on.1 rest on.3))
 
-pub wrong_at : (count at : ℕ) (left rest : List ℕ) (digests : List Digest) → digest_at left ≡ Err at → digests_at (suc count) left ≡ Ok (digests, rest) → ⊥
+pub wrong_at : (count at : ℕ) (remaining rest : List ℕ) (digests : List Digest) → digest_at remaining ≡ Err at → digests_at (suc count) remaining ≡ Ok (digests, rest) → ⊥
 unfolding several
-wrong_at count at left rest digests is e =
+wrong_at count at remaining rest digests is e =
     let none : ◌≡◌ {A = Read (List Digest)} (Err at) (Ok (digests, rest)) = rw is at e in
     cc
 
-pub as_many : (count : ℕ) (left rest : List ℕ) (digests : List Digest) → digests_at count left ≡ Ok (digests, rest) → length digests ≡ count
+pub as_many : (count : ℕ) (remaining rest : List ℕ) (digests : List Digest) → digests_at count remaining ≡ Ok (digests, rest) → length digests ≡ count
 unfolding several
-as_many zero left rest digests e = let none : digests ≡ [] = none_at left rest digests e in ap length none
-as_many (suc count) left rest digests e =
-    let on = onward (digest_at left) _ digests rest e in
-    let one = one_at count left on.1 rest on.0 digests on.2 e in
+as_many zero remaining rest digests e = let none : digests ≡ [] = none_at remaining rest digests e in ap length none
+as_many (suc count) remaining rest digests e =
+    let on = onward (digest_at remaining) _ digests rest e in
+    let one = one_at count remaining on.1 rest on.0 digests on.2 e in
     ap length one.2 ∙ ap suc (as_many count on.1 rest one.0 one.1)
 
 -- of which recipe a save is, and its inputs' digests after that
-pub record OriginOf (left : List ℕ) (save : SaveText) : Type 0 where
+pub record OriginOf (remaining : List ℕ) (save : SaveText) : Type 0 where
   pub count : ℕ
   pub following : List ℕ
   pub after : List ℕ
-  pub said : origin_at left ≡ Ok ((save.recipe, count), following)
+  pub parsed : origin_at remaining ≡ Ok ((save.recipe, count), following)
   pub inputs : digests_at count following ≡ Ok (save.inputs, after)
 
-origin_read : (left a b c : List ℕ) (form : TextForm) (recipe : Digest) (count : ℕ) → begun_in (save_magic First) (save_magic Second) left ≡ Ok (form, a) → digest_at a ≡ Ok (recipe, b) → u32 b ≡ Ok (count, c)
-    → origin_at left ≡ Ok ((recipe, count), c)
+origin_read : (remaining a b c : List ℕ) (form : TextForm) (recipe : Digest) (count : ℕ) → begun_in (save_magic First) (save_magic Second) remaining ≡ Ok (form, a) → digest_at a ≡ Ok (recipe, b) → u32 b ≡ Ok (count, c)
+    → origin_at remaining ≡ Ok ((recipe, count), c)
 unfolding origin_at
-origin_read left a b c form recipe count first second third = rw (first, second, third) refl
+origin_read remaining a b c form recipe count first second third = rw (first, second, third) refl
 
-pub origin_there : (left : List ℕ) (save : SaveText) (rest : List ℕ) → save_at left ≡ Ok (save, rest) → OriginOf left save
+pub origin_there : (remaining : List ℕ) (save : SaveText) (rest : List ℕ) → save_at remaining ≡ Ok (save, rest) → OriginOf remaining save
 unfolding save_at fields_at
-origin_there left save rest e =
-    let f = onward (begun_in (save_magic First) (save_magic Second) left) fields_at save rest e in
+origin_there remaining save rest e =
+    let f = onward (begun_in (save_magic First) (save_magic Second) remaining) fields_at save rest e in
     let d = onward (digest_at f.1) _ save rest f.3 in
     let i = onward (counted (λ (any : ℕ). digest_at) (λ input. 0) 0 d.1) _ save rest d.3 in
-    let n = onward (u32 d.1) (λ count left. digests_at count left) i.0 i.1 i.2 in
+    let n = onward (u32 d.1) (λ count remaining. digests_at count remaining) i.0 i.1 i.2 in
     let s = onward (counted {S = ℕ} saved_stage_at (λ stage. 0) 0 i.1) _ save rest i.3 in
     let t = onward (state_in f.0 s.1) _ save rest s.3 in
     let is = same_value (record { recipe = d.0; inputs = i.0; stages = s.0; state = t.0 }) save t.1 rest t.3 in
-    subst (OriginOf left) is (
+    subst (OriginOf remaining) is (
     record {
       count = n.0;
       following = n.1;
       after = i.1;
-      said = origin_read left f.1 d.1 n.1 f.0 d.0 n.0 f.2 d.2 n.2;
+      parsed = origin_read remaining f.1 d.1 n.1 f.0 d.0 n.0 f.2 d.2 n.2;
       inputs = n.3;
     }
     )

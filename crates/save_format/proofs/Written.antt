@@ -5,7 +5,7 @@ use Rattle.std.proofs.lemmas.List.Elements.{All-from_recursion}
 use Rattle.save_format.specs.ByteFields.Spelling.{InTurn}
 use Rattle.report.specs.declared.types.LeftLine.{LeftLine}
 use Rattle.save_format.specs.SaveText.{StageText, after_left}
-use Rattle.save_format.specs.Spelled.{IsSavedLeft, IsShortStage, IsStageText}
+use Rattle.save_format.specs.Encoded.{IsSavedLeft, IsShortStage, IsStageText}
 
 pub ruleset written = append_assoc
 

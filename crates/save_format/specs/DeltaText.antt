@@ -1,5 +1,5 @@
 pub mod Stages
 pub mod DeltaText
-pub mod Front
+pub mod Header
 pub mod Seen
 pub mod Inside

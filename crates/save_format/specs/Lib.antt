@@ -1,5 +1,5 @@
 pub mod SaveText
-pub mod Spelled
+pub mod Encoded
 pub mod Seen
 pub mod Inside
 pub mod ByteFields

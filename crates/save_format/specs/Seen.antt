@@ -1,9 +1,9 @@
 -- The code's values as the definitions see them.
 use Rattle.std.specs.Prelude.{◌≡◌, ℕ, length, map, IsOk, Result, Ok, Err}
 use Rattle.ddc_base.specs.declared.digests.Digest.{Digest}
-use Rattle.save_format.specs.StateText.Mappable.{IsFrontOf}
+use Rattle.save_format.specs.StateText.Mappable.{IsHeaderOf}
 use Rattle.save_format.specs.StateText.Seen as state
-use Rattle.save_format.specs.declared.mapping.SaveFront.{SaveFront}
+use Rattle.save_format.specs.declared.mapping.SaveHeader.{SaveHeader}
 use Rattle.save_format.specs.declared.state_text.reading.TextRefusal.{TextRefusal}
 use Rattle.save_format.specs.declared.state_text.reading.TextRefusal.TheVariants.{Form, OutOfMemory}
 use Rattle.save_format.specs.declared.parts.InputPart.{InputPart}
@@ -27,6 +27,6 @@ ReadsSaveText (Err (Form offset)) read = read ≡ Err offset
 ReadsSaveText (Err OutOfMemory) read = IsOk read
 
 -- the fields of a save in front of the pages of its state: how many stages are finished, and the front of the state
-pub record IsSaveFrontOf (front : SaveFront) (save : SaveText) : Type 0 where
-  pub stages : front.stages ≡ length save.stages
-  pub state : IsFrontOf front.state save.state
+pub record IsSaveHeaderOf (header : SaveHeader) (save : SaveText) : Type 0 where
+  pub stages : header.stages ≡ length save.stages
+  pub state : IsHeaderOf header.state save.state

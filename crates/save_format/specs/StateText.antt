@@ -1,4 +1,4 @@
 pub mod StateText
 pub mod Mappable
-pub mod Spelled
+pub mod Encoded
 pub mod Seen

@@ -9,12 +9,12 @@ ghost use Rattle.save_format.specs.ByteFields.Reader.{Finds, GivesField, blob, c
 ghost use Rattle.save_format.specs.ByteFields.Spelling.{list_text};
 ghost use Rattle.save_format.specs.SaveText.{after_left, digest_at, comes_after, saved_left_at, saved_stage_at, mark_at, saved_name_at};
 ghost use Rattle.save_format.specs.Seen.{stage_view};
-ghost use Rattle.save_format.specs.Inside.Fronts.{ReadsFront, left_and_made_at};
+ghost use Rattle.save_format.specs.Inside.Headers.{ReadsHeader, left_and_made_at};
 ghost use Rattle.save_format.specs.Inside.Passing.{GoesPast};
-ghost use Rattle.save_format.specs.Spelled.{digest_text, left_text, mark_text};
+ghost use Rattle.save_format.specs.Encoded.{digest_text, left_text, mark_text};
 
 use crate::byte_fields::{Cursor, ReadStop, TextItem, WrongField, put_blob16, put_u32};
-use crate::parts::{InputPart, StageFront, StagePart};
+use crate::parts::{InputPart, StageHeader, StagePart};
 use ddc_base::digests::Digest;
 use ddc_base::{Bytes, OutOfMemory};
 use report::{LeftLine, LeftLines, Mark};
@@ -45,7 +45,7 @@ pub(crate) fn mark_of(cursor: &mut Cursor<'_>) -> Result<Mark, WrongField>
 }
 
 /// Appends a mark.
-#[tactic(auto, using(crate::proofs::ByteFieldsLemmas::Kept::kept), unfolding(crate::specs::Spelled::mark_text))]
+#[tactic(auto, using(crate::proofs::ByteFieldsLemmas::Kept::kept), unfolding(crate::specs::Encoded::mark_text))]
 pub(crate) fn put_mark(out: &mut Bytes, mark: Mark) -> Result<(), OutOfMemory>
     requires { mark.length < 2 ^ 32 }
     ensures ok { OnOk result (out.new ≡ out.old ++ mark_text mark) }
@@ -94,7 +94,7 @@ pub(crate) fn line_of<'a>(
     let at = cursor.len();
     let name = cursor.bytes(usize::from(count))?;
     if !comes_after(last, name) {
-        return Err(WrongField { left: at });
+        return Err(WrongField { remaining: at });
     }
     let mark = mark_of(cursor)?;
     Ok((name, mark))
@@ -130,7 +130,7 @@ fn put_line(out: &mut Bytes, file: &LeftLine) -> Result<(), OutOfMemory>
 impl<'a> TextItem<'a> for InputPart {
     ghost use Rattle.ddc_base.specs.declared.digests.Digest.{Digest};
     ghost use Rattle.save_format.specs.SaveText.{digest_at};
-    ghost use Rattle.save_format.specs.Spelled.{digest_text};
+    ghost use Rattle.save_format.specs.Encoded.{digest_text};
     ghost use Rattle.save_format.specs.Seen.{input_view};
 
     ghost Seen = { Digest };
@@ -161,15 +161,15 @@ impl<'a> TextItem<'a> for InputPart {
 }
 
 /// The first fields of a finished stage.
-#[tactic(auto, unfolding(crate::specs::SaveText::saved_stage_at, crate::specs::Inside::Fronts::left_and_made_at))]
-pub(crate) fn stage_front(cursor: &mut Cursor<'_>) -> Result<StageFront, WrongField>
-    ensures { ReadsFront left_and_made_at result cursor.new (saved_stage_at 0 cursor.old) }
+#[tactic(auto, unfolding(crate::specs::SaveText::saved_stage_at, crate::specs::Inside::Headers::left_and_made_at))]
+pub(crate) fn stage_header(cursor: &mut Cursor<'_>) -> Result<StageHeader, WrongField>
+    ensures { ReadsHeader left_and_made_at result cursor.new (saved_stage_at 0 cursor.old) }
 {
     let steps = cursor.u64()?;
     let stream1 = mark_of(cursor)?;
     let stream2 = mark_of(cursor)?;
     let count = cursor.u32()?;
-    Ok(StageFront {
+    Ok(StageHeader {
         steps,
         stream1,
         stream2,
@@ -187,17 +187,17 @@ fn copy_of(alloc: Global, cursor: &mut Cursor<'_>) -> Result<Bytes, ReadStop>
 }
 
 /// A finished stage.
-#[tactic(auto, unfolding(crate::specs::Inside::Fronts::left_and_made_at))]
+#[tactic(auto, unfolding(crate::specs::Inside::Headers::left_and_made_at))]
 pub(crate) fn stage_of(alloc: Global, cursor: &mut Cursor<'_>) -> Result<StagePart, ReadStop>
     ensures { GivesField stage_view result cursor.new (saved_stage_at 0 cursor.old) }
 {
-    let front = stage_front(cursor)?;
-    let left = left_of(alloc, cursor, front.count)?;
+    let header = stage_header(cursor)?;
+    let left = left_of(alloc, cursor, header.count)?;
     let made = copy_of(alloc, cursor)?;
     Ok(StagePart {
-        steps: front.steps,
-        stream1: front.stream1,
-        stream2: front.stream2,
+        steps: header.steps,
+        stream1: header.stream1,
+        stream2: header.stream2,
         left,
         made,
     })
@@ -229,12 +229,12 @@ fn pass_left(cursor: &mut Cursor<'_>, count: u32) -> Result<(), WrongField>
 }
 
 /// Skips a finished stage.
-#[tactic(auto, unfolding(crate::specs::Inside::Fronts::left_and_made_at))]
+#[tactic(auto, unfolding(crate::specs::Inside::Headers::left_and_made_at))]
 pub(crate) fn pass_stage(cursor: &mut Cursor<'_>) -> Result<(), WrongField>
     ensures { GoesPast result cursor.new (saved_stage_at 0 cursor.old) }
 {
-    let front = stage_front(cursor)?;
-    pass_left(cursor, front.count)?;
+    let header = stage_header(cursor)?;
+    pass_left(cursor, header.count)?;
     let _made = cursor.blob32()?;
     Ok(())
 }

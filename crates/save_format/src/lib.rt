@@ -16,7 +16,7 @@ pub mod state_text;
 mod writing;
 
 pub use fields::digest_of;
-pub use mapping::{SaveFront, front_of, origin_of};
+pub use mapping::{SaveHeader, header_of, origin_of};
 pub use parts::{InputPart, Parts, StagePart};
 pub use reading::{MAGIC, read};
 pub use writing::put_stage;

@@ -25,7 +25,7 @@ pub struct StagePart {
 
 /// The first fields of a finished stage.
 #[derive(Clone, Copy)]
-pub(crate) struct StageFront {
+pub(crate) struct StageHeader {
     pub steps: u64,
     pub stream1: Mark,
     pub stream2: Mark,

@@ -13,7 +13,7 @@ mod reading;
 mod writing;
 
 pub use change::Change;
-pub use mapping::front_of;
+pub use mapping::header_of;
 pub(crate) use passing::pass_patch;
 pub(crate) use reading::patch_of;
 pub use reading::read;

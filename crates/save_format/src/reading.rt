@@ -1,7 +1,7 @@
 ghost use Rattle.std.specs.Prelude.{IfOk, Ok};
 ghost use Rattle.save_format.specs.ByteFields.Reader.{GivesField};
 ghost use Rattle.save_format.specs.SaveText.{SaveText, parsed_save, save_at};
-ghost use Rattle.save_format.specs.Spelled.{IsSaveText, IsTextOfSave};
+ghost use Rattle.save_format.specs.Encoded.{IsSaveText, IsTextOfSave};
 ghost use Rattle.save_format.specs.Seen.{ReadsSaveText, save_view};
 ghost use Rattle.save_format.specs.Inside.Passing.{GoesPast, JudgesForm};
 
@@ -55,11 +55,11 @@ fn judge(text: &[u8]) -> Result<(), TextRefusal>
     let mut cursor = Cursor::new(text);
     match pass_save(&mut cursor) {
         Ok(()) => {}
-        Err(field) => return Err(TextRefusal::Form((text.len() - field.left) as u64)),
+        Err(field) => return Err(TextRefusal::Form((text.len() - field.remaining) as u64)),
     }
     match cursor.len() {
         0 => Ok(()),
-        left => Err(TextRefusal::Form((text.len() - left) as u64)),
+        remaining => Err(TextRefusal::Form((text.len() - remaining) as u64)),
     }
 }
 

@@ -13,9 +13,9 @@ mod writing;
 
 pub(crate) use items::{is_zero, name_of};
 pub use listing::{descriptors_of, files_of};
-pub use mapping::{MOST_PAGES, StateFront, front_of};
-pub(crate) use mapping::{runs_mappable, state_front};
-pub(crate) use parts::FrontNumbers;
+pub use mapping::{StateHeader, header_of};
+pub(crate) use mapping::{runs_mappable, state_header};
+pub(crate) use parts::HeaderNumbers;
 pub use parts::{File, NumberedDescriptor, Page, Reserved, Run, StateParts};
 pub(crate) use reading::{heap_of, parts_in, pass_state_in, reservation_of};
 pub use reading::{TextRefusal, read};

@@ -1,6 +1,6 @@
 ghost use Rattle.std.specs.Prelude.{◌≡◌, ◌<◌, ◌^◌, ◌++◌, OnErr, OnOk};
 ghost use Rattle.std.specs.Io.{StartsWith};
-ghost use Rattle.save_format.specs.Spelled.{IsShortStage, mark_text, stage_text};
+ghost use Rattle.save_format.specs.Encoded.{IsShortStage, mark_text, stage_text};
 
 use crate::byte_fields::{all_or_none, put_blob32, put_u64};
 use crate::fields::{put_left, put_mark};
@@ -20,7 +20,7 @@ fn put_streams(out: &mut Bytes, first: Mark, second: Mark) -> Result<(), OutOfMe
 }
 
 /// Appends a finished stage. Out of memory: a part may have been appended.
-#[tactic(auto, using(crate::proofs::Written::written, crate::proofs::ByteFieldsLemmas::Kept::kept), unfolding(crate::specs::Spelled::stage_text))]
+#[tactic(auto, using(crate::proofs::Written::written, crate::proofs::ByteFieldsLemmas::Kept::kept), unfolding(crate::specs::Encoded::stage_text))]
 fn add_stage(
     out: &mut Bytes,
     steps: u64,

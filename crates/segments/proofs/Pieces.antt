@@ -1,6 +1,7 @@
 -- What the run of one piece answers.
 use Rattle.std.proofs.Common.{◌≡◌, ℕ, ◌+◌, ◌-◌, ◌<◌, ◌≤◌, ◌^◌, Result, Ok, Some, List, inl, refl, sym, ap, ◌∙◌, subst, arith}
 use Rattle.ddc_base.specs.Difference.{first_difference}
+use Rattle.ddc_base.specs.Limits.{most_steps}
 use Rattle.save_format.specs.StateText.StateText.{StateText, parsed_state}
 use Rattle.save_format.proofs.StateTextLemmas.Texts.{formed_again}
 use Rattle.checkpoints.specs.Checkpoint.{guest_of, state_of}
@@ -20,15 +21,15 @@ one_text a b fit fits few less same =
     let one : parsed_state (second_text a) ≡ Ok (state_of a) = formed_again (state_of a) (second_text a) (is_text a fit few) (inl refl) in
     let other : parsed_state (second_text a) ≡ Ok (state_of b) = formed_again (state_of b) (second_text a) (is_text b fits less) (inl same) in
     let both : ◌≡◌ {A = Result StateText ℕ} (Ok (state_of a)) (Ok (state_of b)) = sym one ∙ other in
-    let said : state_of a ≡ state_of b = cc in
-    sym (same_guest a fit) ∙ ap guest_of said ∙ same_guest b fits
+    let parsed : state_of a ≡ state_of b = cc in
+    sym (same_guest a fit) ∙ ap guest_of parsed ∙ same_guest b fits
 
 -- two texts, the latter later by so many steps
 pub record Apart (from to : List ℕ) (first : GuestState) (recorded : Recorded) (count : ℕ) : Type 0 where
   pub here : IsStateOf from first
   pub there : Records to recorded
   pub later : first.steps < recorded.steps
-  pub near : count ≤ 2 ^ 48
+  pub near : count ≤ most_steps
   pub count_is : count ≡ recorded.steps - first.steps
 
 abbrev pub states_of : (from to : List ℕ) (first : GuestState) (recorded : Recorded) → IsStateOf from first → Records to recorded → AreTwoStates from to
@@ -80,7 +81,7 @@ is_segment from to first guest recorded count apart reached text valid small =
 
 -- where the run of a piece begins: the former guest has taken so many steps, and the latter more, but not too many
 pub apart_by : (from to : List ℕ) (first : GuestState) (recorded : Recorded) (counted : ℕ) → IsStateOf from first → Records to recorded → counted ≡ first.steps → counted < recorded.steps
-    → recorded.steps - counted ≤ 2 ^ 48 → Apart from to first recorded (recorded.steps - counted)
+    → recorded.steps - counted ≤ most_steps → Apart from to first recorded (recorded.steps - counted)
 apart_by from to first recorded counted here there is later near = record {
   here = here;
   there = there;

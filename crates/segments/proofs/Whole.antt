@@ -4,7 +4,7 @@ use Rattle.std.specs.Prelude.{nat_lt}
 use Rattle.elf_load.specs.declared.Image.{Image}
 use Rattle.elf_load.specs.declared.refusal.ElfRefusal.{ElfRefusal}
 use Rattle.elf_load.specs.Image.{image_of}
-use Rattle.mem_files.specs.Limits.{most_total}
+use Rattle.ddc_base.specs.Limits.{most_texts, most_total}
 use Rattle.guest_run.specs.declared.run.RunEnd.{RunEnd}
 use Rattle.guest_run.specs.declared.run.RunEnd.TheVariants as run
 use Rattle.guest_run.specs.Run.{after, end_at, end_of, first_end, End, Exited, Trapped, UnknownCall, Runs}
@@ -32,7 +32,7 @@ steps_of (Err refusal) = 0
 fresh-by : (program : List ℕ) (setting : Setting) (image : Result Image ElfRefusal) → steps_of (started program setting image) ≡ 0
 unfolding steps_of start_state
 fresh-by program setting (Err refusal) = refl
-fresh-by program setting (Ok image) = by (nat_lt 131072 (start_size setting.args setting.env)) (nat_lt most_total (files_size setting.files))
+fresh-by program setting (Ok image) = by (nat_lt most_texts (start_size setting.args setting.env)) (nat_lt most_total (files_size setting.files))
   where
     by : (a b : Bool) → steps_of (cond a (Err ArgsTooLong) (cond b (Err BoxTooLarge) (Ok (start_state program setting image)))) ≡ 0
     by true b = refl

@@ -1,8 +1,9 @@
 -- A run that is checked in segments: the meaning of each answer on the bytes, and of the answers together.
 -- docs/reference/segments.md says the same for people.
-use Rattle.std.specs.Prelude.{◌≡◌, ℕ, ◌+◌, ◌-◌, ◌<◌, ◌≤◌, ◌^◌, ◌⊎◌, IsOk, Ok, Err, Some, None, List, [], ◌∷◌}
+use Rattle.std.specs.Prelude.{◌≡◌, ℕ, ◌+◌, ◌-◌, ◌<◌, ◌≤◌, ◌⊎◌, IsOk, Ok, Err, Some, None, List, [], ◌∷◌}
 use Rattle.ddc_base.specs.Difference.{first_difference}
-use Rattle.save_format.specs.StateText.Spelled.{text_of_state}
+use Rattle.ddc_base.specs.Limits.{most_steps}
+use Rattle.save_format.specs.StateText.Encoded.{text_of_state}
 use Rattle.checkpoints.specs.Checkpoint.{MayWantMemory, ReadsState, state_of}
 use Rattle.guest_run.specs.declared.run.RunEnd.{RunEnd}
 use Rattle.guest_run.specs.declared.run.RunEnd.TheVariants as run
@@ -52,7 +53,7 @@ pub record AreTwoStates (from to : List ℕ) : Type 0 where
 pub record IsLater (from to : List ℕ) : Type 0 where
   pub states : AreTwoStates from to
   pub later : states.first.steps < states.last.steps
-  pub near : states.last.steps ≤ states.first.steps + 2 ^ 48
+  pub near : states.last.steps ≤ states.first.steps + most_steps
 
 -- the number of steps between them
 abbrev pub steps_apart : {from to : List ℕ} → AreTwoStates from to → ℕ
@@ -74,7 +75,7 @@ pub record DiffersAt (from to : List ℕ) (offset : ℕ) : Type 0 where
 pub record IsSegment (from to : List ℕ) (steps : ℕ) : Type 0 where
   pub states : AreTwoStates from to
   pub piece : IsPieceOf states.first states.last steps
-  pub near : steps ≤ 2 ^ 48
+  pub near : steps ≤ most_steps
 
 -- the meaning of an answer on two texts. The first answer that applies is given, since each says that those before it do not apply.
 -- Memory may run out only if the first text's form is right and its runs can be mapped
@@ -83,7 +84,7 @@ ChecksPiece from to (segment.Yes steps) = IsSegment from to steps
 ChecksPiece from to (segment.No (fault.From why)) = IsNoState from why
 ChecksPiece from to (segment.No (fault.To why)) = ((first : GuestState) × IsStateOf from first) × IsNoState to why
 ChecksPiece from to (segment.No fault.NotLater) = (states : AreTwoStates from to) × (states.last.steps ≤ states.first.steps)
-ChecksPiece from to (segment.No fault.TooFar) = (states : AreTwoStates from to) × (states.first.steps + 2 ^ 48 < states.last.steps)
+ChecksPiece from to (segment.No fault.TooFar) = (states : AreTwoStates from to) × (states.first.steps + most_steps < states.last.steps)
 ChecksPiece from to (segment.No (fault.EndsAt step)) = EndsBetween from to step
 ChecksPiece from to (segment.No (fault.Differs offset)) = DiffersAt from to offset
 ChecksPiece from to segment.OutOfMemory = MayWantMemory from

@@ -10,12 +10,10 @@ ghost use Rattle.segments.specs.Segments.{ChecksPiece, IsStateOf, StartChecks, s
 use crate::answers::{SegmentAnswer, SegmentFault, StartAnswer, StartFault};
 use crate::reading::{Recorded, Unread, guest_of, recorded_by};
 use checkpoints::write_state;
+use ddc_base::limits::MOST_STEPS;
 use ddc_base::{OutOfMemory, first_difference};
 use guest_run::{Guest, RunBox, RunEnd, RunRam, StartRefusal};
 use std::alloc::Global;
-
-/// The largest number of steps of a segment: 2^48.
-const MOST_STEPS: u64 = 281_474_976_710_656;
 
 /// Checks that two texts are a segment of a run: one or more steps lead from the first state to the second, and none ends the run.
 pub fn check(alloc: Global, from: &[u8], to: &[u8]) -> SegmentAnswer

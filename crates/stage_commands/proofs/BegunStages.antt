@@ -7,6 +7,7 @@ use Rattle.std.proofs.lemmas.List.{length-append, length-take-le}
 use Rattle.std.proofs.lemmas.List.Quantifiers.{position-Some}
 use Rattle.ddc_base.specs.declared.outside.Loaded.TheVariants.{Bytes}
 use Rattle.ddc_base.specs.Outside.{NamedFiles, loaded}
+use Rattle.ddc_base.specs.Limits.{most_recipe}
 use Rattle.recipe.specs.Lookups.{stage_at}
 use Rattle.recipe.specs.Reading.{recipe_of}
 use Rattle.recipe.specs.declared.contents.RecipeContents.{RecipeContents}
@@ -18,9 +19,9 @@ use Rattle.audit_run.specs.Earlier.{done_in_order, unless_unfinished}
 use Rattle.recipe_plan.specs.Recipes.{paths}
 use Rattle.stage_commands.specs.Begun.{IsBegun}
 
-stands_within : (test : Stage → Bool) (stages : List Stage) (at : ℕ) → position test stages ≡ Some at → at < length stages
-stands_within test [] at is = absurd cc
-stands_within test (stage ∷ stages) at is = (position-Some test (stage ∷ stages) at stage is).0
+found_within : (test : Stage → Bool) (stages : List Stage) (at : ℕ) → position test stages ≡ Some at → at < length stages
+found_within test [] at is = absurd cc
+found_within test (stage ∷ stages) at is = (position-Some test (stage ∷ stages) at stage is).0
 
 -- so many are done
 done_count : (recipe : RecipeContents) (inputs : List (List ℕ)) (stages : List Stage) (done out : List Finished) → done_in_order recipe inputs done stages ≡ Ok out
@@ -33,20 +34,20 @@ done_count recipe inputs (stage ∷ stages) done out made =
       by later (Err fault) made = absurd cc
       by later (Ok f) made = let rest = later (done ++ f ∷ []) made in let one = length-append done (f ∷ []) in omega (arith, rest, one)
 
-pub begun_of : (recipe stage : List ℕ) (files : NamedFiles) (text : List ℕ) (said : RecipeContents) (count : ℕ) (inputs : List (List ℕ)) (done : List Finished)
-    → loaded files recipe 1_048_576 ≡ Bytes text → recipe_of text ≡ Ok said → stage_at said.stages stage ≡ Some count
-    → map (λ path. finite.get files path) (paths said) ≡ map Some inputs → done_in_order said inputs [] (take count said.stages) ≡ Ok done
-    → IsBegun recipe stage files (record { recipe = said; inputs = inputs; done = done })
-begun_of recipe stage files text said count inputs done held reads place given made =
-    let within : count < length said.stages = stands_within (λ (s : Stage). bytes_eq s.name stage) said.stages count place in
-    let many = done_count said inputs (take count said.stages) [] done made in
-    let front = length-take-le count said.stages (omega (arith, within)) in
-    let same : count ≡ length done = omega (arith, many, front) in
+pub begun_of : (recipe stage : List ℕ) (files : NamedFiles) (text : List ℕ) (parsed : RecipeContents) (count : ℕ) (inputs : List (List ℕ)) (done : List Finished)
+    → loaded files recipe most_recipe ≡ Bytes text → recipe_of text ≡ Ok parsed → stage_at parsed.stages stage ≡ Some count
+    → map (λ path. finite.get files path) (paths parsed) ≡ map Some inputs → done_in_order parsed inputs [] (take count parsed.stages) ≡ Ok done
+    → IsBegun recipe stage files (record { recipe = parsed; inputs = inputs; done = done })
+begun_of recipe stage files text parsed count inputs done held reads index_is given made =
+    let within : count < length parsed.stages = found_within (λ (s : Stage). bytes_eq s.name stage) parsed.stages count index_is in
+    let many = done_count parsed inputs (take count parsed.stages) [] done made in
+    let leading = length-take-le count parsed.stages (omega (arith, within)) in
+    let same : count ≡ length done = omega (arith, many, leading) in
     record {
       text = text;
       held = held;
-      said = reads;
+      parsed = reads;
       inputs = given;
-      place = place ∙ ap Some same;
-      before = ap (λ n. done_in_order said inputs [] (take n said.stages)) (sym same) ∙ made;
+      index_is = index_is ∙ ap Some same;
+      before = ap (λ n. done_in_order parsed inputs [] (take n parsed.stages)) (sym same) ∙ made;
     }

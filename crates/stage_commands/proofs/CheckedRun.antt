@@ -8,6 +8,7 @@ use Rattle.ddc_base.specs.Difference.{first_difference}
 use Rattle.ddc_base.proofs.Decimals.{as_decimal-is}
 use Rattle.ddc_base.specs.declared.outside.Loaded.TheVariants.{Bytes}
 use Rattle.ddc_base.specs.Outside.{NamedFiles, loaded}
+use Rattle.ddc_base.specs.Limits.{most_state}
 use Rattle.mem_files.specs.Outputs.{out}
 use Rattle.guest_run.specs.declared.run.RunEnd.TheVariants as ending
 use Rattle.guest_run.specs.Run.{End, Exited, Trapped, UnknownCall, after, first_end}
@@ -32,7 +33,7 @@ use Rattle.stage_commands.specs.Exits.{run_failed, unless_absent}
 use Rattle.stage_commands.specs.Names.{are_stage_words, as_states, piece_name, within_states}
 use Rattle.stage_commands.specs.Ready.{needs_ready}
 use Rattle.stage_commands.specs.Segment.{piece_reported, segment_files, segment_plan}
-use Rattle.stage_commands.specs.States.{ReadsAs, end_after, piece_answer, piece_of, state_said}
+use Rattle.stage_commands.specs.States.{ReadsAs, end_after, piece_answer, piece_of, state_parsed}
 use Rattle.stage_commands.specs.Texts.{run_record}
 use Rattle.stage_commands.specs.declared.ready.Ready.{Ready}
 use Rattle.stage_commands.proofs.Cutting.{count_again, is_benched, segment_reported}
@@ -43,8 +44,8 @@ use Rattle.stage_commands.proofs.Reading.{is_read, is_reported, reads}
 use Rattle.stage_commands.proofs.StatesRead.{is_read_valid, no_difference, one_text}
 
 -- a text is that of one state, and a name holds one text
-one_said : (text : List ℕ) (a b : GuestState) → IsStateOf text a → IsStateOf text b → a ≡ b
-one_said text a b first second =
+one_parsed : (text : List ℕ) (a b : GuestState) → IsStateOf text a → IsStateOf text b → a ≡ b
+one_parsed text a b first second =
     let both : ◌≡◌ {A = Result GuestState StateFault} (Ok a) (Ok b) = sym (is_read text (Ok a) first) ∙ is_read text (Ok b) second in
     cc
 
@@ -62,7 +63,7 @@ module _ (files : NamedFiles) where
     abbrev Shown : Outcome → Type 0
     Shown o = (steps : ℕ) × HoldPiece from to files steps × (o ≡ piece_reported_yes steps files)
 
-    by_piece : (former latter : List ℕ) → loaded files from 4_294_967_296 ≡ Bytes former → loaded files to 4_294_967_296 ≡ Bytes latter → AreBytes former → AreBytes latter
+    by_piece : (former latter : List ℕ) → loaded files from most_state ≡ Bytes former → loaded files to most_state ≡ Bytes latter → AreBytes former → AreBytes latter
         → (r : Result ℕ SegmentFault) → piece_of former latter ≡ r → IsYes (piece_reported r) files → Shown (outcome (piece_reported r) files)
     by_piece former latter first second one two (Ok steps) is zeroed =
         let shown = piece_shown former latter one two in (
@@ -81,14 +82,14 @@ module _ (files : NamedFiles) where
     by_files : LoadsBytes (segment_files from to) files → IsYes (segment_files from to) files → Shown (outcome (segment_files from to) files)
     unfolding segment_files
     by_files bytes zeroed =
-        let with_former : List ℕ → Plan = λ former. needs to 4_294_967_296 (λ latter. piece_reported (piece_of former latter)) in
-        let a = load_found from 4_294_967_296 with_former files zeroed in
-        let one = follows_load from 4_294_967_296 with_former files a.0 a.1 in
+        let with_former : List ℕ → Plan = λ former. needs to most_state (λ latter. piece_reported (piece_of former latter)) in
+        let a = load_found from most_state with_former files zeroed in
+        let one = follows_load from most_state with_former files a.0 a.1 in
         let with_latter : List ℕ → Plan = λ latter. piece_reported (piece_of a.0 latter) in
-        let b = load_found to 4_294_967_296 with_latter files (yes_as (segment_files from to) (with_former a.0) files one zeroed) in
-        let comes = one ∙ follows_load to 4_294_967_296 with_latter files b.0 b.1 in
-        let formers = load_bytes from 4_294_967_296 with_former files a.0 a.1 bytes in
-        let latters = load_bytes to 4_294_967_296 with_latter files b.0 b.1 formers.1 in
+        let b = load_found to most_state with_latter files (yes_as (segment_files from to) (with_former a.0) files one zeroed) in
+        let comes = one ∙ follows_load to most_state with_latter files b.0 b.1 in
+        let formers = load_bytes from most_state with_former files a.0 a.1 bytes in
+        let latters = load_bytes to most_state with_latter files b.0 b.1 formers.1 in
         subst Shown (sym comes) (by_piece a.0 b.0 a.1 b.1 formers.0 latters.0 (piece_of a.0 b.0) refl (yes_as (segment_files from to) (with_latter b.0) files comes zeroed))
 
     pub segment_shown : LoadsBytes (segment_plan (from ∷ to ∷ [])) files → (segment_over from to files).status ≡ Yes → Shown (segment_over from to files)
@@ -108,8 +109,8 @@ module _ (files : NamedFiles) where
     Reported o = IsRunReported recipe stage prefix files o
 
     module _ (fa : Finds prefix files recipe stage (needs_ready recipe stage prefix)) (first last : List ℕ) (first_bytes : AreBytes first)
-        (first_is : loaded files (piece_name prefix 0) 4_294_967_296 ≡ Bytes first)
-        (last_is : loaded files (piece_name prefix (count - 1)) 4_294_967_296 ≡ Bytes last) (of : Stage) (there : slice_get fa.ready.recipe.stages (length fa.ready.done) ≡ Some of) where
+        (first_is : loaded files (piece_name prefix 0) most_state ≡ Bytes first)
+        (last_is : loaded files (piece_name prefix (count - 1)) most_state ≡ Bytes last) (of : Stage) (there : slice_get fa.ready.recipe.stages (length fa.ready.done) ≡ Some of) where
       module _ (begun : GuestState) (starts : start_stage fa.ready.recipe (contents fa.ready.inputs fa.ready.done) of ≡ Ok begun) where
         v : StartsValid fa.ready.recipe fa.ready.inputs fa.is fa.given of begun
         v = starts_valid fa.ready.recipe fa.ready.inputs fa.is fa.given fa.ready.done of begun fa.done there starts
@@ -117,7 +118,7 @@ module _ (files : NamedFiles) where
         -- the run goes on to the state that a name holds
         record IsReached (name : List ℕ) : Type 0 where
           text : List ℕ
-          held : loaded files name 4_294_967_296 ≡ Bytes text
+          held : loaded files name most_state ≡ Bytes text
           state : GuestState
           is : IsStateOf text state
           reached : after begun state.steps ≡ Some state
@@ -127,8 +128,8 @@ module _ (files : NamedFiles) where
         one_on from to at bytes zeroed =
             let s = segment_shown files from to bytes zeroed in
             let piece = s.1.piece in
-            let text : at.text ≡ s.1.former = one_held files from 4_294_967_296 at.text s.1.former at.held s.1.former_is in
-            let same : piece.states.first ≡ at.state = one_said s.1.former piece.states.first at.state piece.states.from_is (subst (λ t. IsStateOf t at.state) text at.is) in
+            let text : at.text ≡ s.1.former = one_held files from most_state at.text s.1.former at.held s.1.former_is in
+            let same : piece.states.first ≡ at.state = one_parsed s.1.former piece.states.first at.state piece.states.from_is (subst (λ t. IsStateOf t at.state) text at.is) in
             let counted : piece.states.last.steps ≡ at.state.steps + s.0 = piece.piece.counted ∙ ap (λ (g : GuestState). g.steps + s.0) same in
             let on : after at.state s.0 ≡ Some piece.states.last = ap (λ (g : GuestState). after g s.0) (sym same) ∙ piece.piece.reached in
             record {
@@ -148,18 +149,18 @@ module _ (files : NamedFiles) where
             subst (λ n. IsReached (piece_name prefix n)) next
             (one_on (piece_name prefix number) (piece_name prefix (number + 1)) before (pieces_bytes number below) (pieces number below))
 
-        module _ (said : GuestState) (said_is : IsStateOf first said) (none : first_difference (second_text begun) (second_text said) ≡ None) where
-          is_start : begun ≡ said
+        module _ (parsed : GuestState) (parsed_is : IsStateOf first parsed) (none : first_difference (second_text begun) (second_text parsed) ≡ None) where
+          is_start : begun ≡ parsed
           is_start =
-              one_text begun said (record { valid = v.valid; small = omega (arith, v.fresh) }) (is_read_valid first said first_bytes said_is)
-              (no_difference (second_text begun) (second_text said) none)
+              one_text begun parsed (record { valid = v.valid; small = omega (arith, v.fresh) }) (is_read_valid first parsed first_bytes parsed_is)
+              (no_difference (second_text begun) (second_text parsed) none)
 
           from_start : IsReached (piece_name prefix 0)
           from_start = record {
             text = first;
             held = first_is;
-            state = said;
-            is = said_is;
+            state = parsed;
+            is = parsed_is;
             reached = ap (after begun) (ap (λ (g : GuestState). g.steps) (sym is_start) ∙ v.fresh) ∙ after-none begun ∙ ap Some is_start;
           }
 
@@ -172,8 +173,8 @@ module _ (files : NamedFiles) where
 
             same_last : e.from ≡ at.state
             same_last =
-                one_said last e.from at.state e.is
-                (subst (λ t. IsStateOf t at.state) (one_held files (piece_name prefix (count - 1)) 4_294_967_296 at.text last at.held last_is) at.is)
+                one_parsed last e.from at.state e.is
+                (subst (λ t. IsStateOf t at.state) (one_held files (piece_name prefix (count - 1)) most_state at.text last at.held last_is) at.is)
 
             following : (from : GuestState) → e.from ≡ from → (from.steps < of.steps) × (first_end from (of.steps - from.steps) ≡ Some (Exited 0, guest))
             following from same = subst (λ (g : GuestState). (g.steps < of.steps) × (first_end g (of.steps - g.steps) ≡ Some (Exited 0, guest))) same (e.below, e.ends)
@@ -236,29 +237,29 @@ module _ (files : NamedFiles) where
         abbrev rest : Plan
         rest = needs_last of (end_after last of.steps)
 
-        by_difference : (said : GuestState) → IsStateOf first said → (d : Option ℕ) → first_difference (second_text begun) (second_text said) ≡ d
+        by_difference : (parsed : GuestState) → IsStateOf first parsed → (d : Option ℕ) → first_difference (second_text begun) (second_text parsed) ≡ d
             → IsYes (unless_other_start d rest) files → Reported (outcome (unless_other_start d rest) files)
-        by_difference said is None none zeroed = by_last said is none (end_after last of.steps) refl zeroed
-        by_difference said is (Some offset) differs zeroed = absurd cc
+        by_difference parsed is None none zeroed = by_last parsed is none (end_after last of.steps) refl zeroed
+        by_difference parsed is (Some offset) differs zeroed = absurd cc
 
         by_first : (r : Result GuestState StateFault) → ReadsAs first r → IsYes (needs_first of (Ok begun) r rest) files → Reported (outcome (needs_first of (Ok begun) r rest) files)
         by_first (Err why) is zeroed = absurd cc
-        by_first (Ok said) is zeroed = by_difference said is (first_difference (second_text begun) (second_text said)) refl zeroed
+        by_first (Ok parsed) is zeroed = by_difference parsed is (first_difference (second_text begun) (second_text parsed)) refl zeroed
 
       by_start_of : (s : Result GuestState Refusal) → start_stage fa.ready.recipe (contents fa.ready.inputs fa.ready.done) of ≡ s
-          → IsYes (needs_first of s (state_said first) (needs_last of (end_after last of.steps))) files → Reported (outcome (needs_first of s (state_said first) (needs_last of (end_after last of.steps))) files)
+          → IsYes (needs_first of s (state_parsed first) (needs_last of (end_after last of.steps))) files → Reported (outcome (needs_first of s (state_parsed first) (needs_last of (end_after last of.steps))) files)
       by_start_of (Err why) starts zeroed = absurd cc
-      by_start_of (Ok begun) starts zeroed = by_first begun starts (state_said first) (reads first) zeroed
+      by_start_of (Ok begun) starts zeroed = by_first begun starts (state_parsed first) (reads first) zeroed
 
     module _ (fa : Finds prefix files recipe stage (needs_ready recipe stage prefix)) where
       abbrev judge : List ℕ → List ℕ → Stage → Plan
-      judge first last of = needs_first of (start_stage fa.ready.recipe (contents fa.ready.inputs fa.ready.done) of) (state_said first) (needs_last of (end_after last of.steps))
+      judge first last of = needs_first of (start_stage fa.ready.recipe (contents fa.ready.inputs fa.ready.done) of) (state_parsed first) (needs_last of (end_after last of.steps))
 
-      by_texts : (first last : List ℕ) → AreBytes first → loaded files (piece_name prefix 0) 4_294_967_296 ≡ Bytes first → loaded files (piece_name prefix (count - 1)) 4_294_967_296 ≡ Bytes last
+      by_texts : (first last : List ℕ) → AreBytes first → loaded files (piece_name prefix 0) most_state ≡ Bytes first → loaded files (piece_name prefix (count - 1)) most_state ≡ Bytes last
           → IsYes (ends_judged fa.ready first last) files → Reported (outcome (ends_judged fa.ready first last) files)
       unfolding ends_judged
       by_texts first last first_bytes first_is last_is zeroed = by (slice_get fa.ready.recipe.stages (length fa.ready.done)) refl zeroed where
-        by : (place : Option Stage) → slice_get fa.ready.recipe.stages (length fa.ready.done) ≡ place → IsYes (or_usage place (judge first last)) files → Reported (outcome (or_usage place (judge first last)) files)
+        by : (found : Option Stage) → slice_get fa.ready.recipe.stages (length fa.ready.done) ≡ found → IsYes (or_usage found (judge first last)) files → Reported (outcome (or_usage found (judge first last)) files)
         by (Some of) there zeroed = by_start_of fa first last first_bytes first_is last_is of there (start_stage fa.ready.recipe (contents fa.ready.inputs fa.ready.done) of) refl zeroed
         by None there zeroed = absurd cc
 
@@ -266,16 +267,16 @@ module _ (files : NamedFiles) where
         → Reported (outcome (ends_files recipe stage prefix count) files)
     unfolding ends_files
     by_ends bytes zeroed =
-        let with_last : Ready → List ℕ → Plan = λ ready first. needs (piece_name prefix (count - 1)) 4_294_967_296 (λ last. ends_judged ready first last) in
-        let with_first : Ready → Plan = λ ready. needs (piece_name prefix 0) 4_294_967_296 (with_last ready) in
+        let with_last : Ready → List ℕ → Plan = λ ready first. needs (piece_name prefix (count - 1)) most_state (λ last. ends_judged ready first last) in
+        let with_first : Ready → Plan = λ ready. needs (piece_name prefix 0) most_state (with_last ready) in
         let fa = found_again prefix files recipe stage with_first zeroed bytes in
         let one = fa.found files (λ name apart. refl) with_first in
-        let a = load_found (piece_name prefix 0) 4_294_967_296 (with_last fa.ready) files (yes_as (ends_files recipe stage prefix count) (with_first fa.ready) files one zeroed) in
-        let first = load_bytes (piece_name prefix 0) 4_294_967_296 (with_last fa.ready) files a.0 a.1 (fa.loads with_first bytes) in
-        let two = one ∙ follows_load (piece_name prefix 0) 4_294_967_296 (with_last fa.ready) files a.0 a.1 in
-        let b = load_found (piece_name prefix (count - 1)) 4_294_967_296 (λ last. ends_judged fa.ready a.0 last) files
+        let a = load_found (piece_name prefix 0) most_state (with_last fa.ready) files (yes_as (ends_files recipe stage prefix count) (with_first fa.ready) files one zeroed) in
+        let first = load_bytes (piece_name prefix 0) most_state (with_last fa.ready) files a.0 a.1 (fa.loads with_first bytes) in
+        let two = one ∙ follows_load (piece_name prefix 0) most_state (with_last fa.ready) files a.0 a.1 in
+        let b = load_found (piece_name prefix (count - 1)) most_state (λ last. ends_judged fa.ready a.0 last) files
         (yes_as (ends_files recipe stage prefix count) (with_last fa.ready a.0) files two zeroed) in
-        let comes = two ∙ follows_load (piece_name prefix (count - 1)) 4_294_967_296 (λ last. ends_judged fa.ready a.0 last) files b.0 b.1 in
+        let comes = two ∙ follows_load (piece_name prefix (count - 1)) most_state (λ last. ends_judged fa.ready a.0 last) files b.0 b.1 in
         subst Reported (sym comes) (by_texts fa a.0 b.0 first.0 a.1 b.1 (yes_as (ends_files recipe stage prefix count) (ends_judged fa.ready a.0 b.0) files comes zeroed))
 
     by_words : (are : Bool) → LoadsBytes (cond are (ends_files recipe stage prefix count) usage) files
@@ -290,7 +291,7 @@ module _ (files : NamedFiles) where
 
   no_states : as_states (decimal 0) ≡ None
   unfolding as_states
-  no_states = ap within_states (as_decimal-is (decimal 0) 0 (record { small = omega arith; spelled = refl }))
+  no_states = ap within_states (as_decimal-is (decimal 0) 0 (record { small = omega arith; encoded = refl }))
 
   pub run_is_reported : (recipe stage prefix : List ℕ) (count : ℕ) → LoadsBytes (ends_plan (recipe ∷ stage ∷ prefix ∷ decimal count ∷ [])) files
       → ((number : ℕ) → number + 1 < count

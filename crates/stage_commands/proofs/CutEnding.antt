@@ -6,6 +6,7 @@ use Rattle.std.proofs.Math.Nat.{add-mul, div-eq_of_lt, mul-add-div_right, zero-m
 use Rattle.std.proofs.Math.Decide.{dec_lt}
 use Rattle.std.proofs.lemmas.Bool.Decides.{Decides-ltb}
 use Rattle.ddc_base.specs.Outside.{NamedFiles}
+use Rattle.ddc_base.specs.Limits.{most_states}
 use Rattle.checkpoints.proofs.Decisions.{chosen, is_at_most, passed}
 use Rattle.guest_run.specs.Run.{End, Exited, Trapped, UnknownCall, after, end_at, first_end}
 use Rattle.guest_run.specs.State.{GuestState}
@@ -66,14 +67,14 @@ module _ (stage : Stage) (every : ℕ) (some : 1 ≤ every) where
 
   plan_same : (e : Option (End × GuestState)) (one other : NamedFiles) → SaysSame (outcome (cut_end stage every e) one) (outcome (cut_end stage every e) other)
   plan_same (Some (end, to)) one other = ended_same end to (to.steps / every + 1) (to.steps / every + 1) one other refl
-  plan_same None one other = by (nat_le stage.steps (1_000 * every)) where
+  plan_same None one other = by (nat_le stage.steps (most_states * every)) where
     by : (spent : Bool) → SaysSame (outcome (cond spent (run_failed stage run.Spent stage.steps) (answers TooManySegments too_many_line)) one)
         (outcome (cond spent (run_failed stage run.Spent stage.steps) (answers TooManySegments too_many_line)) other)
     by true = record { status = refl; text = refl }
     by false = record { status = refl; text = refl }
 
   abbrev limit : ℕ
-  limit = min (1_000 * every) stage.steps
+  limit = min (most_states * every) stage.steps
 
   -- a plan says over files what the run's first end from a state says
   abbrev Tells : Outcome → GuestState → NamedFiles → Type 0
@@ -87,11 +88,11 @@ module _ (stage : Stage) (every : ℕ) (some : 1 ≤ every) where
   abbrev spends : Plan
   spends = run_failed stage run.Spent stage.steps
 
-  is_spent : stage.steps ≤ 1_000 * every → cut_end stage every None ≡ spends
-  is_spent le = chosen (nat_le stage.steps (1_000 * every)) (is_at_most stage.steps (1_000 * every)) _ _ le
+  is_spent : stage.steps ≤ most_states * every → cut_end stage every None ≡ spends
+  is_spent le = chosen (nat_le stage.steps (most_states * every)) (is_at_most stage.steps (most_states * every)) _ _ le
 
-  is_many : 1_000 * every < stage.steps → cut_end stage every None ≡ answers TooManySegments too_many_line
-  is_many less = passed (nat_le stage.steps (1_000 * every)) (is_at_most stage.steps (1_000 * every)) _ _ (λ le. omega (arith, le, less))
+  is_many : most_states * every < stage.steps → cut_end stage every None ≡ answers TooManySegments too_many_line
+  is_many less = passed (nat_le stage.steps (most_states * every)) (is_at_most stage.steps (most_states * every)) _ _ (λ le. omega (arith, le, less))
 
   says_plan : (plan other : Plan) (files : NamedFiles) → other ≡ plan → SaysSame (outcome plan files) (outcome other files)
   says_plan plan other files same = subst (λ p. SaysSame (outcome plan files) (outcome p files)) (sym same) (record { status = refl; text = refl })
@@ -101,7 +102,7 @@ module _ (stage : Stage) (every : ℕ) (some : 1 ≤ every) where
   nothing_left guest most none = ap (first_end guest) none
 
   module _ (prefix : List ℕ) where
-    module _ (left number : ℕ) (guest : GuestState) (files : NamedFiles) (all : number + suc left ≡ 1_000) (counted : guest.steps ≡ number * every) (below : guest.steps < stage.steps) where
+    module _ (left number : ℕ) (guest : GuestState) (files : NamedFiles) (all : number + suc left ≡ most_states) (counted : guest.steps ≡ number * every) (below : guest.steps < stage.steps) where
       abbrev saved : NamedFiles
       saved = finite.insert files (piece_name prefix number) (second_text guest)
 
@@ -111,9 +112,9 @@ module _ (stage : Stage) (every : ℕ) (some : 1 ≤ every) where
       abbrev next : ℕ
       next = next_steps stage every guest
 
-      room : number * every + every + left * every ≡ 1_000 * every
-      room =
-          let sum : number + 1 + left ≡ 1_000 = omega (arith, all) in
+      budget : number * every + every + left * every ≡ most_states * every
+      budget =
+          let sum : number + 1 + left ≡ most_states = omega (arith, all) in
           let parts : (number + 1 + left) * every ≡ (number + 1) * every + left * every = add-mul (number + 1) left every in
           ap (λ n. n + left * every) (sym (times_more number every)) ∙ sym parts ∙ ap (λ n. n * every) sum
 
@@ -127,7 +128,7 @@ module _ (stage : Stage) (every : ℕ) (some : 1 ≤ every) where
           let more = times_more number every in
           let at : to.steps ≡ (number + 1) * every = omega (arith, stepped, full, counted, more) in
           let says = later to at less in
-          let reach = room in
+          let reach = budget in
           let split : limit - guest.steps ≡ next + (limit - to.steps) = omega (arith, stepped, full, counted, reach, less) in
           let same : first_end guest (limit - guest.steps) ≡ first_end to (limit - to.steps) =
           ap (first_end guest) split ∙ first_end-sum guest to next (limit - to.steps) there in
@@ -137,9 +138,9 @@ module _ (stage : Stage) (every : ℕ) (some : 1 ≤ every) where
       went to there none later false lower =
           let over : ¬ (to.steps < stage.steps) = λ less. let is = (Decides-ltb to.steps stage.steps).1 less in cc in
           let stepped : to.steps ≡ guest.steps + next = after-counted guest to next there in
-          let reach = room in
+          let reach = budget in
           let spent : limit - guest.steps ≡ next = omega (arith, stepped, over, below, counted, reach) in
-          let fits : stage.steps ≤ 1_000 * every = omega (arith, stepped, over, below, counted, reach) in
+          let fits : stage.steps ≤ most_states * every = omega (arith, stepped, over, below, counted, reach) in
           let same : first_end guest (limit - guest.steps) ≡ None = ap (first_end guest) spent ∙ none in
           let plans = says_plan spends (cut_end stage every None) saved (is_spent fits) in
           let files_same = plan_same None saved files in
@@ -152,7 +153,7 @@ module _ (stage : Stage) (every : ℕ) (some : 1 ≤ every) where
           let bounds = before_end guest to next at.0 end at.1 at.2 in
           let low = bounds.0 in
           let high = bounds.1 in
-          let reach = room in
+          let reach = budget in
           let split : limit - guest.steps ≡ next + ((limit - guest.steps) - next) = omega (arith, counted, reach, below) in
           let whole : first_end guest (limit - guest.steps) ≡ Some (end, to) = ap (first_end guest) split ∙ stays guest next ((limit - guest.steps) - next) (end, to) is in
           let count : to.steps / every ≡ number = states_before number to.steps (omega (arith, low, counted)) (omega (arith, high, counted)) in
@@ -163,12 +164,12 @@ module _ (stage : Stage) (every : ℕ) (some : 1 ≤ every) where
           let at : state_after guest next ≡ on.0 = ap (λ o. unwrap_or o guest) on.1 in
           subst (λ to. Tells (outcome (came_on stage (number + 1) None to rest) saved) guest files) (sym at) (went on.0 on.1 none later (nat_lt on.0.steps stage.steps) refl)
 
-    ends_so : (left number : ℕ) (guest : GuestState) (files : NamedFiles) → number + left ≡ 1_000 → guest.steps ≡ number * every → guest.steps < stage.steps
+    ends_so : (left number : ℕ) (guest : GuestState) (files : NamedFiles) → number + left ≡ most_states → guest.steps ≡ number * every → guest.steps < stage.steps
         → Tells (outcome (saved_from stage every prefix left number guest) files) guest files
     unfolding saved_from
     ends_so zero number guest files all counted below =
-        let full : number ≡ 1_000 = omega (arith, all) in
-        let at : guest.steps ≡ 1_000 * every = counted ∙ ap (λ n. n * every) full in
+        let full : number ≡ most_states = omega (arith, all) in
+        let at : guest.steps ≡ most_states * every = counted ∙ ap (λ n. n * every) full in
         tells_end (outcome (answers TooManySegments too_many_line) files) guest files None (nothing_left guest (limit - guest.steps) (omega (arith, at)))
         (says_plan (answers TooManySegments too_many_line) (cut_end stage every None) files (is_many (omega (arith, at, below))))
     ends_so (suc left) number guest files all counted below =
@@ -181,22 +182,22 @@ pub cut_ends : (recipe stage every prefix : List ℕ) (files : NamedFiles) (star
 unfolding cut_files cut_ready
 cut_ends recipe stage every prefix files start steps are words =
     let r = start.ready in
-    let kept : IsRecipe r.recipe = reads_keep start.begins.text r.recipe start.begins.said in
+    let kept : IsRecipe r.recipe = reads_keep start.begins.text r.recipe start.begins.parsed in
     let fits = (kept.stages (length r.done) start.named start.there).some_steps in
     let fresh : start.begun.steps ≡ 0 =
     starts_are (program_of r.recipe (contents r.inputs r.done) start.named) (box_of r.recipe (contents r.inputs r.done) start.named) start.begun start.starts in
     let some = (few_steps every steps are).0 in
     let none : 0 * steps ≡ 0 = zero-mul steps in
-    let said = ends_so start.named steps some prefix 1_000 0 start.begun files refl (fresh ∙ sym none) (omega (arith, fresh, fits)) in
-    let most : min (1_000 * steps) start.named.steps - start.begun.steps ≡ min (1_000 * steps) start.named.steps = omega (arith, fresh) in
-    let comes : cut_over recipe stage every prefix files ≡ outcome (saved_from start.named steps prefix 1_000 0 start.begun) files =
+    let parsed = ends_so start.named steps some prefix most_states 0 start.begun files refl (fresh ∙ sym none) (omega (arith, fresh, fits)) in
+    let most : min (most_states * steps) start.named.steps - start.begun.steps ≡ min (most_states * steps) start.named.steps = omega (arith, fresh) in
+    let comes : cut_over recipe stage every prefix files ≡ outcome (saved_from start.named steps prefix most_states 0 start.begun) files =
     ap (λ w. outcome (or_usage w (λ s. cond (are_stage_words recipe stage prefix) (cut_files recipe stage s prefix) usage)) files) are
     ∙ ap (λ b. outcome (cond b (cut_files recipe stage steps prefix) usage) files) words
     ∙ start.found (cut_ready steps prefix)
     ∙ ap (λ p. outcome (or_usage p (λ of. cut_from of steps prefix (start_stage r.recipe (contents r.inputs r.done) of))) files) start.there
     ∙ ap (λ s. outcome (cut_from start.named steps prefix s) files) start.starts in
     subst (λ (o : Outcome). SaysSame o (outcome (cut_end_from start.named steps start.begun) files)) (sym comes)
-    (subst (λ n. SaysSame (outcome (saved_from start.named steps prefix 1_000 0 start.begun) files) (outcome (cut_end start.named steps (first_end start.begun n)) files)) most said)
+    (subst (λ n. SaysSame (outcome (saved_from start.named steps prefix most_states 0 start.begun) files) (outcome (cut_end start.named steps (first_end start.begun n)) files)) most parsed)
 
 -- 14 comes exactly where 1,000 times EVERY steps go on below the limit
 module _ (stage : Stage) (every : ℕ) (files : NamedFiles) where
@@ -210,30 +211,30 @@ module _ (stage : Stage) (every : ℕ) (files : NamedFiles) where
     by (Err cause) is = cc
 
   abbrev GoesOn : GuestState → Type 0
-  GoesOn begun = (first_end begun (1_000 * every) ≡ None) × (1_000 * every < stage.steps)
+  GoesOn begun = (first_end begun (most_states * every) ≡ None) × (most_states * every < stage.steps)
 
   many_shown : (some : 1 ≤ every) (begun : GuestState) → (outcome (cut_end_from stage every begun) files).status ≡ TooManySegments → GoesOn begun
-  many_shown some begun is = by (first_end begun (min (1_000 * every) stage.steps)) refl is where
-    by : (e : Option (End × GuestState)) → first_end begun (min (1_000 * every) stage.steps) ≡ e → (outcome (cut_end stage every e) files).status ≡ TooManySegments → GoesOn begun
+  many_shown some begun is = by (first_end begun (min (most_states * every) stage.steps)) refl is where
+    by : (e : Option (End × GuestState)) → first_end begun (min (most_states * every) stage.steps) ≡ e → (outcome (cut_end stage every e) files).status ≡ TooManySegments → GoesOn begun
     by (Some (end, to)) ends is = absurd (never_many end to (to.steps / every + 1) is)
-    by None none is = elim (dec_lt (1_000 * every) stage.steps) [
+    by None none is = elim (dec_lt (most_states * every) stage.steps) [
       | yes less ↦ (ap (first_end begun) (omega (arith, less)) ∙ none, less)
       | no not ↦ absurd (let status = ap (λ p. (outcome p files).status) (sym (is_spent stage every some (omega (arith, not)))) ∙ is in cc)
     ]
 
   many_reported : (some : 1 ≤ every) (begun : GuestState) → GoesOn begun → (outcome (cut_end_from stage every begun) files).status ≡ TooManySegments
   many_reported some begun (none, less) =
-      let most : min (1_000 * every) stage.steps ≡ 1_000 * every = omega (arith, less) in
+      let most : min (most_states * every) stage.steps ≡ most_states * every = omega (arith, less) in
       ap (λ n. (outcome (cut_end stage every (first_end begun n)) files).status) most
       ∙ ap (λ e. (outcome (cut_end stage every e) files).status) none
       ∙ ap (λ p. (outcome p files).status) (is_many stage every some less)
 
 pub cut_goes_on : (recipe stage every prefix : List ℕ) (files : NamedFiles) (start : CutStart recipe stage prefix files) (steps : ℕ) → as_steps every ≡ Some steps
     → IsTrue (are_stage_words recipe stage prefix)
-    → ((cut_over recipe stage every prefix files).status ≡ TooManySegments) ↔ ((first_end start.begun (1_000 * steps) ≡ None) × (1_000 * steps < start.named.steps))
+    → ((cut_over recipe stage every prefix files).status ≡ TooManySegments) ↔ ((first_end start.begun (most_states * steps) ≡ None) × (most_states * steps < start.named.steps))
 cut_goes_on recipe stage every prefix files start steps are words =
-    let said = cut_ends recipe stage every prefix files start steps are words in
+    let parsed = cut_ends recipe stage every prefix files start steps are words in
     let some = (few_steps every steps are).0 in (
-      λ is. many_shown start.named steps files some start.begun (sym said.status ∙ is),
-      λ goes. said.status ∙ many_reported start.named steps files some start.begun goes,
+      λ is. many_shown start.named steps files some start.begun (sym parsed.status ∙ is),
+      λ goes. parsed.status ∙ many_reported start.named steps files some start.begun goes,
     )

@@ -12,6 +12,7 @@ use Rattle.std.proofs.lemmas.Map.Text.{is_eq-slice_cmp}
 use Rattle.std.proofs.lemmas.Slice.Eq.{bytes_eq-Decides}
 use Rattle.ddc_base.specs.Outside.{NamedFiles}
 use Rattle.ddc_base.proofs.StoredFiles.{others-insert}
+use Rattle.ddc_base.specs.Limits.{most_states}
 use Rattle.mem_files.specs.Outputs.{out}
 use Rattle.guest_run.specs.Run.{End, Exited, Trapped, UnknownCall, after, first_end}
 use Rattle.guest_run.specs.State.{GuestState}
@@ -103,7 +104,7 @@ module _ (stage : Stage) (every : ℕ) (prefix : List ℕ) (begun : GuestState) 
   exits saved (Trapped cause) guest files done = absurd cc
   exits saved (UnknownCall number) guest files done = absurd cc
 
-  module _ (number left : ℕ) (guest : GuestState) (files : NamedFiles) (bound : number + suc left ≤ 1_000)
+  module _ (number left : ℕ) (guest : GuestState) (files : NamedFiles) (bound : number + suc left ≤ most_states)
       (reached : after begun (number * every) ≡ Some guest) (below : guest.steps < stage.steps) where
     abbrev name : List ℕ
     name = piece_name prefix number
@@ -191,7 +192,7 @@ module _ (stage : Stage) (every : ℕ) (prefix : List ℕ) (begun : GuestState) 
           let P : GuestState → Type 0 = λ to. (outcome (came_on stage (number + 1) None to rest) saved).status ≡ Yes → IsCutFrom number (suc left) files (outcome (came_on stage (number + 1) None to rest) saved) in
           subst P (sym at) (went on.0 on.1 (nat_lt on.0.steps stage.steps) refl) done
 
-  pub walk : (left number : ℕ) (guest : GuestState) (files : NamedFiles) → number + left ≤ 1_000 → after begun (number * every) ≡ Some guest → guest.steps < stage.steps
+  pub walk : (left number : ℕ) (guest : GuestState) (files : NamedFiles) → number + left ≤ most_states → after begun (number * every) ≡ Some guest → guest.steps < stage.steps
       → (outcome (saved_from stage every prefix left number guest) files).status ≡ Yes
       → IsCutFrom number left files (outcome (saved_from stage every prefix left number guest) files)
   unfolding saved_from

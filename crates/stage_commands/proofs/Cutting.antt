@@ -11,6 +11,7 @@ use Rattle.ddc_base.proofs.Decimals.{as_decimal-is}
 use Rattle.ddc_base.proofs.Differences.{first_difference-same}
 use Rattle.ddc_base.specs.declared.outside.Loaded.TheVariants.{Bytes, TooLong}
 use Rattle.ddc_base.specs.Outside.{NamedFiles, loaded, loaded_of}
+use Rattle.ddc_base.specs.Limits.{most_state, most_states, most_steps}
 use Rattle.mem_files.specs.Outputs.{out}
 use Rattle.checkpoints.proofs.StateLengths.{texts_short}
 use Rattle.guest_run.specs.Run.{Exited, after, first_end}
@@ -41,54 +42,54 @@ use Rattle.stage_commands.specs.declared.ready.Ready.{Ready}
 use Rattle.stage_commands.proofs.CutWalk.{IsCutFrom, IsSaved, times_more, walk}
 use Rattle.stage_commands.proofs.EarlierStages.{StartsValid, starts_valid}
 use Rattle.stage_commands.proofs.Judging.{judged_one}
-use Rattle.stage_commands.proofs.Neighbours.{neighbours, of_text, text_said}
+use Rattle.stage_commands.proofs.Neighbours.{neighbours, of_text, text_parsed}
 use Rattle.stage_commands.proofs.ReadyAgain.{AreAlike, Finds, IsYes, follows_load, found_again, yes_as}
 use Rattle.stage_commands.proofs.Reading.{an_end}
 use Rattle.stage_commands.proofs.TwoPieces.{two_pieces}
 
 -- ---- numbers and words
 
-within : (word : Option ℕ) (steps : ℕ) → within_steps word ≡ Some steps → (1 ≤ steps) × (steps ≤ 2 ^ 48)
+within : (word : Option ℕ) (steps : ℕ) → within_steps word ≡ Some steps → (1 ≤ steps) × (steps ≤ most_steps)
 within None steps is = absurd cc
-within (Some n) steps is = by (nat_le 1 n && nat_le n (2 ^ 48)) refl is where
-  by : (b : Bool) → (nat_le 1 n && nat_le n (2 ^ 48)) ≡ b → cond b (Some n) None ≡ Some steps → (1 ≤ steps) × (steps ≤ 2 ^ 48)
+within (Some n) steps is = by (nat_le 1 n && nat_le n most_steps) refl is where
+  by : (b : Bool) → (nat_le 1 n && nat_le n most_steps) ≡ b → cond b (Some n) None ≡ Some steps → (1 ≤ steps) × (steps ≤ most_steps)
   by true fits is =
-      let parts = and_parts (nat_le 1 n) (nat_le n (2 ^ 48)) fits in
-      subst (λ m. (1 ≤ m) × (m ≤ 2 ^ 48)) (same_Some n steps is) (leb-true 1 n parts.0, leb-true n (2 ^ 48) parts.1)
+      let parts = and_parts (nat_le 1 n) (nat_le n most_steps) fits in
+      subst (λ m. (1 ≤ m) × (m ≤ most_steps)) (same_Some n steps is) (leb-true 1 n parts.0, leb-true n most_steps parts.1)
   by false fits is = absurd cc
 
-pub few_steps : (every : List ℕ) (steps : ℕ) → as_steps every ≡ Some steps → (1 ≤ steps) × (steps ≤ 2 ^ 48)
+pub few_steps : (every : List ℕ) (steps : ℕ) → as_steps every ≡ Some steps → (1 ≤ steps) × (steps ≤ most_steps)
 unfolding as_steps
 few_steps every steps is = within (as_decimal every) steps is
 
-states_within : (n : ℕ) → 1 ≤ n → n ≤ 1_000 → within_states (Some n) ≡ Some n
+states_within : (n : ℕ) → 1 ≤ n → n ≤ most_states → within_states (Some n) ≡ Some n
 states_within n some few = grind (arith, nat_tests)
 
-pub count_again : (n : ℕ) → 1 ≤ n → n ≤ 1_000 → as_states (decimal n) ≡ Some n
+pub count_again : (n : ℕ) → 1 ≤ n → n ≤ most_states → as_states (decimal n) ≡ Some n
 unfolding as_states
 count_again n some few =
-    ap within_states (as_decimal-is (decimal n) n (record { small = omega (arith, few); spelled = refl })) ∙ states_within n some few
+    ap within_states (as_decimal-is (decimal n) n (record { small = omega (arith, few); encoded = refl })) ∙ states_within n some few
 
 -- ---- the text of a state is loaded
 
-fits : (size : ℕ) → size ≤ 1_892_769_097 → nat_le size 4_294_967_296 ≡ true
+fits : (size : ℕ) → size ≤ 1_892_769_097 → nat_le size most_state ≡ true
 fits size small = grind (arith, nat_tests)
 
 state_loaded : (files : NamedFiles) (name : List ℕ) (g : GuestState) → IsValid g → finite.get files name ≡ Some (second_text g)
-    → loaded files name 4_294_967_296 ≡ Bytes (second_text g)
+    → loaded files name most_state ≡ Bytes (second_text g)
 state_loaded files name g valid held =
-    ap (loaded_of 4_294_967_296) held
+    ap (loaded_of most_state) held
     ∙ ap (λ b. cond b (Bytes (second_text g)) TooLong) (fits (length (second_text g)) (texts_short g (second_text g) valid (inl refl)))
 
 -- ---- what both commands come to
 
-pub segment_reported : (files : NamedFiles) (a b from to : List ℕ) (steps : ℕ) → are_two_files a b ≡ true → loaded files a 4_294_967_296 ≡ Bytes from → loaded files b 4_294_967_296 ≡ Bytes to
+pub segment_reported : (files : NamedFiles) (a b from to : List ℕ) (steps : ℕ) → are_two_files a b ≡ true → loaded files a most_state ≡ Bytes from → loaded files b most_state ≡ Bytes to
     → piece_of from to ≡ Ok steps → segment_over a b files ≡ record { status = Yes; text = segment_line steps; files = files }
 unfolding segment_files
 segment_reported files a b from to steps two first second piece =
     ap (λ t. outcome (cond t (segment_files a b) usage) files) two
-    ∙ follows_load a 4_294_967_296 (λ former. needs b 4_294_967_296 (λ latter. piece_reported (piece_of former latter))) files from first
-    ∙ follows_load b 4_294_967_296 (λ latter. piece_reported (piece_of from latter)) files to second
+    ∙ follows_load a most_state (λ former. needs b most_state (λ latter. piece_reported (piece_of former latter))) files from first
+    ∙ follows_load b most_state (λ latter. piece_reported (piece_of from latter)) files to second
     ∙ ap (λ r. outcome (piece_reported r) files) piece
 
 -- a run that exits with 0 and leaves the output is the bench's own, where that has the stage done
@@ -119,15 +120,15 @@ module _ (ready : Ready) (of : Stage) (there : slice_get ready.recipe.stages (le
   both_judged =
       let next : Plan = needs_last of (end_after (second_text from) of.steps) in
       judged_one ready (second_text begun) (second_text from) of there
-      ∙ (λ i. needs_first of (starts i) (text_said begun good (omega (arith, fresh)) i) next)
+      ∙ (λ i. needs_first of (starts i) (text_parsed begun good (omega (arith, fresh)) i) next)
       ∙ ap (λ difference. unless_other_start difference next) (first_difference-same (second_text begun))
       ∙ following
 
 module _ (recipe stage every prefix : List ℕ) (files : NamedFiles) (steps : ℕ) (steps_are : as_steps every ≡ Some steps) (words : are_stage_words recipe stage prefix ≡ true) where
   module _ (fa : Finds prefix files recipe stage (needs_ready recipe stage prefix)) (of : Stage) (there : slice_get fa.ready.recipe.stages (length fa.ready.done) ≡ Some of) (begun : GuestState)
-      (starts : start_stage fa.ready.recipe (contents fa.ready.inputs fa.ready.done) of ≡ Ok begun) (zeroed : IsYes (saved_from of steps prefix 1_000 0 begun) files) where
+      (starts : start_stage fa.ready.recipe (contents fa.ready.inputs fa.ready.done) of ≡ Ok begun) (zeroed : IsYes (saved_from of steps prefix most_states 0 begun) files) where
     abbrev came : Outcome
-    came = outcome (saved_from of steps prefix 1_000 0 begun) files
+    came = outcome (saved_from of steps prefix most_states 0 begun) files
 
     v : StartsValid fa.ready.recipe fa.ready.inputs fa.is fa.given of begun
     v = starts_valid fa.ready.recipe fa.ready.inputs fa.is fa.given fa.ready.done of begun fa.done there starts
@@ -135,8 +136,8 @@ module _ (recipe stage every prefix : List ℕ) (files : NamedFiles) (steps : �
     at_start : after begun (0 * steps) ≡ Some begun
     at_start = ap (after begun) (zero-mul steps) ∙ after-none begun
 
-    w : IsCutFrom of steps prefix begun 0 1_000 files came
-    w = walk of steps prefix begun 1_000 0 begun files (omega arith) at_start v.below zeroed
+    w : IsCutFrom of steps prefix begun 0 most_states files came
+    w = walk of steps prefix begun most_states 0 begun files (omega arith) at_start v.below zeroed
 
     after_start : 0 + w.more ≡ w.more
     after_start = omega arith
@@ -157,9 +158,9 @@ module _ (recipe stage every prefix : List ℕ) (files : NamedFiles) (steps : �
     whole : first_end begun of.steps ≡ Some (Exited 0, w.end)
     whole =
         let counted : w.from.steps ≡ begun.steps + (0 + w.more) * steps = after-counted begun w.from ((0 + w.more) * steps) w.reached in
-        let front : of.steps ≡ w.from.steps + (of.steps - w.from.steps) = omega (arith, w.below) in
+        let leading : of.steps ≡ w.from.steps + (of.steps - w.from.steps) = omega (arith, w.below) in
         let passed : w.from.steps ≡ (0 + w.more) * steps = omega (arith, counted, v.fresh) in
-        ap (first_end begun) (front ∙ ap (λ n. n + (of.steps - w.from.steps)) passed)
+        ap (first_end begun) (leading ∙ ap (λ n. n + (of.steps - w.from.steps)) passed)
         ∙ first_end-sum begun w.from ((0 + w.more) * steps) (of.steps - w.from.steps) w.reached
         ∙ last_ends
 
@@ -183,7 +184,7 @@ module _ (recipe stage every prefix : List ℕ) (files : NamedFiles) (steps : �
       benched = is_benched fa.ready of begun w.end starts whole w.made w.there;
     }
 
-    bounds : (1 ≤ steps) × (steps ≤ 2 ^ 48)
+    bounds : (1 ≤ steps) × (steps ≤ most_steps)
     bounds = few_steps every steps steps_are
 
     small : (k : ℕ) (le : k ≤ w.more) → (state k le).state.steps < 2 ^ 64
@@ -222,13 +223,13 @@ module _ (recipe stage every prefix : List ℕ) (files : NamedFiles) (steps : �
     last_is : last_state.state ≡ w.from
     last_is = same_Some last_state.state w.from (sym last_state.reached ∙ ap (λ n. after begun (n * steps)) (sym after_start) ∙ w.reached)
 
-    first_loaded : loaded came.files (piece_name prefix 0) 4_294_967_296 ≡ Bytes (second_text begun)
+    first_loaded : loaded came.files (piece_name prefix 0) most_state ≡ Bytes (second_text begun)
     first_loaded = state_loaded came.files (piece_name prefix 0) begun v.valid (first_state.held ∙ ap (λ g. Some (second_text g)) first_is)
 
     last_valid : IsValid w.from
     last_valid = after-valid begun w.from ((0 + w.more) * steps) v.valid w.reached
 
-    last_loaded : loaded came.files (piece_name prefix (w.more + 1 - 1)) 4_294_967_296 ≡ Bytes (second_text w.from)
+    last_loaded : loaded came.files (piece_name prefix (w.more + 1 - 1)) most_state ≡ Bytes (second_text w.from)
     last_loaded =
         let same : w.more ≡ w.more + 1 - 1 = omega arith in
         state_loaded came.files (piece_name prefix (w.more + 1 - 1)) w.from last_valid
@@ -239,14 +240,14 @@ module _ (recipe stage every prefix : List ℕ) (files : NamedFiles) (steps : �
     unfolding ends_files
     both_ends =
         let count : ℕ = w.more + 1 in
-        let with_last : Ready → List ℕ → Plan = λ ready first. needs (piece_name prefix (count - 1)) 4_294_967_296 (λ last. ends_judged ready first last) in
-        let with_first : Ready → Plan = λ ready. needs (piece_name prefix 0) 4_294_967_296 (with_last ready) in
+        let with_last : Ready → List ℕ → Plan = λ ready first. needs (piece_name prefix (count - 1)) most_state (λ last. ends_judged ready first last) in
+        let with_first : Ready → Plan = λ ready. needs (piece_name prefix 0) most_state (with_last ready) in
         ap (λ n. outcome (or_usage n (λ states. cond (are_stage_words recipe stage prefix) (ends_files recipe stage prefix states) usage)) came.files)
         (count_again count (omega arith) (omega (arith, w.few)))
         ∙ ap (λ b. outcome (cond b (ends_files recipe stage prefix count) usage) came.files) words
         ∙ fa.found came.files alike with_first
-        ∙ follows_load (piece_name prefix 0) 4_294_967_296 (with_last fa.ready) came.files (second_text begun) first_loaded
-        ∙ follows_load (piece_name prefix (count - 1)) 4_294_967_296 (λ last. ends_judged fa.ready (second_text begun) last) came.files (second_text w.from) last_loaded
+        ∙ follows_load (piece_name prefix 0) most_state (with_last fa.ready) came.files (second_text begun) first_loaded
+        ∙ follows_load (piece_name prefix (count - 1)) most_state (λ last. ends_judged fa.ready (second_text begun) last) came.files (second_text w.from) last_loaded
         ∙ ap (λ p. outcome p came.files)
         (both_judged fa.ready of there begun w.from w.end starts v.valid v.fresh last_valid (omega (arith, w.below, v.few)) last_ends w.made w.there)
 
@@ -280,15 +281,15 @@ module _ (recipe stage every prefix : List ℕ) (files : NamedFiles) (steps : �
     by_start_of of there (Ok begun) starts zeroed = is_cut fa of there begun starts zeroed
     by_start_of of there (Err why) starts zeroed = absurd cc
 
-    by_place : (place : Option Stage) → slice_get fa.ready.recipe.stages (length fa.ready.done) ≡ place
-        → IsYes (or_usage place (λ of. cut_from of steps prefix (start_stage fa.ready.recipe (contents fa.ready.inputs fa.ready.done) of))) files
-        → Cut (or_usage place (λ of. cut_from of steps prefix (start_stage fa.ready.recipe (contents fa.ready.inputs fa.ready.done) of)))
-    by_place (Some of) there zeroed = by_start_of of there (start_stage fa.ready.recipe (contents fa.ready.inputs fa.ready.done) of) refl zeroed
-    by_place None none zeroed = absurd cc
+    by_stage : (found : Option Stage) → slice_get fa.ready.recipe.stages (length fa.ready.done) ≡ found
+        → IsYes (or_usage found (λ of. cut_from of steps prefix (start_stage fa.ready.recipe (contents fa.ready.inputs fa.ready.done) of))) files
+        → Cut (or_usage found (λ of. cut_from of steps prefix (start_stage fa.ready.recipe (contents fa.ready.inputs fa.ready.done) of)))
+    by_stage (Some of) there zeroed = by_start_of of there (start_stage fa.ready.recipe (contents fa.ready.inputs fa.ready.done) of) refl zeroed
+    by_stage None none zeroed = absurd cc
 
     from_ready : IsYes (cut_ready steps prefix fa.ready) files → Cut (cut_ready steps prefix fa.ready)
     unfolding cut_ready
-    from_ready zeroed = by_place (slice_get fa.ready.recipe.stages (length fa.ready.done)) refl zeroed
+    from_ready zeroed = by_stage (slice_get fa.ready.recipe.stages (length fa.ready.done)) refl zeroed
 
   from_files : LoadsBytes (cut_files recipe stage steps prefix) files → IsYes (cut_files recipe stage steps prefix) files → Cut (cut_files recipe stage steps prefix)
   unfolding cut_files

@@ -3,6 +3,7 @@ use Rattle.std.proofs.Common.{◌≡◌, ℕ, suc, ◌<◌, ◌≤◌, ◌^◌, 
 use Rattle.std.specs.Prelude.{slice_get}
 use Rattle.std.proofs.lemmas.List.{take-append-drop}
 use Rattle.std.proofs.lemmas.Option.{get_or_from_slice_get, slice_get_within}
+use Rattle.ddc_base.specs.Limits.{most_steps}
 use Rattle.guest_run.specs.Run.{End, first_end}
 use Rattle.guest_run.specs.Start.{Refusal}
 use Rattle.guest_run.specs.State.{GuestState}
@@ -15,14 +16,14 @@ use Rattle.recipe.specs.declared.parts.Stage.{Stage}
 use Rattle.audit_rules.specs.Contents.{box_of, program_of}
 use Rattle.audit_rules.specs.Positions.{On, Position, at, enter, entered, forward, todo}
 use Rattle.audit_rules.specs.Stages.{by_end, by_start, contents, stage_result, start_stage}
-use Rattle.audit_rules.specs.Valid.{AreDone, IsAt, IsInputs, IsPosition, IsStanding}
+use Rattle.audit_rules.specs.Valid.{AreDone, IsAt, IsInputs, IsPosition, IsPhase}
 use Rattle.audit_rules.specs.declared.answer.StageFault.{StageFault}
 use Rattle.audit_rules.specs.declared.answer.Finished.{Finished}
 use Rattle.audit_rules.proofs.Continues.{todo-next}
 use Rattle.audit_rules.proofs.GivenBoxes.{box-is, content-is}
-use Rattle.audit_rules.proofs.Places.{contents-are, done-more, enter-standing, forward-standing}
+use Rattle.audit_rules.proofs.ValidPositions.{contents-are, done-more, enter-phase, forward-phase}
 use Rattle.audit_rules.proofs.Rules.{IsStage, rules}
-use Rattle.audit_rules.proofs.Slices.{end-place, slice-on}
+use Rattle.audit_rules.proofs.Slices.{end-step, slice-on}
 use Rattle.audit_run.specs.Earlier.{done_in_order, unless_unfinished}
 
 -- a position is at the stage that is next
@@ -46,12 +47,12 @@ module _ (recipe : RecipeContents) (inputs : List (List ℕ)) (is : IsRecipe rec
       ran guest begins None none made = absurd cc
       ran guest begins (Some (end, last)) ends made =
           let fresh : guest.steps ≡ 0 = starts_fresh done stage guest begins in
-          let entry : IsStanding recipe (enter recipe inputs done (stage ∷ stages)) = enter-standing recipe (rules recipe is) inputs given done (stage ∷ stages) are left in
-          let first : IsPosition recipe (at done guest) = subst (IsStanding recipe) (ap (entered done) begins) entry in
-          let place = end-place guest stage.steps (end, last) ends in
-          let reached : forward recipe inputs (at done guest) place.0 ≡ On (at done last) =
-          slice-on recipe inputs done stage stages left guest last place.0 place.2 (omega (arith, fresh, place.1)) in
-          let there : IsPosition recipe (at done last) = subst (IsStanding recipe) reached (forward-standing recipe (rules recipe is) inputs given (at done guest) first place.0) in
+          let entry : IsPhase recipe (enter recipe inputs done (stage ∷ stages)) = enter-phase recipe (rules recipe is) inputs given done (stage ∷ stages) are left in
+          let first : IsPosition recipe (at done guest) = subst (IsPhase recipe) (ap (entered done) begins) entry in
+          let at_step = end-step guest stage.steps (end, last) ends in
+          let reached : forward recipe inputs (at done guest) at_step.0 ≡ On (at done last) =
+          slice-on recipe inputs done stage stages left guest last at_step.0 at_step.2 (omega (arith, fresh, at_step.1)) in
+          let there : IsPosition recipe (at done last) = subst (IsPhase recipe) reached (forward-phase recipe (rules recipe is) inputs given (at done guest) first at_step.0) in
           done-more recipe (rules recipe is) inputs given (at done last) stage stages end f (at_stage recipe (at done last) stage stages there left) made
 
       by : (s : Result GuestState Refusal) → start_stage recipe (contents inputs done) stage ≡ s → by_start recipe inputs done stage s ≡ Ok f → AreDone recipe (done ++ f ∷ [])
@@ -79,7 +80,7 @@ module _ (recipe : RecipeContents) (inputs : List (List ℕ)) (is : IsRecipe rec
     pub valid : IsValid guest
     pub fresh : guest.steps ≡ 0
     pub below : guest.steps < stage.steps
-    pub few : stage.steps ≤ 2 ^ 48
+    pub few : stage.steps ≤ most_steps
 
   pub starts_valid : (done : List Finished) (stage : Stage) (guest : GuestState) → AreDone recipe done → slice_get recipe.stages (length done) ≡ Some stage
       → start_stage recipe (contents inputs done) stage ≡ Ok guest → StartsValid stage guest

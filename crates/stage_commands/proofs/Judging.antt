@@ -26,14 +26,14 @@ use Rattle.command_plan.specs.Words.{or_usage, usage}
 use Rattle.stage_commands.specs.Cut.{cut_from, cut_ready}
 use Rattle.stage_commands.specs.Ends.{ends_judged, needs_first, needs_last, unless_other_start}
 use Rattle.stage_commands.specs.Exits.{run_failed}
-use Rattle.stage_commands.specs.States.{end_after, state_said}
+use Rattle.stage_commands.specs.States.{end_after, state_parsed}
 use Rattle.stage_commands.specs.Texts.{other_first_line, refuted_first_line}
 use Rattle.stage_commands.specs.declared.ready.Ready.{Ready}
 use Rattle.stage_commands.proofs.Reading.{is_read}
 
 -- one plan is said where the same plan is
 pub says_same : {plan other : Plan} {result : Result Answer Stop} → plan ≡ other → Says other result → Says plan result
-says_same {result = result} is said = subst (λ p. Says p result) (sym is) said
+says_same {result = result} is answered = subst (λ p. Says p result) (sym is) answered
 
 pub performs_same : {plan other : Plan} {old new : ShelfState} {result : Result Answer Stop} → plan ≡ other → Performs other old new result → Performs plan old new result
 performs_same {old = old} {new} {result} is performed = subst (λ p. Performs p old new result) (sym is) performed
@@ -61,19 +61,19 @@ module _ (ready : Ready) (first last : List ℕ) where
   pub judged_none : slice_get ready.recipe.stages (length ready.done) ≡ None → ends_judged ready first last ≡ usage
   unfolding ends_judged
   judged_none none =
-      ap (λ f. or_usage f (λ stage. needs_first stage (start_stage ready.recipe (contents ready.inputs ready.done) stage) (state_said first) (needs_last stage (end_after last stage.steps)))) none
+      ap (λ f. or_usage f (λ stage. needs_first stage (start_stage ready.recipe (contents ready.inputs ready.done) stage) (state_parsed first) (needs_last stage (end_after last stage.steps)))) none
 
   pub judged_one : (stage : Stage) → slice_get ready.recipe.stages (length ready.done) ≡ Some stage
-      → ends_judged ready first last ≡ needs_first stage (start_stage ready.recipe (contents ready.inputs ready.done) stage) (state_said first) (needs_last stage (end_after last stage.steps))
+      → ends_judged ready first last ≡ needs_first stage (start_stage ready.recipe (contents ready.inputs ready.done) stage) (state_parsed first) (needs_last stage (end_after last stage.steps))
   unfolding ends_judged
   judged_one stage there =
-      ap (λ f. or_usage f (λ stage. needs_first stage (start_stage ready.recipe (contents ready.inputs ready.done) stage) (state_said first) (needs_last stage (end_after last stage.steps)))) there
+      ap (λ f. or_usage f (λ stage. needs_first stage (start_stage ready.recipe (contents ready.inputs ready.done) stage) (state_parsed first) (needs_last stage (end_after last stage.steps)))) there
 
 -- ---- the first text
 
 module _ (stage : Stage) (program : List ℕ) (setting : Setting) (text : List ℕ) (next : Plan) where
   abbrev pub judged_first : Plan
-  judged_first = needs_first stage (start_of program setting) (state_said text) next
+  judged_first = needs_first stage (start_of program setting) (state_parsed text) next
 
   pub starts_there : BeginsWith program setting text → judged_first ≡ next
   starts_there b =
@@ -91,4 +91,4 @@ module _ (stage : Stage) (program : List ℕ) (setting : Setting) (text : List �
 
   pub starts_not : (why : StartFault) (cause : StartCause) → start_of program setting ≡ Err (start_refusal_of why) → start_cause (start_refusal_of why) ≡ cause
       → judged_first ≡ run_failed stage (run.Start cause) 0
-  starts_not why cause refused same = ap (λ r. needs_first stage r (state_said text) next) refused ∙ ap (λ c. run_failed stage (run.Start c) 0) same
+  starts_not why cause refused same = ap (λ r. needs_first stage r (state_parsed text) next) refused ∙ ap (λ c. run_failed stage (run.Start c) 0) same

@@ -29,7 +29,7 @@ module _ (recipe : RecipeContents) (inputs : List (List ℕ)) (done : List Finis
 
   pub no_stage_there : (shelf : ShelfState) (result : Result Answer Stop) → slice_get recipe.stages (length done) ≡ None → Says usage result → Performs (left_of_stage recipe inputs done file out) shelf shelf result
   unfolding left_of_stage
-  no_stage_there shelf result none said = subst (λ (p : Plan). Performs p shelf shelf result) (sym (ap (λ f. or_usage f by_stage) none)) (says usage shelf result said)
+  no_stage_there shelf result none parsed = subst (λ (p : Plan). Performs p shelf shelf result) (sym (ap (λ f. or_usage f by_stage) none)) (says usage shelf result parsed)
 
   pub stage_there : (stage : Stage) (old new : ShelfState) (result : Result Answer Stop) → slice_get recipe.stages (length done) ≡ Some stage → Performs (by_stage stage) old new result
       → Performs (left_of_stage recipe inputs done file out) old new result
@@ -46,7 +46,7 @@ module _ (recipe : RecipeContents) (stage : Stage) (file out : List ℕ) (number
   starts guest old new begins performs = subst (λ (m : Result GuestState Refusal). Performs (left_by recipe number stage file out m) old new result) (sym begins) performs
 
   pub not_starts : (cause : StartCause) (shelf : ShelfState) → Begins meant (Err cause) → Says (unfinished recipe number (Runs (run.Start cause) 0)) result → Performs (left_by recipe number stage file out meant) shelf shelf result
-  not_starts cause shelf begins said =
+  not_starts cause shelf begins parsed =
       let same = meant_as meant cause begins in
       subst (λ (m : Result GuestState Refusal). Performs (left_by recipe number stage file out m) shelf shelf result) (sym same.1)
-      (subst (λ (c : StartCause). Performs (unfinished recipe number (Runs (run.Start c) 0)) shelf shelf result) (sym same.2) (says (unfinished recipe number (Runs (run.Start cause) 0)) shelf result said))
+      (subst (λ (c : StartCause). Performs (unfinished recipe number (Runs (run.Start c) 0)) shelf shelf result) (sym same.2) (says (unfinished recipe number (Runs (run.Start cause) 0)) shelf result parsed))

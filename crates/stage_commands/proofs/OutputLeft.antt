@@ -5,6 +5,7 @@ use Rattle.std.specs.FinMap as finite
 use Rattle.std.proofs.lemmas.Bool.{and_parts}
 use Rattle.ddc_base.specs.declared.outside.Loaded.TheVariants.{Bytes}
 use Rattle.ddc_base.specs.Outside.{NamedFiles, loaded}
+use Rattle.ddc_base.specs.Limits.{most_content, most_inputs, most_recipe}
 use Rattle.mem_files.specs.Calls.{content_at}
 use Rattle.mem_files.specs.Names.{begins_with_dot_slash, is_file_name, stripped}
 use Rattle.mem_files.specs.Outputs.{out}
@@ -97,7 +98,7 @@ unfolding left_files left_of_stage
 artefact_left recipe stage out_file files run f words made =
     let r = run.ready in
     let word : List ℕ = output_word run.named.output in
-    let kept : IsRecipe r.recipe = reads_keep run.begins.text r.recipe run.begins.said in
+    let kept : IsRecipe r.recipe = reads_keep run.begins.text r.recipe run.begins.parsed in
     let fits : IsOutput run.named.output = (kept.stages (length r.done) run.named run.there).output in
     ap (λ t. outcome (cond t (left_files recipe stage word out_file) usage) files) words
     ∙ run.found (λ ready. left_of_stage ready.recipe ready.inputs ready.done word out_file)
@@ -107,30 +108,30 @@ artefact_left recipe stage out_file files run f words made =
 -- ---- what a `left` with 0 found
 
 module _ (recipe stage out_file : List ℕ) (files : NamedFiles) where
-  record Front (front : (Ready → Plan) → Plan) : Type 0 where
+  record Leading (leading : (Ready → Plan) → Plan) : Type 0 where
     ready : Ready
     begins : IsBegun recipe stage files ready
-    found : (next : Ready → Plan) → outcome (front next) files ≡ outcome (next ready) files
+    found : (next : Ready → Plan) → outcome (leading next) files ≡ outcome (next ready) files
 
   -- a part more before it
-  following : (front rest : (Ready → Plan) → Plan) (next : Ready → Plan) → ((n : Ready → Plan) → outcome (front n) files ≡ outcome (rest n) files)
-      → (IsYes (rest next) files → Front rest) → IsYes (front next) files → Front front
-  following front rest next same finds zeroed =
-      let r = finds (yes_as (front next) (rest next) files (same next) zeroed) in
+  following : (leading rest : (Ready → Plan) → Plan) (next : Ready → Plan) → ((n : Ready → Plan) → outcome (leading n) files ≡ outcome (rest n) files)
+      → (IsYes (rest next) files → Leading rest) → IsYes (leading next) files → Leading leading
+  following leading rest next same finds zeroed =
+      let r = finds (yes_as (leading next) (rest next) files (same next) zeroed) in
       record { ready = r.ready; begins = r.begins; found = λ n. same n ∙ r.found n }
 
-  record Given (room : ℕ) (names : List (List ℕ)) : Type 0 where
+  record Given (budget : ℕ) (names : List (List ℕ)) : Type 0 where
     contents : List (List ℕ)
     held : map (λ path. finite.get files path) names ≡ map Some contents
-    found : (next : List (List ℕ) → Plan) → outcome (needs_all 268_435_456 room names next) files ≡ outcome (next contents) files
+    found : (next : List (List ℕ) → Plan) → outcome (needs_all most_content budget names next) files ≡ outcome (next contents) files
 
-  all_given : (names : List (List ℕ)) (room : ℕ) (next : List (List ℕ) → Plan) → IsYes (needs_all 268_435_456 room names next) files → Given room names
-  all_given [] room next zeroed = record { contents = []; held = refl; found = λ n. refl }
-  all_given (name ∷ names) room next zeroed =
-      let limit : ℕ = min 268_435_456 room in
-      let then' : List ℕ → (List (List ℕ) → Plan) → Plan = λ c n. needs_all 268_435_456 (room - length c) names (λ contents. n (c ∷ contents)) in
+  all_given : (names : List (List ℕ)) (budget : ℕ) (next : List (List ℕ) → Plan) → IsYes (needs_all most_content budget names next) files → Given budget names
+  all_given [] budget next zeroed = record { contents = []; held = refl; found = λ n. refl }
+  all_given (name ∷ names) budget next zeroed =
+      let limit : ℕ = min most_content budget in
+      let then' : List ℕ → (List (List ℕ) → Plan) → Plan = λ c n. needs_all most_content (budget - length c) names (λ contents. n (c ∷ contents)) in
       let l = load_found name limit (λ c. then' c next) files zeroed in
-      let rest = all_given names (room - length l.0) (λ contents. next (l.0 ∷ contents))
+      let rest = all_given names (budget - length l.0) (λ contents. next (l.0 ∷ contents))
       (yes_as (needs name limit (λ c. then' c next)) (then' l.0 next) files (follows_load name limit (λ c. then' c next) files l.0 l.1) zeroed) in
       let held = within_limit limit (finite.get files name) l.0 l.1 in
       record {
@@ -141,81 +142,81 @@ module _ (recipe stage out_file : List ℕ) (files : NamedFiles) where
 
   -- what follows each part
   abbrev with_inputs : RecipeContents → ℕ → List (List ℕ) → (Ready → Plan) → Plan
-  with_inputs said count inputs n = needs_earlier said inputs count (λ done. n (record { recipe = said; inputs = inputs; done = done }))
+  with_inputs parsed count inputs n = needs_earlier parsed inputs count (λ done. n (record { recipe = parsed; inputs = inputs; done = done }))
 
   abbrev with_out : RecipeContents → ℕ → (Ready → Plan) → Plan
-  with_out said count n = needs_inputs said (λ inputs. with_inputs said count inputs n)
+  with_out parsed count n = needs_inputs parsed (λ inputs. with_inputs parsed count inputs n)
 
   abbrev with_count : RecipeContents → ℕ → (Ready → Plan) → Plan
-  with_count said count n = needs_apart said out_file (λ _. with_out said count n)
+  with_count parsed count n = needs_apart parsed out_file (λ _. with_out parsed count n)
 
-  abbrev with_said : RecipeContents → (Ready → Plan) → Plan
-  with_said said n = needs_stage said stage (λ count. with_count said count n)
+  abbrev with_parsed : RecipeContents → (Ready → Plan) → Plan
+  with_parsed parsed n = needs_stage parsed stage (λ count. with_count parsed count n)
 
   abbrev with_text : List ℕ → (Ready → Plan) → Plan
-  with_text text n = reads_recipe text (λ said. with_said said n)
+  with_text text n = reads_recipe text (λ parsed. with_parsed parsed n)
 
-  never_unfinished : (said : RecipeContents) (number : ℕ) (fault : StageFault) → IsYes (unfinished said number fault) files → ⊥
-  never_unfinished said number (Runs cause step) zeroed = cc
-  never_unfinished said number (Checks cause) zeroed = cc
+  never_unfinished : (parsed : RecipeContents) (number : ℕ) (fault : StageFault) → IsYes (unfinished parsed number fault) files → ⊥
+  never_unfinished parsed number (Runs cause step) zeroed = cc
+  never_unfinished parsed number (Checks cause) zeroed = cc
 
-  module _ (next : Ready → Plan) (text : List ℕ) (held : loaded files recipe 1_048_576 ≡ Bytes text) where
-    module _ (said : RecipeContents) (reads : recipe_of text ≡ Ok said) where
-      module _ (count : ℕ) (place : stage_at said.stages stage ≡ Some count) where
-        from_inputs : (inputs : List (List ℕ)) → map (λ path. finite.get files path) (paths said) ≡ map Some inputs → IsYes (with_inputs said count inputs next) files
-            → Front (with_inputs said count inputs)
-        from_inputs inputs given zeroed = by (done_in_order said inputs [] (take count said.stages)) refl zeroed where
-          by : (ran : Result (List Finished) Unfinished) → done_in_order said inputs [] (take count said.stages) ≡ ran
-              → IsYes (unless_refused ran (λ not_done. unfinished said not_done.stage not_done.fault) (λ done. next (record { recipe = said; inputs = inputs; done = done }))) files
-              → Front (λ n. unless_refused ran (λ not_done. unfinished said not_done.stage not_done.fault) (λ done. n (record { recipe = said; inputs = inputs; done = done })))
+  module _ (next : Ready → Plan) (text : List ℕ) (held : loaded files recipe most_recipe ≡ Bytes text) where
+    module _ (parsed : RecipeContents) (reads : recipe_of text ≡ Ok parsed) where
+      module _ (count : ℕ) (index_is : stage_at parsed.stages stage ≡ Some count) where
+        from_inputs : (inputs : List (List ℕ)) → map (λ path. finite.get files path) (paths parsed) ≡ map Some inputs → IsYes (with_inputs parsed count inputs next) files
+            → Leading (with_inputs parsed count inputs)
+        from_inputs inputs given zeroed = by (done_in_order parsed inputs [] (take count parsed.stages)) refl zeroed where
+          by : (ran : Result (List Finished) Unfinished) → done_in_order parsed inputs [] (take count parsed.stages) ≡ ran
+              → IsYes (unless_refused ran (λ not_done. unfinished parsed not_done.stage not_done.fault) (λ done. next (record { recipe = parsed; inputs = inputs; done = done }))) files
+              → Leading (λ n. unless_refused ran (λ not_done. unfinished parsed not_done.stage not_done.fault) (λ done. n (record { recipe = parsed; inputs = inputs; done = done })))
           by (Ok done) made zeroed = record {
-            ready = record { recipe = said; inputs = inputs; done = done };
-            begins = begun_of recipe stage files text said count inputs done held reads place given made;
+            ready = record { recipe = parsed; inputs = inputs; done = done };
+            begins = begun_of recipe stage files text parsed count inputs done held reads index_is given made;
             found = λ n. refl;
           }
-          by (Err not_done) made zeroed = absurd (never_unfinished said not_done.stage not_done.fault zeroed)
+          by (Err not_done) made zeroed = absurd (never_unfinished parsed not_done.stage not_done.fault zeroed)
 
-        from_out : IsYes (with_out said count next) files → Front (with_out said count)
+        from_out : IsYes (with_out parsed count next) files → Leading (with_out parsed count)
         from_out zeroed =
-            let inputs = all_given (paths said) 1_073_741_824 (λ inputs. with_inputs said count inputs next) zeroed in
-            following (with_out said count) (with_inputs said count inputs.contents) next (λ n. inputs.found (λ inputs. with_inputs said count inputs n))
+            let inputs = all_given (paths parsed) most_inputs (λ inputs. with_inputs parsed count inputs next) zeroed in
+            following (with_out parsed count) (with_inputs parsed count inputs.contents) next (λ n. inputs.found (λ inputs. with_inputs parsed count inputs n))
             (from_inputs inputs.contents inputs.held) zeroed
 
-        from_count : IsYes (with_count said count next) files → Front (with_count said count)
+        from_count : IsYes (with_count parsed count next) files → Leading (with_count parsed count)
         unfolding needs_apart
-        from_count zeroed = by (is_input said out_file) zeroed where
-          by : (one : Bool) → IsYes (cond one usage (with_out said count next)) files → Front (λ n. cond one usage (with_out said count n))
+        from_count zeroed = by (is_input parsed out_file) zeroed where
+          by : (one : Bool) → IsYes (cond one usage (with_out parsed count next)) files → Leading (λ n. cond one usage (with_out parsed count n))
           by false zeroed = from_out zeroed
           by true zeroed = absurd cc
 
-      from_said : IsYes (with_said said next) files → Front (with_said said)
-      from_said zeroed = by (stage_at said.stages stage) refl zeroed where
-        by : (place : Option ℕ) → stage_at said.stages stage ≡ place → IsYes (or_usage place (λ count. with_count said count next)) files
-            → Front (λ n. or_usage place (λ count. with_count said count n))
-        by (Some count) place zeroed = from_count count place zeroed
+      from_parsed : IsYes (with_parsed parsed next) files → Leading (with_parsed parsed)
+      from_parsed zeroed = by (stage_at parsed.stages stage) refl zeroed where
+        by : (index_is : Option ℕ) → stage_at parsed.stages stage ≡ index_is → IsYes (or_usage index_is (λ count. with_count parsed count next)) files
+            → Leading (λ n. or_usage index_is (λ count. with_count parsed count n))
+        by (Some count) index_is zeroed = from_count count index_is zeroed
         by None none zeroed = absurd cc
 
-    from_text : IsYes (with_text text next) files → Front (with_text text)
+    from_text : IsYes (with_text text next) files → Leading (with_text text)
     from_text zeroed = by (recipe_of text) refl zeroed where
       by : (reading : Result RecipeContents RecipeRefusal) → recipe_of text ≡ reading
-          → IsYes (unless_refused reading (λ refusal. answers RecipeRefused (recipe_line refusal)) (λ said. with_said said next)) files
-          → Front (λ n. unless_refused reading (λ refusal. answers RecipeRefused (recipe_line refusal)) (λ said. with_said said n))
-      by (Ok said) reads zeroed = from_said said reads zeroed
+          → IsYes (unless_refused reading (λ refusal. answers RecipeRefused (recipe_line refusal)) (λ parsed. with_parsed parsed next)) files
+          → Leading (λ n. unless_refused reading (λ refusal. answers RecipeRefused (recipe_line refusal)) (λ parsed. with_parsed parsed n))
+      by (Ok parsed) reads zeroed = from_parsed parsed reads zeroed
       by (Err refusal) reads zeroed = absurd cc
 
-  from_recipe : (next : Ready → Plan) → IsYes (needs_left recipe stage out_file next) files → Front (needs_left recipe stage out_file)
+  from_recipe : (next : Ready → Plan) → IsYes (needs_left recipe stage out_file next) files → Leading (needs_left recipe stage out_file)
   from_recipe next zeroed =
-      let text = load_found recipe 1_048_576 (λ t. with_text t next) files zeroed in
-      following (needs_left recipe stage out_file) (with_text text.0) next (λ n. follows_load recipe 1_048_576 (λ t. with_text t n) files text.0 text.1)
+      let text = load_found recipe most_recipe (λ t. with_text t next) files zeroed in
+      following (needs_left recipe stage out_file) (with_text text.0) next (λ n. follows_load recipe most_recipe (λ t. with_text t n) files text.0 text.1)
       (from_text next text.0 text.1) zeroed
 
   -- the stage after those that are done
-  run_there : (file : List ℕ) (r : Front (needs_left recipe stage out_file)) → IsYes (left_of_stage r.ready.recipe r.ready.inputs r.ready.done file out_file) files
+  run_there : (file : List ℕ) (r : Leading (needs_left recipe stage out_file)) → IsYes (left_of_stage r.ready.recipe r.ready.inputs r.ready.done file out_file) files
       → LeftRun recipe stage out_file files
   unfolding left_of_stage
   run_there file r zeroed = by (slice_get r.ready.recipe.stages (length r.ready.done)) refl zeroed where
-    by : (place : Option Stage) → slice_get r.ready.recipe.stages (length r.ready.done) ≡ place
-        → IsYes (or_usage place (λ of. left_by r.ready.recipe (length r.ready.done + 1) of file out_file (start_stage r.ready.recipe (contents r.ready.inputs r.ready.done) of))) files
+    by : (index_is : Option Stage) → slice_get r.ready.recipe.stages (length r.ready.done) ≡ index_is
+        → IsYes (or_usage index_is (λ of. left_by r.ready.recipe (length r.ready.done + 1) of file out_file (start_stage r.ready.recipe (contents r.ready.inputs r.ready.done) of))) files
         → LeftRun recipe stage out_file files
     by (Some named) there zeroed = record { ready = r.ready; begins = r.begins; found = r.found; named = named; there = there }
     by None none zeroed = absurd cc

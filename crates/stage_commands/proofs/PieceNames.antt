@@ -6,6 +6,7 @@ use Rattle.std.proofs.lemmas.Bool.Decides.{nat_tests}
 use Rattle.std.proofs.lemmas.Fmt.{decimal_by_steps, length-decimal-le}
 use Rattle.std.proofs.lemmas.List.Folds.{list_any-append}
 use Rattle.ddc_base.specs.Outside.{ShelfState}
+use Rattle.ddc_base.specs.Limits.{most_states}
 use Rattle.command_plan.specs.declared.stop.Stop.{Stop}
 use Rattle.command_plan.specs.Plan.{Plan}
 use Rattle.command_plan.specs.Steps.{Obtains}
@@ -26,7 +27,7 @@ digits_not_zero : (n : ℕ) → n < 2 ^ 64 → any_zero (decimal n) ≡ false
 digits_not_zero = decimal_by_steps (λ n ds. any_zero ds ≡ false) no_zero
     (λ n ds ten before. none_in_both ds ((48 + n % 10) ∷ []) before (no_zero (n % 10) (omega arith)))
 
-pub names_file : (prefix : List ℕ) (number : ℕ) → IsTrue (is_prefix prefix) → number < 1_000 → IsTrue (is_file_word (piece_name prefix number))
+pub names_file : (prefix : List ℕ) (number : ℕ) → IsTrue (is_prefix prefix) → number < most_states → IsTrue (is_file_word (piece_name prefix number))
 names_file prefix number is few =
     let parts = and_parts (nat_le 1 (length prefix) && nat_le (length prefix) 250) (has_no_zero_byte prefix) is in
     let sizes = and_parts (nat_le 1 (length prefix)) (nat_le (length prefix) 250) parts.0 in

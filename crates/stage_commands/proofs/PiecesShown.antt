@@ -5,6 +5,7 @@ use Rattle.std.proofs.Math.Decide.{dec_lt}
 use Rattle.std.proofs.lemmas.Bool.Decides.{Decides-ltb}
 use Rattle.ddc_base.specs.ByteLists.{AreBytes}
 use Rattle.ddc_base.specs.Difference.{first_difference}
+use Rattle.ddc_base.specs.Limits.{most_steps}
 use Rattle.checkpoints.proofs.Decisions.{by_case, is_at_most}
 use Rattle.guest_run.specs.Run.{End, Exited, Trapped, UnknownCall, after, first_end}
 use Rattle.guest_run.specs.State.{GuestState}
@@ -15,7 +16,7 @@ use Rattle.segments.specs.Segments.{AreTwoStates, ChecksPiece, EndsWith, IsRunsE
 use Rattle.segments.specs.declared.answers.StateFault.{StateFault}
 use Rattle.segments.specs.declared.answers.SegmentFault.{SegmentFault}
 use Rattle.stage_commands.specs.Checked.{EndShows, run_end}
-use Rattle.stage_commands.specs.States.{ReadsAs, between_states, end_after, end_from, piece_answer, piece_of, reached_by, state_after, state_said, unless_other}
+use Rattle.stage_commands.specs.States.{ReadsAs, between_states, end_after, end_from, piece_answer, piece_of, reached_by, state_after, state_parsed, unless_other}
 use Rattle.stage_commands.proofs.Reading.{an_end, no_end, no_state, reads}
 use Rattle.stage_commands.proofs.StatesRead.{IsRead, is_read_valid, no_difference, one_text}
 
@@ -32,7 +33,7 @@ module _ (from to : List ℕ) (first_bytes : AreBytes from) (last_bytes : AreByt
     abbrev states : AreTwoStates from to
     states = record { first = first; last = last; from_is = from_is; to_is = to_is }
 
-    module _ (less : first.steps < last.steps) (near : last.steps ≤ first.steps + 2 ^ 48) where
+    module _ (less : first.steps < last.steps) (near : last.steps ≤ first.steps + most_steps) where
       by_difference : (to : GuestState) → after first apart ≡ Some to → (d : Option ℕ) → first_difference (second_text to) (second_text last) ≡ d → Shows (unless_other apart d)
       by_difference to there None none =
           let begins = is_read_valid from first first_bytes from_is in
@@ -57,13 +58,13 @@ module _ (from to : List ℕ) (first_bytes : AreBytes from) (last_bytes : AreByt
     of_two =
         by_case Shows (nat_le last.steps first.steps) (is_at_most last.steps first.steps) _ _
         (λ le. (states, le))
-        (λ not. by_case Shows (nat_lt (2 ^ 48) apart) (Decides-ltb (2 ^ 48) apart) _ _
+        (λ not. by_case Shows (nat_lt most_steps apart) (Decides-ltb most_steps apart) _ _
         (λ far. (states, omega (arith, far)))
         (λ near. by_end (omega (arith, not)) (omega (arith, not, near)) (first_end first apart) refl))
 
   pub piece_shown : Shows (piece_of from to)
   unfolding piece_of
-  piece_shown = by (state_said from) (reads from) (state_said to) (reads to) where
+  piece_shown = by (state_parsed from) (reads from) (state_parsed to) (reads to) where
     by : (former : Result GuestState StateFault) → ReadsAs from former → (latter : Result GuestState StateFault) → ReadsAs to latter → Shows (between_states former latter)
     by (Err why) first latter last = first
     by (Ok first) from_is (Err why) last = ((first, from_is), last)
@@ -83,7 +84,7 @@ module _ (text : List ℕ) (limit : ℕ) where
 
   pub end_shown : EndShows text limit (end_after text limit)
   unfolding end_after
-  end_shown = by (state_said text) (reads text) where
+  end_shown = by (state_parsed text) (reads text) where
     ended : (from : GuestState) → IsStateOf text from → (e : Option (End × GuestState)) → first_end from (limit - from.steps) ≡ e → EndShows text limit (Ok e)
     ended from is None none = record { from = from; is = is; over = inr none }
     ended from is (Some (end, guest)) ends = elim (dec_lt from.steps limit) [
@@ -95,7 +96,7 @@ module _ (text : List ℕ) (limit : ℕ) where
       by_kind (Trapped cause) ends below = record { from = from; is = is; below = below; end = tt; ends = ends }
       by_kind (UnknownCall number) ends below = record { from = from; is = is; below = below; end = tt; ends = ends }
 
-    by : (said : Result GuestState StateFault) → ReadsAs text said → EndShows text limit (end_from said limit)
+    by : (parsed : Result GuestState StateFault) → ReadsAs text parsed → EndShows text limit (end_from parsed limit)
     by (Err why) is = is
     by (Ok from) is = ended from is (first_end from (limit - from.steps)) refl
 

@@ -4,6 +4,7 @@ use Rattle.std.specs.Prelude.{nat_lt}
 use Rattle.std.proofs.lemmas.Bool.Decides.{Decides-ltb}
 use Rattle.ddc_base.specs.Difference.{first_difference}
 use Rattle.ddc_base.proofs.Differences.{first_difference-same}
+use Rattle.ddc_base.specs.Limits.{most_steps}
 use Rattle.save_format.specs.StateText.StateText.{StateText, parsed_state}
 use Rattle.checkpoints.specs.Inside.Tests as test
 use Rattle.checkpoints.proofs.Decided.{is_in_range, is_joined}
@@ -16,22 +17,22 @@ use Rattle.segments.specs.declared.answers.StateFault.{StateFault}
 use Rattle.segments.specs.declared.answers.StateFault.TheVariants.{Form, Range, FileRef}
 use Rattle.segments.specs.declared.answers.SegmentFault.{SegmentFault}
 use Rattle.segments.specs.declared.answers.SegmentFault.TheVariants.{From, To, NotLater, TooFar, EndsAt, Differs}
-use Rattle.stage_commands.specs.States.{ReadsAs, along, piece_answer, between_states, end_after, end_from, piece_of, reached_by, said_by, state_said, unless_other}
+use Rattle.stage_commands.specs.States.{ReadsAs, along, piece_answer, between_states, end_after, end_from, piece_of, reached_by, parsed_by, state_parsed, unless_other}
 
 -- ---- one text
 
-pub is_read : (text : List ℕ) (result : Result GuestState StateFault) → ReadsAs text result → state_said text ≡ result
-unfolding state_said
+pub is_read : (text : List ℕ) (result : Result GuestState StateFault) → ReadsAs text result → state_parsed text ≡ result
+unfolding state_parsed
 is_read text (Ok guest) (s, is, range, joins, same) =
-    ap said_by is ∙ chosen _ (is_in_range s) _ _ range ∙ chosen _ (is_joined s) _ _ joins ∙ ap Ok (sym same)
-is_read text (Err (Form offset)) is = ap said_by is
-is_read text (Err Range) (s, is, not) = ap said_by is ∙ passed _ (is_in_range s) _ _ not
-is_read text (Err FileRef) (s, is, range, not) = ap said_by is ∙ chosen _ (is_in_range s) _ _ range ∙ passed _ (is_joined s) _ _ not
+    ap parsed_by is ∙ chosen _ (is_in_range s) _ _ range ∙ chosen _ (is_joined s) _ _ joins ∙ ap Ok (sym same)
+is_read text (Err (Form offset)) is = ap parsed_by is
+is_read text (Err Range) (s, is, not) = ap parsed_by is ∙ passed _ (is_in_range s) _ _ not
+is_read text (Err FileRef) (s, is, range, not) = ap parsed_by is ∙ chosen _ (is_in_range s) _ _ range ∙ passed _ (is_joined s) _ _ not
 
-pub reads : (text : List ℕ) → ReadsAs text (state_said text)
-unfolding state_said
+pub reads : (text : List ℕ) → ReadsAs text (state_parsed text)
+unfolding state_parsed
 reads text = by (parsed_state text) refl where
-  by : (said : Result StateText ℕ) → parsed_state text ≡ said → ReadsAs text (said_by said)
+  by : (parsed : Result StateText ℕ) → parsed_state text ≡ parsed → ReadsAs text (parsed_by parsed)
   by (Err offset) is = is
   by (Ok s) is =
       by_case (ReadsAs text) (test.is_in_range s) (is_in_range s) _ _
@@ -52,13 +53,13 @@ module _ (from to : List ℕ) (states : AreTwoStates from to) where
   later less =
       both_read ∙ passed (nat_le states.last.steps states.first.steps) (is_at_most states.last.steps states.first.steps) _ _ (λ le. omega (arith, less, le))
 
-  near : states.first.steps < states.last.steps → states.last.steps ≤ states.first.steps + 2 ^ 48
+  near : states.first.steps < states.last.steps → states.last.steps ≤ states.first.steps + most_steps
       → piece_of from to ≡ reached_by apart states.first states.last (first_end states.first apart)
   near less le =
-      later less ∙ passed (nat_lt (2 ^ 48) apart) (Decides-ltb (2 ^ 48) apart) _ _ (λ far. omega (arith, less, le, far))
+      later less ∙ passed (nat_lt most_steps apart) (Decides-ltb most_steps apart) _ _ (λ far. omega (arith, less, le, far))
 
   -- all steps go on, to a state
-  reached : (guest : GuestState) → states.first.steps < states.last.steps → states.last.steps ≤ states.first.steps + 2 ^ 48 → after states.first apart ≡ Some guest
+  reached : (guest : GuestState) → states.first.steps < states.last.steps → states.last.steps ≤ states.first.steps + most_steps → after states.first apart ≡ Some guest
       → piece_of from to ≡ unless_other apart (first_difference (second_text guest) (second_text states.last))
   reached guest less le there =
       near less le
@@ -67,7 +68,7 @@ module _ (from to : List ℕ) (states : AreTwoStates from to) where
 
 first_none : (from to : List ℕ) (why : StateFault) → IsNoState from why → piece_of from to ≡ Err (From why)
 unfolding piece_of
-first_none from to why is = ap (λ r. between_states r (state_said to)) (is_read from (Err why) is)
+first_none from to why is = ap (λ r. between_states r (state_parsed to)) (is_read from (Err why) is)
 
 last_none : (from to : List ℕ) (guest : GuestState) (why : StateFault) → IsStateOf from guest → IsNoState to why → piece_of from to ≡ Err (To why)
 unfolding piece_of
@@ -87,7 +88,7 @@ is_reported from to (Err NotLater) (states, le) =
 is_reported from to (Err TooFar) (states, far) =
     let less : states.first.steps < states.last.steps = omega (arith, far) in
     later from to states less
-    ∙ chosen (nat_lt (2 ^ 48) (states.last.steps - states.first.steps)) (Decides-ltb (2 ^ 48) (states.last.steps - states.first.steps)) _ _ (omega (arith, far))
+    ∙ chosen (nat_lt most_steps (states.last.steps - states.first.steps)) (Decides-ltb most_steps (states.last.steps - states.first.steps)) _ _ (omega (arith, far))
 is_reported from to (Err (EndsAt step)) e =
     near from to e.at.states e.at.later e.at.near
     ∙ ap (reached_by (e.at.states.last.steps - e.at.states.first.steps) e.at.states.first e.at.states.last) e.ends

@@ -12,6 +12,7 @@ use Rattle.std.proofs.lemmas.Slice.Eq.{bytes_eq-Decides}
 use Rattle.ddc_base.specs.declared.outside.Loaded.{Loaded}
 use Rattle.ddc_base.specs.declared.outside.Loaded.TheVariants.{Bytes, Absent, TooLong}
 use Rattle.ddc_base.specs.Outside.{NamedFiles, loaded, loaded_of}
+use Rattle.ddc_base.specs.Limits.{most_content, most_inputs, most_recipe, most_states}
 use Rattle.mem_files.specs.Outputs.{IsContent}
 use Rattle.recipe.specs.Kept.{IsRecipe}
 use Rattle.recipe.specs.Lookups.{stage_at}
@@ -115,25 +116,25 @@ other_is : (recipe name : List ℕ) (next : Unit {0} → Plan) → needs_other r
 unfolding needs_other
 other_is recipe name next = refl
 
-apart_is : (said : RecipeContents) (name : List ℕ) (next : Unit {0} → Plan) → needs_apart said name next ≡ cond (is_input said name) usage (next tt)
+apart_is : (parsed : RecipeContents) (name : List ℕ) (next : Unit {0} → Plan) → needs_apart parsed name next ≡ cond (is_input parsed name) usage (next tt)
 unfolding needs_apart
-apart_is said name next = refl
+apart_is parsed name next = refl
 
 -- ---- over files in which names of states alone may be changed
 
 module _ (prefix : List ℕ) (files : NamedFiles) where
   abbrev pub AreAlike : NamedFiles → Type 0
-  AreAlike later = (name : List ℕ) → ((k : ℕ) → k < 1_000 → name ≢ piece_name prefix k) → finite.get later name ≡ finite.get files name
+  AreAlike later = (name : List ℕ) → ((k : ℕ) → k < most_states → name ≢ piece_name prefix k) → finite.get later name ≡ finite.get files name
 
-  loaded_again : (later : NamedFiles) → AreAlike later → (name : List ℕ) (limit : ℕ) → ((k : ℕ) → k < 1_000 → is_one_file name (piece_name prefix k) ≡ false)
+  loaded_again : (later : NamedFiles) → AreAlike later → (name : List ℕ) (limit : ℕ) → ((k : ℕ) → k < most_states → is_one_file name (piece_name prefix k) ≡ false)
       → loaded later name limit ≡ loaded files name limit
   loaded_again later alike name limit apart = ap (loaded_of limit) (alike name (λ k few. is_other name (piece_name prefix k) (apart k few)))
 
-  record Given (room : ℕ) (names : List (List ℕ)) : Type 0 where
+  record Given (budget : ℕ) (names : List (List ℕ)) : Type 0 where
     contents : List (List ℕ)
     held : map (λ path. finite.get files path) names ≡ map Some contents
-    found : (later : NamedFiles) → AreAlike later → (next : List (List ℕ) → Plan) → outcome (needs_all 268_435_456 room names next) later ≡ outcome (next contents) later
-    loads : (next : List (List ℕ) → Plan) → LoadsBytes (needs_all 268_435_456 room names next) files → LoadsBytes (next contents) files
+    found : (later : NamedFiles) → AreAlike later → (next : List (List ℕ) → Plan) → outcome (needs_all most_content budget names next) later ≡ outcome (next contents) later
+    loads : (next : List (List ℕ) → Plan) → LoadsBytes (needs_all most_content budget names next) files → LoadsBytes (next contents) files
     many : length contents ≡ length names
     each : All IsContent contents
 
@@ -141,21 +142,21 @@ module _ (prefix : List ℕ) (files : NamedFiles) where
   first_apart true others is = absurd cc
   first_apart false others is = (refl, is)
 
-  all_given : {A : Type 0} (path : A → List ℕ) (values : List A) (room : ℕ) (next : List (List ℕ) → Plan)
-      → ((k : ℕ) → k < 1_000 → list_any (λ value. is_one_file (path value) (piece_name prefix k)) values ≡ false)
-      → IsYes (needs_all 268_435_456 room (map path values) next) files → LoadsBytes (needs_all 268_435_456 room (map path values) next) files
-      → Given room (map path values)
-  all_given path [] room next apart zeroed bytes =
+  all_given : {A : Type 0} (path : A → List ℕ) (values : List A) (budget : ℕ) (next : List (List ℕ) → Plan)
+      → ((k : ℕ) → k < most_states → list_any (λ value. is_one_file (path value) (piece_name prefix k)) values ≡ false)
+      → IsYes (needs_all most_content budget (map path values) next) files → LoadsBytes (needs_all most_content budget (map path values) next) files
+      → Given budget (map path values)
+  all_given path [] budget next apart zeroed bytes =
       record { contents = []; held = refl; found = λ later alike n. refl; loads = λ n b. b; many = refl; each = All-nil IsContent }
-  all_given path (value ∷ values) room next apart zeroed bytes =
-      let limit : ℕ = min 268_435_456 room in
-      let following : List ℕ → (List (List ℕ) → Plan) → Plan = λ c n. needs_all 268_435_456 (room - length c) (map path values) (λ contents. n (c ∷ contents)) in
+  all_given path (value ∷ values) budget next apart zeroed bytes =
+      let limit : ℕ = min most_content budget in
+      let following : List ℕ → (List (List ℕ) → Plan) → Plan = λ c n. needs_all most_content (budget - length c) (map path values) (λ contents. n (c ∷ contents)) in
       let l = load_found (path value) limit (λ c. following c next) files zeroed in
-      let parts = λ (k : ℕ) (few : k < 1_000). first_apart (is_one_file (path value) (piece_name prefix k)) (list_any (λ v. is_one_file (path v) (piece_name prefix k)) values) (apart k few) in
+      let parts = λ (k : ℕ) (few : k < most_states). first_apart (is_one_file (path value) (piece_name prefix k)) (list_any (λ v. is_one_file (path v) (piece_name prefix k)) values) (apart k few) in
       let content_loads = λ (n : List (List ℕ) → Plan) (b : LoadsBytes (needs (path value) limit (λ c. following c n)) files).
       load_bytes (path value) limit (λ c. following c n) files l.0 l.1 b in
       let first = content_loads next bytes in
-      let rest = all_given path values (room - length l.0) (λ contents. next (l.0 ∷ contents)) (λ k few. (parts k few).1)
+      let rest = all_given path values (budget - length l.0) (λ contents. next (l.0 ∷ contents)) (λ k few. (parts k few).1)
       (yes_as (needs (path value) limit (λ c. following c next)) (following l.0 next) files (follows_load (path value) limit (λ c. following c next) files l.0 l.1) zeroed) first.1 in
       let held = within_limit limit (finite.get files (path value)) l.0 l.1 in
       record {
@@ -166,27 +167,27 @@ module _ (prefix : List ℕ) (files : NamedFiles) where
             ∙ rest.found later alike (λ contents. n (l.0 ∷ contents));
         loads = λ n b. rest.loads (λ contents. n (l.0 ∷ contents)) (content_loads n b).1;
         many = omega (arith, rest.many);
-        each = All-cons IsContent l.0 rest.contents (record { bytes = first.0; small = le_trans held.1 (min-le_left 268_435_456 room) }) rest.each;
+        each = All-cons IsContent l.0 rest.contents (record { bytes = first.0; small = le_trans held.1 (min-le_left most_content budget) }) rest.each;
       }
 
   -- a front of a plan finds what a command begins with, here and over every such files; where the whole loads bytes, so does its rest
-  pub record Finds (recipe stage : List ℕ) (front : (Ready → Plan) → Plan) : Type 0 where
+  pub record Finds (recipe stage : List ℕ) (leading : (Ready → Plan) → Plan) : Type 0 where
     pub ready : Ready
     pub begins : IsBegun recipe stage files ready
     pub is : IsRecipe ready.recipe
     pub given : IsInputs ready.recipe ready.inputs
     pub done : AreDone ready.recipe ready.done
-    pub found : (later : NamedFiles) → AreAlike later → (next : Ready → Plan) → outcome (front next) later ≡ outcome (next ready) later
-    pub loads : (next : Ready → Plan) → LoadsBytes (front next) files → LoadsBytes (next ready) files
+    pub found : (later : NamedFiles) → AreAlike later → (next : Ready → Plan) → outcome (leading next) later ≡ outcome (next ready) later
+    pub loads : (next : Ready → Plan) → LoadsBytes (leading next) files → LoadsBytes (next ready) files
 
   module _ (recipe stage : List ℕ) (next : Ready → Plan) where
     -- a part more before it
-    with_part : (front rest : (Ready → Plan) → Plan) → ((later : NamedFiles) → AreAlike later → (n : Ready → Plan) → outcome (front n) later ≡ outcome (rest n) later)
-        → ((n : Ready → Plan) → LoadsBytes (front n) files → LoadsBytes (rest n) files)
+    with_part : (leading rest : (Ready → Plan) → Plan) → ((later : NamedFiles) → AreAlike later → (n : Ready → Plan) → outcome (leading n) later ≡ outcome (rest n) later)
+        → ((n : Ready → Plan) → LoadsBytes (leading n) files → LoadsBytes (rest n) files)
         → (IsYes (rest next) files → LoadsBytes (rest next) files → Finds recipe stage rest)
-        → IsYes (front next) files → LoadsBytes (front next) files → Finds recipe stage front
-    with_part front rest same loads finds zeroed bytes =
-        let r = finds (yes_as (front next) (rest next) files (same files (λ name apart. refl) next) zeroed) (loads next bytes) in
+        → IsYes (leading next) files → LoadsBytes (leading next) files → Finds recipe stage leading
+    with_part leading rest same loads finds zeroed bytes =
+        let r = finds (yes_as (leading next) (rest next) files (same files (λ name apart. refl) next) zeroed) (loads next bytes) in
         record {
           ready = r.ready;
           begins = r.begins;
@@ -199,101 +200,101 @@ module _ (prefix : List ℕ) (files : NamedFiles) where
 
     -- what follows each part
     abbrev with_done : RecipeContents → List (List ℕ) → (Ready → Plan) → List Finished → Plan
-    with_done said inputs n done = n (record { recipe = said; inputs = inputs; done = done })
+    with_done parsed inputs n done = n (record { recipe = parsed; inputs = inputs; done = done })
 
     abbrev with_inputs : RecipeContents → ℕ → List (List ℕ) → (Ready → Plan) → Plan
-    with_inputs said count inputs n = needs_earlier said inputs count (with_done said inputs n)
+    with_inputs parsed count inputs n = needs_earlier parsed inputs count (with_done parsed inputs n)
 
     abbrev with_names : RecipeContents → ℕ → (Ready → Plan) → Plan
-    with_names said count n = needs_inputs said (λ inputs. with_inputs said count inputs n)
+    with_names parsed count n = needs_inputs parsed (λ inputs. with_inputs parsed count inputs n)
 
     abbrev with_count : RecipeContents → ℕ → (Ready → Plan) → Plan
-    with_count said count n = each_name (needs_apart said) prefix 1_000 (λ _. with_names said count n)
+    with_count parsed count n = each_name (needs_apart parsed) prefix most_states (λ _. with_names parsed count n)
 
-    abbrev with_said : RecipeContents → (Ready → Plan) → Plan
-    with_said said n = needs_stage said stage (λ count. with_count said count n)
+    abbrev with_parsed : RecipeContents → (Ready → Plan) → Plan
+    with_parsed parsed n = needs_stage parsed stage (λ count. with_count parsed count n)
 
     abbrev with_text : List ℕ → (Ready → Plan) → Plan
-    with_text text n = reads_recipe text (λ said. with_said said n)
+    with_text text n = reads_recipe text (λ parsed. with_parsed parsed n)
 
     abbrev with_recipe : (Ready → Plan) → Plan
-    with_recipe n = needs_recipe recipe (λ said. with_said said n)
+    with_recipe n = needs_recipe recipe (λ parsed. with_parsed parsed n)
 
     abbrev refuses_stage : RecipeContents → Unfinished → Plan
-    refuses_stage said not_done = unfinished said not_done.stage not_done.fault
+    refuses_stage parsed not_done = unfinished parsed not_done.stage not_done.fault
 
-    never_unfinished : (said : RecipeContents) (number : ℕ) (fault : StageFault) → IsYes (unfinished said number fault) files → ⊥
-    never_unfinished said number (Runs cause step) zeroed = cc
-    never_unfinished said number (Checks cause) zeroed = cc
+    never_unfinished : (parsed : RecipeContents) (number : ℕ) (fault : StageFault) → IsYes (unfinished parsed number fault) files → ⊥
+    never_unfinished parsed number (Runs cause step) zeroed = cc
+    never_unfinished parsed number (Checks cause) zeroed = cc
 
     -- from the last part to the first
-    module _ (text : List ℕ) (held : loaded files recipe 1_048_576 ≡ Bytes text) where
-      module _ (said : RecipeContents) (reads : recipe_of text ≡ Ok said) where
-        is : IsRecipe said
-        is = reads_keep text said reads
+    module _ (text : List ℕ) (held : loaded files recipe most_recipe ≡ Bytes text) where
+      module _ (parsed : RecipeContents) (reads : recipe_of text ≡ Ok parsed) where
+        is : IsRecipe parsed
+        is = reads_keep text parsed reads
 
-        module _ (count : ℕ) (place : stage_at said.stages stage ≡ Some count) where
-          from_inputs : (inputs : List (List ℕ)) → map (λ path. finite.get files path) (paths said) ≡ map Some inputs → IsInputs said inputs
-              → IsYes (with_inputs said count inputs next) files → Finds recipe stage (with_inputs said count inputs)
-          from_inputs inputs hold given zeroed = by (done_in_order said inputs [] (take count said.stages)) refl zeroed where
-            by : (run : Result (List Finished) Unfinished) → done_in_order said inputs [] (take count said.stages) ≡ run
-                → IsYes (unless_refused run (refuses_stage said) (with_done said inputs next)) files
-                → Finds recipe stage (λ n. unless_refused run (refuses_stage said) (with_done said inputs n))
+        module _ (count : ℕ) (index_is : stage_at parsed.stages stage ≡ Some count) where
+          from_inputs : (inputs : List (List ℕ)) → map (λ path. finite.get files path) (paths parsed) ≡ map Some inputs → IsInputs parsed inputs
+              → IsYes (with_inputs parsed count inputs next) files → Finds recipe stage (with_inputs parsed count inputs)
+          from_inputs inputs hold given zeroed = by (done_in_order parsed inputs [] (take count parsed.stages)) refl zeroed where
+            by : (run : Result (List Finished) Unfinished) → done_in_order parsed inputs [] (take count parsed.stages) ≡ run
+                → IsYes (unless_refused run (refuses_stage parsed) (with_done parsed inputs next)) files
+                → Finds recipe stage (λ n. unless_refused run (refuses_stage parsed) (with_done parsed inputs n))
             by (Ok done) ran zeroed = record {
-              ready = record { recipe = said; inputs = inputs; done = done };
-              begins = begun_of recipe stage files text said count inputs done held reads place hold ran;
+              ready = record { recipe = parsed; inputs = inputs; done = done };
+              begins = begun_of recipe stage files text parsed count inputs done held reads index_is hold ran;
               is = is;
               given = given;
-              done = earlier_done said inputs is given count done ran;
+              done = earlier_done parsed inputs is given count done ran;
               found = λ later alike n. refl;
               loads = λ n b. b;
             }
-            by (Err not_done) ran zeroed = absurd (never_unfinished said not_done.stage not_done.fault zeroed)
+            by (Err not_done) ran zeroed = absurd (never_unfinished parsed not_done.stage not_done.fault zeroed)
 
-          from_names : ((k : ℕ) → k < 1_000 → is_input said (piece_name prefix k) ≡ false) → IsYes (with_names said count next) files
-              → LoadsBytes (with_names said count next) files → Finds recipe stage (with_names said count)
+          from_names : ((k : ℕ) → k < most_states → is_input parsed (piece_name prefix k) ≡ false) → IsYes (with_names parsed count next) files
+              → LoadsBytes (with_names parsed count next) files → Finds recipe stage (with_names parsed count)
           from_names apart zeroed bytes =
-              let inputs = all_given (λ (input : Input). input.path) said.inputs 1_073_741_824 (λ inputs. with_inputs said count inputs next) apart zeroed bytes in
-              let given : IsInputs said inputs.contents = record { count = inputs.many ∙ length-map said.inputs (λ (input : Input). input.path); each = inputs.each } in
-              with_part (with_names said count) (with_inputs said count inputs.contents) (λ later alike n. inputs.found later alike (λ inputs. with_inputs said count inputs n))
-              (λ n b. inputs.loads (λ inputs. with_inputs said count inputs n) b) (λ yes b. from_inputs inputs.contents inputs.held given yes) zeroed bytes
+              let inputs = all_given (λ (input : Input). input.path) parsed.inputs most_inputs (λ inputs. with_inputs parsed count inputs next) apart zeroed bytes in
+              let given : IsInputs parsed inputs.contents = record { count = inputs.many ∙ length-map parsed.inputs (λ (input : Input). input.path); each = inputs.each } in
+              with_part (with_names parsed count) (with_inputs parsed count inputs.contents) (λ later alike n. inputs.found later alike (λ inputs. with_inputs parsed count inputs n))
+              (λ n b. inputs.loads (λ inputs. with_inputs parsed count inputs n) b) (λ yes b. from_inputs inputs.contents inputs.held given yes) zeroed bytes
 
-          from_count : IsYes (with_count said count next) files → LoadsBytes (with_count said count next) files
-              → Finds recipe stage (with_count said count)
+          from_count : IsYes (with_count parsed count next) files → LoadsBytes (with_count parsed count next) files
+              → Finds recipe stage (with_count parsed count)
           from_count zeroed bytes =
-              let apart = all_pass (is_input said) (needs_apart said) (apart_is said) prefix 1_000 (λ _. with_names said count next) files zeroed in
-              with_part (with_count said count) (with_names said count) (λ later alike n. apart.found later (λ _. with_names said count n))
-              (λ n b. apart.loads files (λ _. with_names said count n) b) (from_names apart.apart) zeroed bytes
+              let apart = all_pass (is_input parsed) (needs_apart parsed) (apart_is parsed) prefix most_states (λ _. with_names parsed count next) files zeroed in
+              with_part (with_count parsed count) (with_names parsed count) (λ later alike n. apart.found later (λ _. with_names parsed count n))
+              (λ n b. apart.loads files (λ _. with_names parsed count n) b) (from_names apart.apart) zeroed bytes
 
-        from_said : IsYes (with_said said next) files → LoadsBytes (with_said said next) files → Finds recipe stage (with_said said)
-        from_said zeroed bytes = by (stage_at said.stages stage) refl zeroed bytes where
-          by : (place : Option ℕ) → stage_at said.stages stage ≡ place → IsYes (or_usage place (λ count. with_count said count next)) files
-              → LoadsBytes (or_usage place (λ count. with_count said count next)) files
-              → Finds recipe stage (λ n. or_usage place (λ count. with_count said count n))
-          by (Some count) place zeroed bytes = from_count count place zeroed bytes
-          by None place zeroed bytes = absurd cc
+        from_parsed : IsYes (with_parsed parsed next) files → LoadsBytes (with_parsed parsed next) files → Finds recipe stage (with_parsed parsed)
+        from_parsed zeroed bytes = by (stage_at parsed.stages stage) refl zeroed bytes where
+          by : (index_is : Option ℕ) → stage_at parsed.stages stage ≡ index_is → IsYes (or_usage index_is (λ count. with_count parsed count next)) files
+              → LoadsBytes (or_usage index_is (λ count. with_count parsed count next)) files
+              → Finds recipe stage (λ n. or_usage index_is (λ count. with_count parsed count n))
+          by (Some count) index_is zeroed bytes = from_count count index_is zeroed bytes
+          by None index_is zeroed bytes = absurd cc
 
       from_text : IsYes (with_text text next) files → LoadsBytes (with_text text next) files → Finds recipe stage (with_text text)
       from_text zeroed bytes = by (recipe_of text) refl zeroed bytes where
         by : (reading : Result RecipeContents RecipeRefusal) → recipe_of text ≡ reading
-            → IsYes (unless_refused reading (λ refusal. answers RecipeRefused (recipe_line refusal)) (λ said. with_said said next)) files
-            → LoadsBytes (unless_refused reading (λ refusal. answers RecipeRefused (recipe_line refusal)) (λ said. with_said said next)) files
-            → Finds recipe stage (λ n. unless_refused reading (λ refusal. answers RecipeRefused (recipe_line refusal)) (λ said. with_said said n))
-        by (Ok said) reads zeroed bytes = from_said said reads zeroed bytes
+            → IsYes (unless_refused reading (λ refusal. answers RecipeRefused (recipe_line refusal)) (λ parsed. with_parsed parsed next)) files
+            → LoadsBytes (unless_refused reading (λ refusal. answers RecipeRefused (recipe_line refusal)) (λ parsed. with_parsed parsed next)) files
+            → Finds recipe stage (λ n. unless_refused reading (λ refusal. answers RecipeRefused (recipe_line refusal)) (λ parsed. with_parsed parsed n))
+        by (Ok parsed) reads zeroed bytes = from_parsed parsed reads zeroed bytes
         by (Err refusal) reads zeroed bytes = absurd cc
 
-    from_recipe : ((k : ℕ) → k < 1_000 → is_one_file recipe (piece_name prefix k) ≡ false) → IsYes (with_recipe next) files → LoadsBytes (with_recipe next) files
+    from_recipe : ((k : ℕ) → k < most_states → is_one_file recipe (piece_name prefix k) ≡ false) → IsYes (with_recipe next) files → LoadsBytes (with_recipe next) files
         → Finds recipe stage with_recipe
     from_recipe apart zeroed bytes =
-        let text = load_found recipe 1_048_576 (λ t. with_text t next) files zeroed in
+        let text = load_found recipe most_recipe (λ t. with_text t next) files zeroed in
         with_part with_recipe (with_text text.0)
-        (λ later alike n. follows_load recipe 1_048_576 (λ t. with_text t n) later text.0 (loaded_again later alike recipe 1_048_576 apart ∙ text.1))
-        (λ n b. (load_bytes recipe 1_048_576 (λ t. with_text t n) files text.0 text.1 b).1) (from_text text.0 text.1) zeroed bytes
+        (λ later alike n. follows_load recipe most_recipe (λ t. with_text t n) later text.0 (loaded_again later alike recipe most_recipe apart ∙ text.1))
+        (λ n b. (load_bytes recipe most_recipe (λ t. with_text t n) files text.0 text.1 b).1) (from_text text.0 text.1) zeroed bytes
 
     pub found_again : IsYes (needs_ready recipe stage prefix next) files → LoadsBytes (needs_ready recipe stage prefix next) files
         → Finds recipe stage (needs_ready recipe stage prefix)
     unfolding needs_ready
     found_again zeroed bytes =
-        let names = all_pass (is_one_file recipe) (needs_other recipe) (other_is recipe) prefix 1_000 (λ _. with_recipe next) files zeroed in
+        let names = all_pass (is_one_file recipe) (needs_other recipe) (other_is recipe) prefix most_states (λ _. with_recipe next) files zeroed in
         with_part (needs_ready recipe stage prefix) with_recipe (λ later alike n. names.found later (λ _. with_recipe n))
         (λ n b. names.loads files (λ _. with_recipe n) b) (from_recipe names.apart) zeroed bytes

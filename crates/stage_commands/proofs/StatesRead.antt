@@ -18,9 +18,9 @@ use Rattle.save_format.specs.ByteFields.Spelling.{Alike, list_text, number_text}
 use Rattle.save_format.specs.declared.byte_fields.form.TextForm.{TextForm}
 use Rattle.save_format.specs.declared.byte_fields.form.TextForm.TheVariants.{First, Second}
 use Rattle.save_format.specs.StateText.StateText.{PageText, StateText, after_page, parsed_state, state_magic}
-use Rattle.save_format.specs.StateText.Spelled.{IsStateText, IsTextOfState, body_text, heap_text, page_text, reservation_text, run_text, u64s}
-use Rattle.save_format.proofs.ByteFieldsLemmas.Spells as spells
-use Rattle.save_format.proofs.StateTextLemmas.Texts.{formed_again, spelled}
+use Rattle.save_format.specs.StateText.Encoded.{IsStateText, IsTextOfState, body_text, heap_text, page_text, reservation_text, run_text, u64s}
+use Rattle.save_format.proofs.ByteFieldsLemmas.Encodes as encodes
+use Rattle.save_format.proofs.StateTextLemmas.Texts.{formed_again, encoded}
 use Rattle.checkpoints.specs.Checkpoint.{IsInRange, IsJoined, guest_of, lists_in, mapped_of, state_of}
 use Rattle.checkpoints.specs.MemoryParts.Canonical.{AreShown, with_pages}
 use Rattle.checkpoints.proofs.Memories.{placed, shown}
@@ -101,7 +101,7 @@ valid_of s text are range joins =
       files = lists-sound (lists_in s) (ordered s text) range.files joins;
     }
 
-each_byte : (text : List ℕ) → AreBytes text → spells.AreBytes text
+each_byte : (text : List ℕ) → AreBytes text → encodes.AreBytes text
 each_byte text are i = elim (dec_lt i (length text)) [
   | yes less ↦ All-get_or (λ byte. byte < 256) text i 0 less are
   | no not ↦ let past = get_or_past text i 0 (omega (arith, not)) in omega (arith, past)
@@ -115,8 +115,8 @@ pub record IsRead (guest : GuestState) : Type 0 where
 pub is_read_valid : (text : List ℕ) (guest : GuestState) → AreBytes text → IsStateOf text guest → IsRead guest
 unfolding guest_of
 is_read_valid text guest are (s, is, range, joins, same) =
-    let said = spelled text s (each_byte text are) is in
-    subst IsRead (sym same) (record { valid = valid_of s said.0 (in_text s text are said.1) range joins; small = said.0.steps })
+    let parsed = encoded text s (each_byte text are) is in
+    subst IsRead (sym same) (record { valid = valid_of s parsed.0 (in_text s text are parsed.1) range joins; small = parsed.0.steps })
 
 -- ---- one text
 
@@ -125,8 +125,8 @@ one_text a b first last same =
     let one : parsed_state (second_text a) ≡ Ok (state_of a) = formed_again (state_of a) (second_text a) (is_text a first.valid first.small) (inl refl) in
     let other : parsed_state (second_text a) ≡ Ok (state_of b) = formed_again (state_of b) (second_text a) (is_text b last.valid last.small) (inl same) in
     let both : ◌≡◌ {A = Result StateText ℕ} (Ok (state_of a)) (Ok (state_of b)) = sym one ∙ other in
-    let said : state_of a ≡ state_of b = cc in
-    sym (same_guest a first.valid) ∙ ap guest_of said ∙ same_guest b last.valid
+    let parsed : state_of a ≡ state_of b = cc in
+    sym (same_guest a first.valid) ∙ ap guest_of parsed ∙ same_guest b last.valid
 
 -- two texts without a difference are one
 pub no_difference : (a b : List ℕ) → first_difference a b ≡ None → a ≡ b

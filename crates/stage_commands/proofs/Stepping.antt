@@ -27,8 +27,8 @@ use Rattle.recipe_plan.specs.NotDone.{unfinished}
 use Rattle.stage_commands.specs.Step.{needs_session, session_of}
 
 -- a stage of a recipe
-pub stage_place : (recipe : RecipeContents) (index : ℕ) (stage : Stage) → IsRecipe recipe → slice_get recipe.stages index ≡ Some stage → index + 1 < 2 ^ 32
-stage_place recipe index stage kept there = let inside = slice_get_within recipe.stages index stage there in omega (arith, inside, kept.few_stages)
+pub stage_in_range : (recipe : RecipeContents) (index : ℕ) (stage : Stage) → IsRecipe recipe → slice_get recipe.stages index ≡ Some stage → index + 1 < 2 ^ 32
+stage_in_range recipe index stage kept there = let inside = slice_get_within recipe.stages index stage there in omega (arith, inside, kept.few_stages)
 
 pub stage_rules : (recipe : RecipeContents) (index : ℕ) (stage : Stage) → IsRecipe recipe → slice_get recipe.stages index ≡ Some stage → IsStageOf recipe stage
 stage_rules recipe index stage kept there = (take index recipe.stages, kept.stages index stage there)
@@ -39,7 +39,7 @@ module _ {A : Type 0} (found : Option A) (shelf : ShelfState) where
   named value is = leads (or_usage found) shelf value (λ next. ap (λ f. or_usage f next) is)
 
   pub unnamed : (answer : Answer) → found ≡ None → Says usage (Ok answer) → Obtains (or_usage found) shelf shelf (Err (stop.Answered answer))
-  unnamed answer none said = answers_at_once (or_usage found) shelf answer (λ next. ap (λ f. or_usage f next) none ∙ said.by_result)
+  unnamed answer none parsed = answers_at_once (or_usage found) shelf answer (λ next. ap (λ f. or_usage f next) none ∙ parsed.by_result)
 
 module _ (recipe : RecipeContents) (inputs : List (List ℕ)) (done : List Finished) (shelf : ShelfState) where
   -- what follows a stage
@@ -48,8 +48,8 @@ module _ (recipe : RecipeContents) (inputs : List (List ℕ)) (done : List Finis
 
   pub no-stage-left : (answer : Answer) → slice_get recipe.stages (length done) ≡ None → Says usage (Ok answer)
       → Obtains (needs_session recipe inputs done) shelf shelf (Err (stop.Answered answer))
-  no-stage-left answer none said =
-      answers_at_once (needs_session recipe inputs done) shelf answer (λ next. ap (λ f. or_usage f (following next)) none ∙ said.by_result)
+  no-stage-left answer none parsed =
+      answers_at_once (needs_session recipe inputs done) shelf answer (λ next. ap (λ f. or_usage f (following next)) none ∙ parsed.by_result)
 
   module _ (stage : Stage) (there : slice_get recipe.stages (length done) ≡ Some stage) where
     pub started : (session : SessionState) → Ok session ≡ session_of recipe (contents inputs done) stage → Obtains (needs_session recipe inputs done) shelf shelf (Ok session)
@@ -61,12 +61,12 @@ module _ (recipe : RecipeContents) (inputs : List (List ℕ)) (done : List Finis
     pub not_started : (cause : StartCause) (number : ℕ) (answer : Answer) → ◌≡◌ {A = Result SessionState StartCause} (Err cause) (session_of recipe (contents inputs done) stage)
         → number ≡ suc (length done) → Says (unfinished recipe number (Runs (run.Start cause) 0)) (Ok answer)
         → Obtains (needs_session recipe inputs done) shelf shelf (Err (stop.Answered answer))
-    not_started cause number answer is same said =
+    not_started cause number answer is same parsed =
         answers_at_once (needs_session recipe inputs done) shelf answer
         (λ next. ap (λ f. or_usage f (following next)) there
         ∙ ap (λ m. unless_refused m (λ why. unfinished recipe (suc (length done)) (Runs (run.Start why) 0)) next) (sym is)
         ∙ ap (λ n. unfinished recipe n (Runs (run.Start cause) 0)) (sym same)
-        ∙ said.by_result)
+        ∙ parsed.by_result)
 
 -- what a plan leaves is what the same plan leaves
 pub of_same_plan : {plan other : Plan} {before after : OutsideState} {result : Result (Result (Unit {0}) PutFail) Stop}

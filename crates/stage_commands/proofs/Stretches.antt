@@ -3,6 +3,7 @@ use Rattle.std.proofs.Common.{◌≡◌, ℕ, suc, ◌+◌, ◌-◌, ◌<◌, �
 use Rattle.std.specs.Prelude.{nat_lt}
 use Rattle.std.proofs.lemmas.Bool.Decides.{Decides-ltb}
 use Rattle.ddc_base.specs.Outside.{ShelfState}
+use Rattle.ddc_base.specs.Limits.{most_states}
 use Rattle.guest_run.specs.declared.run.RunEnd.{RunEnd}
 use Rattle.guest_run.specs.declared.run.RunEnd.TheVariants as ending
 use Rattle.guest_run.specs.Run.{End, Exited, Trapped, UnknownCall, Runs, after, first_end}
@@ -53,23 +54,23 @@ module _ (stage : Stage) (saved every : ℕ) (old new : GuestState) where
 module _ (stage : Stage) (every : ℕ) (prefix : List ℕ) where
   -- what is left of the plan at the state of a number
   abbrev pub rest_at : ℕ → GuestState → Plan
-  rest_at number guest = saved_from stage every prefix (1_000 - number) number guest
+  rest_at number guest = saved_from stage every prefix (most_states - number) number guest
 
-  saves_one : (number : ℕ) (guest : GuestState) → number < 1_000
+  saves_one : (number : ℕ) (guest : GuestState) → number < most_states
       → rest_at number guest ≡ sets (piece_name prefix number) (second_text guest) (following stage (number + 1) every guest guest (rest_at (number + 1)))
   unfolding saved_from
   saves_one number guest less =
-      let more : 1_000 - number ≡ suc (1_000 - (number + 1)) = omega (arith, less) in
+      let more : most_states - number ≡ suc (most_states - (number + 1)) = omega (arith, less) in
       ap (λ left. saved_from stage every prefix left number guest) more
 
   -- none may be saved any more
-  pub none_left : (number : ℕ) (guest : GuestState) (text : List ℕ) → 1_000 ≤ number → text ≡ too_many_line → SaysBy (rest_at number guest) (Ok (record { status = TooManySegments; text = text; answered = refl }))
+  pub none_left : (number : ℕ) (guest : GuestState) (text : List ℕ) → most_states ≤ number → text ≡ too_many_line → SaysBy (rest_at number guest) (Ok (record { status = TooManySegments; text = text; answered = refl }))
   unfolding saved_from
   none_left number guest text all is =
-      let none : 1_000 - number ≡ 0 = omega (arith, all) in
+      let none : most_states - number ≡ 0 = omega (arith, all) in
       ap (λ left. saved_from stage every prefix left number guest) none ∙ ap (answers TooManySegments) (sym is)
 
-  module _ (plan : Plan) (old now : ShelfState) (number : ℕ) (guest : GuestState) (leads : GoesOnAs plan (rest_at number guest) old now) (less : number < 1_000) where
+  module _ (plan : Plan) (old now : ShelfState) (number : ℕ) (guest : GuestState) (leads : GoesOnAs plan (rest_at number guest) old now) (less : number < most_states) where
     here : GoesOnAs plan (sets (piece_name prefix number) (second_text guest) (following stage (number + 1) every guest guest (rest_at (number + 1)))) old now
     here = subst (λ p. GoesOnAs plan p old now) (saves_one number guest less) leads
 

@@ -3,6 +3,7 @@ use Rattle.std.specs.Prelude.{◌≡◌, ℕ, Some, Ok, List, [], length, map, t
 use Rattle.std.specs.FinMap as finite
 use Rattle.ddc_base.specs.declared.outside.Loaded.TheVariants.{Bytes}
 use Rattle.ddc_base.specs.Outside.{NamedFiles, loaded}
+use Rattle.ddc_base.specs.Limits.{most_recipe}
 use Rattle.recipe.specs.Lookups.{stage_at}
 use Rattle.recipe.specs.Reading.{recipe_of}
 use Rattle.audit_run.specs.Earlier.{done_in_order}
@@ -13,8 +14,8 @@ use Rattle.stage_commands.specs.declared.ready.Ready.{Ready}
 -- definition (`bench`) runs them
 pub record IsBegun (recipe stage : List ℕ) (files : NamedFiles) (ready : Ready) : Type 0 where
   pub text : List ℕ
-  pub held : loaded files recipe 1_048_576 ≡ Bytes text
-  pub said : recipe_of text ≡ Ok ready.recipe
+  pub held : loaded files recipe most_recipe ≡ Bytes text
+  pub parsed : recipe_of text ≡ Ok ready.recipe
   pub inputs : map (λ path. finite.get files path) (paths ready.recipe) ≡ map Some ready.inputs
-  pub place : stage_at ready.recipe.stages stage ≡ Some (length ready.done)
+  pub index_is : stage_at ready.recipe.stages stage ≡ Some (length ready.done)
   pub before : done_in_order ready.recipe ready.inputs [] (take (length ready.done) ready.recipe.stages) ≡ Ok ready.done

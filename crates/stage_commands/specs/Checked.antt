@@ -3,6 +3,7 @@
 use Rattle.std.specs.Prelude.{◌≡◌, ℕ, ◌+◌, ◌<◌, ◌≤◌, Option, None, Some, Result, Ok, Err, List}
 use Rattle.ddc_base.specs.declared.outside.Loaded.TheVariants.{Bytes}
 use Rattle.ddc_base.specs.Outside.{NamedFiles, loaded}
+use Rattle.ddc_base.specs.Limits.{most_state, most_states}
 use Rattle.guest_run.specs.declared.run.RunEnd.{RunEnd}
 use Rattle.guest_run.specs.declared.run.RunEnd.TheVariants as run
 use Rattle.guest_run.specs.Run.{End, Exited, Trapped, UnknownCall}
@@ -22,9 +23,9 @@ use Rattle.stage_commands.specs.Texts.{run_record, segment_line}
 -- two names hold texts that are a segment of so many steps
 pub record HoldPiece (from to : List ℕ) (files : NamedFiles) (steps : ℕ) : Type 0 where
   pub former : List ℕ
-  pub former_is : loaded files from 4_294_967_296 ≡ Bytes former
+  pub former_is : loaded files from most_state ≡ Bytes former
   pub latter : List ℕ
-  pub latter_is : loaded files to 4_294_967_296 ≡ Bytes latter
+  pub latter_is : loaded files to most_state ≡ Bytes latter
   pub piece : IsSegment former latter steps
 
 -- the outcome of `segment` with status 0
@@ -46,7 +47,7 @@ EndShows text limit (Ok (Some (end, guest))) = EndsWith text limit guest (run_en
 
 -- `ends` returns 0, and so does `segment` of every two neighbours
 pub record AreChecked (recipe stage prefix : List ℕ) (count : ℕ) (files : NamedFiles) : Type 0 where
-  pub few : count ≤ 1_000
+  pub few : count ≤ most_states
   pub both_ends : (ends_over recipe stage prefix count files).status ≡ Yes
   pub pieces : (number : ℕ) → number + 1 < count → (segment_over (piece_name prefix number) (piece_name prefix (number + 1)) files).status ≡ Yes
 

@@ -1,6 +1,7 @@
 -- `cut RECIPE STAGE EVERY PREFIX`: saves states along a stage's run. docs/reference/command-line.md and docs/reference/segments.md say the
 -- same for people.
 use Rattle.std.specs.Prelude.{ℕ, zero, suc, ◌+◌, ◌-◌, Option, None, Some, Result, Ok, Err, List, [], ◌∷◌, length, min, nat_lt, slice_get, if◌then◌else◌}
+use Rattle.ddc_base.specs.Limits.{most_states}
 use Rattle.guest_run.specs.Run.{End, first_end}
 use Rattle.guest_run.specs.Start.{Refusal}
 use Rattle.guest_run.specs.State.{GuestState}
@@ -37,7 +38,7 @@ saved_from stage every prefix (suc left) number guest =
 
 -- starts the stage, and saves at most 1,000 states of its run
 abbrev pub cut_from : Stage → ℕ → List ℕ → Result GuestState Refusal → Plan
-cut_from stage every prefix (Ok guest) = saved_from stage every prefix 1_000 0 guest
+cut_from stage every prefix (Ok guest) = saved_from stage every prefix most_states 0 guest
 cut_from stage every prefix (Err why) = run_failed stage (run.Start (start_cause why)) 0
 
 -- cuts the run of the stage after the finished ones

@@ -2,6 +2,7 @@
 use Rattle.std.specs.Prelude.{◌≡◌, ◌≢◌, ℕ, ◌+◌, ◌*◌, ◌<◌, ◌≤◌, Some, Ok, List, [], ◌∷◌, decimal, length, slice_get}
 use Rattle.std.specs.FinMap as map
 use Rattle.ddc_base.specs.Outside.{NamedFiles}
+use Rattle.ddc_base.specs.Limits.{most_states}
 use Rattle.mem_files.specs.Outputs.{out}
 use Rattle.guest_run.specs.Run.{Exited, after, first_end}
 use Rattle.guest_run.specs.State.{GuestState}
@@ -65,7 +66,7 @@ pub record IsRightCut (recipe stage every prefix : List ℕ) (files : NamedFiles
   pub steps_are : as_steps every ≡ Some steps
   pub count : ℕ
   pub some : 1 ≤ count
-  pub few : count ≤ 1_000
+  pub few : count ≤ most_states
   pub printed : came.text ≡ cut_line count (run.last.steps + 1)
   pub states : (number : ℕ) → number < count → IsHeldState run came.files (piece_name prefix number) (number * steps)
   pub others : (name : List ℕ) → ((number : ℕ) → number < count → name ≢ piece_name prefix number) → map.get came.files name ≡ map.get files name

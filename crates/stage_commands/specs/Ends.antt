@@ -2,6 +2,7 @@
 -- ends. docs/reference/command-line.md and docs/reference/segments.md say the same for people.
 use Rattle.std.specs.Prelude.{ℕ, ◌+◌, ◌-◌, Option, None, Some, Result, Ok, Err, List, [], ◌∷◌, length, slice_get, if◌then◌else◌}
 use Rattle.ddc_base.specs.Difference.{first_difference}
+use Rattle.ddc_base.specs.Limits.{most_state}
 use Rattle.guest_run.specs.Run.{End}
 use Rattle.guest_run.specs.Start.{Refusal}
 use Rattle.guest_run.specs.State.{GuestState}
@@ -17,7 +18,7 @@ use Rattle.command_plan.specs.Words.{or_usage, usage}
 use Rattle.stage_commands.specs.Exits.{run_ended, run_failed}
 use Rattle.stage_commands.specs.Names.{are_stage_words, as_states, piece_name}
 use Rattle.stage_commands.specs.Ready.{needs_ready}
-use Rattle.stage_commands.specs.States.{end_after, state_said}
+use Rattle.stage_commands.specs.States.{end_after, state_parsed}
 use Rattle.stage_commands.specs.Texts.{other_first_line, refuted_first_line, refuted_last_line, run_record}
 use Rattle.stage_commands.specs.declared.ready.Ready.{Ready}
 
@@ -44,15 +45,15 @@ needs_last stage ended = unless_refused ended (λ why. answers Refuted (refuted_
 unfoldable pub ends_judged : Ready → List ℕ → List ℕ → Plan
 ends_judged ready first last =
     or_usage (slice_get ready.recipe.stages (length ready.done)) (λ stage.
-    needs_first stage (start_stage ready.recipe (contents ready.inputs ready.done) stage) (state_said first)
+    needs_first stage (start_stage ready.recipe (contents ready.inputs ready.done) stage) (state_parsed first)
     (needs_last stage (end_after last stage.steps)))
 
 -- loads the first text and then the last one, each of at most 4,294,967,296 bytes
 unfoldable pub ends_files : List ℕ → List ℕ → List ℕ → ℕ → Plan
 ends_files recipe stage prefix count =
     needs_ready recipe stage prefix (λ ready.
-    needs (piece_name prefix 0) 4_294_967_296 (λ first.
-    needs (piece_name prefix (count - 1)) 4_294_967_296 (λ last.
+    needs (piece_name prefix 0) most_state (λ first.
+    needs (piece_name prefix (count - 1)) most_state (λ last.
     ends_judged ready first last)))
 
 -- the plan for the words after `ends`

@@ -86,12 +86,12 @@ left_of_stage recipe inputs done file out =
 -- stage
 unfoldable pub left_files : List ℕ → List ℕ → List ℕ → List ℕ → Plan
 left_files recipe stage file out =
-    needs_recipe recipe (λ said.
-    needs_stage said stage (λ count.
-    needs_apart said out (λ _.
-    needs_inputs said (λ inputs.
-    needs_earlier said inputs count (λ done.
-    left_of_stage said inputs done file out)))))
+    needs_recipe recipe (λ parsed.
+    needs_stage parsed stage (λ count.
+    needs_apart parsed out (λ _.
+    needs_inputs parsed (λ inputs.
+    needs_earlier parsed inputs count (λ done.
+    left_of_stage parsed inputs done file out)))))
 
 -- the words after `left`: RECIPE and OUT name two files, STAGE has no zero byte, and FILE is a guest's file or a stream
 unfoldable pub are_left_words : List ℕ → List ℕ → List ℕ → List ℕ → Bool

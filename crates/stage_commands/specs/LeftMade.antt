@@ -28,12 +28,12 @@ output_word (File path) = codes "./" ++ path
 -- what `left` does before it runs the stage
 abbrev pub needs_left : List ℕ → List ℕ → List ℕ → (Ready → Plan) → Plan
 needs_left recipe stage out next =
-    needs_recipe recipe (λ said.
-    needs_stage said stage (λ count.
-    needs_apart said out (λ _.
-    needs_inputs said (λ inputs.
-    needs_earlier said inputs count (λ done.
-    next (record { recipe = said; inputs = inputs; done = done }))))))
+    needs_recipe recipe (λ parsed.
+    needs_stage parsed stage (λ count.
+    needs_apart parsed out (λ _.
+    needs_inputs parsed (λ inputs.
+    needs_earlier parsed inputs count (λ done.
+    next (record { recipe = parsed; inputs = inputs; done = done }))))))
 
 -- the stage of this name, and what `left` starts from on these files
 pub record LeftRun (recipe stage out : List ℕ) (files : NamedFiles) : Type 0 where

@@ -1,6 +1,7 @@
 -- The names of saved states: PREFIX.0, PREFIX.1 and so on. docs/reference/command-line.md says the same for people.
 use Rattle.std.specs.Prelude.{ℕ, zero, suc, Bool, ◌&&◌, Option, None, Some, List, ◌∷◌, ◌++◌, decimal, length, nat_le, if◌then◌else◌}
 use Rattle.ddc_base.specs.Decimals.{as_decimal}
+use Rattle.ddc_base.specs.Limits.{most_states}
 use Rattle.command_plan.specs.Plan.{Plan}
 use Rattle.command_plan.specs.Words.{has_no_zero_byte, is_file_word, is_one_file, usage}
 
@@ -15,7 +16,7 @@ is_prefix word = nat_le 1 (length word) && nat_le (length word) 250 && has_no_ze
 -- COUNT: a number of states, from 1 to 1,000, both included
 abbrev pub within_states : Option ℕ → Option ℕ
 within_states None = None
-within_states (Some count) = if nat_le 1 count && nat_le count 1_000 then Some count else None
+within_states (Some count) = if nat_le 1 count && nat_le count most_states then Some count else None
 
 unfoldable pub as_states : List ℕ → Option ℕ
 as_states word = within_states (as_decimal word)

@@ -1,6 +1,7 @@
 -- `segment FROM TO`: whether two texts are a segment of a run. docs/reference/command-line.md and docs/reference/segments.md say the same
 -- for people.
 use Rattle.std.specs.Prelude.{ℕ, Result, Ok, Err, List, [], ◌∷◌, if◌then◌else◌}
+use Rattle.ddc_base.specs.Limits.{most_state}
 use Rattle.segments.specs.declared.answers.SegmentFault.{SegmentFault}
 use Rattle.command_plan.specs.declared.status.Status.TheVariants.{Yes, Refuted}
 use Rattle.command_plan.specs.Plan.{Plan, answers, needs}
@@ -16,8 +17,8 @@ piece_reported (Err why) = answers Refuted (refuted_segment_line why)
 -- loads the former text and then the latter, each of at most 4,294,967,296 bytes
 unfoldable pub segment_files : List ℕ → List ℕ → Plan
 segment_files from to =
-    needs from 4_294_967_296 (λ former.
-    needs to 4_294_967_296 (λ latter.
+    needs from most_state (λ former.
+    needs to most_state (λ latter.
     piece_reported (piece_of former latter)))
 
 -- the plan for the words after `segment`

@@ -1,7 +1,8 @@
 -- States as read from their texts, for what the commands print: one answer for every text. docs/reference/segments.md says the same for
 -- people.
-use Rattle.std.specs.Prelude.{ℕ, ◌+◌, ◌-◌, ◌^◌, Option, None, Some, Result, Ok, Err, List, nat_le, nat_lt, unwrap_or, if◌then◌else◌}
+use Rattle.std.specs.Prelude.{ℕ, ◌+◌, ◌-◌, Option, None, Some, Result, Ok, Err, List, nat_le, nat_lt, unwrap_or, if◌then◌else◌}
 use Rattle.ddc_base.specs.Difference.{first_difference}
+use Rattle.ddc_base.specs.Limits.{most_steps}
 use Rattle.save_format.specs.StateText.StateText.{StateText, parsed_state}
 use Rattle.checkpoints.specs.Checkpoint.{guest_of}
 use Rattle.checkpoints.specs.Inside.Tests.{is_in_range, is_joined}
@@ -17,12 +18,12 @@ use Rattle.segments.specs.declared.answers.SegmentFault.TheVariants.{From, To, N
 
 -- the state of a text, or why it is not a state. The tests `is_in_range` and `is_joined` are the rules of such texts
 -- (`laws::texts_are_read`)
-abbrev pub said_by : Result StateText ℕ → Result GuestState StateFault
-said_by (Err offset) = Err (Form offset)
-said_by (Ok said) = if is_in_range said then (if is_joined said then Ok (guest_of said) else Err FileRef) else Err Range
+abbrev pub parsed_by : Result StateText ℕ → Result GuestState StateFault
+parsed_by (Err offset) = Err (Form offset)
+parsed_by (Ok parsed) = if is_in_range parsed then (if is_joined parsed then Ok (guest_of parsed) else Err FileRef) else Err Range
 
-unfoldable pub state_said : List ℕ → Result GuestState StateFault
-state_said text = said_by (parsed_state text)
+unfoldable pub state_parsed : List ℕ → Result GuestState StateFault
+state_parsed text = parsed_by (parsed_state text)
 
 -- the state after so many steps, if the run does not end before
 abbrev pub state_after : GuestState → ℕ → GuestState
@@ -39,7 +40,7 @@ reached_by steps first last None = unless_other steps (first_difference (second_
 
 abbrev pub along : ℕ → GuestState → GuestState → Result ℕ SegmentFault
 along steps first last =
-    if nat_lt (2 ^ 48) steps then Err TooFar
+    if nat_lt most_steps steps then Err TooFar
     else reached_by steps first last (first_end first steps)
 
 abbrev pub between_states : Result GuestState StateFault → Result GuestState StateFault → Result ℕ SegmentFault
@@ -49,7 +50,7 @@ between_states (Ok first) (Ok last) = if nat_le last.steps first.steps then Err 
 
 -- of how many steps two texts are a segment, or why they are not one
 unfoldable pub piece_of : List ℕ → List ℕ → Result ℕ SegmentFault
-piece_of from to = between_states (state_said from) (state_said to)
+piece_of from to = between_states (state_parsed from) (state_parsed to)
 
 -- the first exit, trap or unknown call of the run after a state, at a step up to the limit; or why the text is not a state
 abbrev pub end_from : Result GuestState StateFault → ℕ → Result (Option (End × GuestState)) StateFault
@@ -57,7 +58,7 @@ end_from (Err why) limit = Err why
 end_from (Ok guest) limit = Ok (first_end guest (limit - guest.steps))
 
 unfoldable pub end_after : List ℕ → ℕ → Result (Option (End × GuestState)) StateFault
-end_after text limit = end_from (state_said text) limit
+end_after text limit = end_from (state_parsed text) limit
 
 -- ---- the two answers in terms of the bytes
 

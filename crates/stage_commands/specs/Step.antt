@@ -1,6 +1,7 @@
 -- `step RECIPE STAGE`: runs the stages before STAGE, and then answers lines about its program. docs/reference/command-line.md and
 -- docs/reference/step.md say the same for people.
 use Rattle.std.specs.Prelude.{ℕ, suc, Bool, ◌&&◌, Result, Ok, Err, List, [], ◌∷◌, length, slice_get, if◌then◌else◌}
+use Rattle.ddc_base.specs.Limits.{most_lines}
 use Rattle.guest_run.specs.State.{GuestState}
 use Rattle.guest_run.specs.Start.{Refusal}
 use Rattle.prompt.specs.Talks.{talk}
@@ -36,12 +37,12 @@ needs_session recipe inputs done next =
 -- loads the recipe, finds the stage, loads the inputs, runs the stages before that one and starts it; then answers at most 65,536 lines
 unfoldable pub step_stage : List ℕ → List ℕ → Plan
 step_stage recipe stage =
-    needs_recipe recipe (λ said.
-    needs_stage said stage (λ count.
-    needs_inputs said (λ inputs.
-    needs_earlier said inputs count (λ done.
-    needs_session said inputs done (λ session.
-    talks (talk reply_to session 65_536))))))
+    needs_recipe recipe (λ parsed.
+    needs_stage parsed stage (λ count.
+    needs_inputs parsed (λ inputs.
+    needs_earlier parsed inputs count (λ done.
+    needs_session parsed inputs done (λ session.
+    talks (talk reply_to session most_lines))))))
 
 -- the words after `step`: RECIPE is a file name, and STAGE has no zero byte
 abbrev pub are_step_words : List ℕ → List ℕ → Bool

@@ -1,33 +1,32 @@
 //! `cut RECIPE STAGE EVERY PREFIX`: saves states along a stage's run.
 
-ghost use Rattle.std.specs.Prelude.{◌≤◌, ◌<◌, ◌+◌, ◌^◌, map};
+ghost use Rattle.std.specs.Prelude.{◌≤◌, ◌<◌, ◌+◌, map};
+ghost use Rattle.ddc_base.specs.Limits.{most_states, most_steps};
 ghost use Rattle.guest_run.specs.Run.{first_end};
 ghost use Rattle.segments.specs.Segments.{second_text};
-ghost use Rattle.audit_run.specs.Stage.Rules.{IsStageOf};
 ghost use Rattle.recipe.specs.Kept as kept;
-ghost use Rattle.audit_rules.specs.Stages.{contents, start_stage};
 ghost use Rattle.command_plan.specs.Performs.{Performs};
 ghost use Rattle.command_plan.specs.Plan.{answers, unless_refused};
 ghost use Rattle.command_plan.specs.Steps.{Saves, Says};
 ghost use Rattle.command_plan.specs.declared.status.Status.TheVariants.{Yes};
-ghost use Rattle.stage_commands.specs.Cut.{came_on, cut_files, cut_from, cut_plan, cut_ready, next_steps, saved_from};
+ghost use Rattle.stage_commands.specs.Cut.{came_on, cut_plan, next_steps, saved_from};
 ghost use Rattle.stage_commands.specs.Exits.{output_left, run_failed};
 ghost use Rattle.stage_commands.specs.Inside.Going.{ComesOn, IsBelow};
-ghost use Rattle.stage_commands.specs.Inside.Kept.{IsReady};
 ghost use Rattle.stage_commands.specs.Names.{piece_name};
 ghost use Rattle.stage_commands.specs.States.{state_after};
 ghost use Rattle.stage_commands.specs.Texts.{cut_line};
 
 use crate::exits::{output_left, run_failed};
-use crate::names::{MOST_STATES, piece_name};
-use crate::ready::{Ready, make_ready, stage_after};
+use crate::names::piece_name;
+use crate::ready::{make_ready, stage_after};
 use crate::texts;
-use crate::words::{CutWords, Prefix, Spacing};
+use crate::words::{CutWords, NamePrefix, Spacing};
 use audit_rules::RunCause;
 use audit_run::stage::{Exit, start_stage};
 use checkpoints::write_state;
 use command_plan::{Answer, FileName, Status, StepCount, Stop, store, usage};
 use ddc_base::Shelf;
+use ddc_base::limits::MOST_STATES;
 use guest_run::{Guest, RunEnd, RunRam};
 use mem_files::Files;
 use recipe::Stage;
@@ -40,51 +39,15 @@ pub fn perform<S: Shelf>(alloc: Global, shelf: &mut S, words: &[&str]) -> Result
     let Some(words) = CutWords::read(words) else {
         return usage(alloc);
     };
-    cut(alloc, shelf, &words)
-}
-
-/// Runs `cut` on its words.
-fn cut<S: Shelf>(alloc: Global, shelf: &mut S, words: &CutWords<'_>) -> Result<Answer, Stop>
-    ensures { Performs (cut_files words.now.place.recipe words.now.place.stage words.now.spacing.every words.now.spacing.prefix)
-        (S.state shelf.old) (S.state shelf.new) result }
-{
-    let ready = make_ready(alloc, shelf, &words.place, &words.spacing.prefix)?;
-    cut_ready(alloc, shelf, &ready, &words.spacing)
-}
-
-/// Cuts the run of the stage after the finished ones.
-fn cut_ready<S: Shelf>(
-    alloc: Global,
-    shelf: &mut S,
-    ready: &Ready,
-    spacing: &Spacing<'_>,
-) -> Result<Answer, Stop>
-    requires { IsReady ready.now }
-    ensures { Performs (cut_ready spacing.now.every spacing.now.prefix ready.now) (S.state shelf.old) (S.state shelf.new) result }
-{
-    match stage_after(ready) {
-        Some(stage) => cut_stage(alloc, shelf, ready, stage, spacing),
-        None => usage(alloc),
-    }
-}
-
-/// Starts the stage and cuts its run.
-fn cut_stage<S: Shelf>(
-    alloc: Global,
-    shelf: &mut S,
-    ready: &Ready,
-    stage: &Stage,
-    spacing: &Spacing<'_>,
-) -> Result<Answer, Stop>
-    requires ready { IsReady ready.now }
-    requires rules { IsStageOf ready.now.recipe stage.now }
-    ensures { Performs (cut_from stage.now spacing.now.every spacing.now.prefix (start_stage ready.now.recipe (contents ready.now.inputs ready.now.done) stage.now))
-        (S.state shelf.old) (S.state shelf.new) result }
-{
+    let ready = make_ready(alloc, shelf, &words.target, &words.spacing.prefix)?;
+    let stage = match stage_after(&ready) {
+        Some(stage) => stage,
+        None => return usage(alloc),
+    };
     let inputs = ready.inputs.as_slice();
     let done = ready.done.as_slice();
     match start_stage(alloc, &ready.recipe, stage, inputs, done)? {
-        Ok(mut guest) => save_along(alloc, shelf, stage, &mut guest, spacing),
+        Ok(mut guest) => save_along(alloc, shelf, stage, &mut guest, &words.spacing),
         Err(cause) => run_failed(alloc, stage, RunCause::Start(cause), 0),
     }
 }
@@ -98,9 +61,9 @@ fn save_along<S: Shelf>(
     spacing: &Spacing<'_>,
 ) -> Result<Answer, Stop>
     requires output { kept.IsOutput stage.now.output }
-    requires few { stage.now.steps ≤ 2 ^ 48 }
+    requires few { stage.now.steps ≤ most_steps }
     requires below { guest.old.steps < stage.now.steps }
-    ensures { Performs (saved_from stage.now spacing.now.every spacing.now.prefix 1_000 0 guest.old) (S.state shelf.old) (S.state shelf.new) result }
+    ensures { Performs (saved_from stage.now spacing.now.every spacing.now.prefix most_states 0 guest.old) (S.state shelf.old) (S.state shelf.new) result }
 {
     for saved in 0..MOST_STATES {
         save_state(alloc, shelf, guest, &spacing.prefix, saved)?;
@@ -120,10 +83,10 @@ fn save_state<S: Shelf>(
     alloc: Global,
     shelf: &mut S,
     guest: &Guest<RunRam>,
-    prefix: &Prefix<'_>,
+    prefix: &NamePrefix<'_>,
     number: u32,
 ) -> Result<(), Stop>
-    requires { number < 1_000 }
+    requires { number < most_states }
     ensures { Saves (piece_name prefix.now number) (second_text guest.now) (S.state shelf.old) (S.state shelf.new) result }
 {
     let name = piece_name(alloc, prefix, number)?;
@@ -140,7 +103,7 @@ fn go_on(
     guest: &mut Guest<RunRam>,
 ) -> Result<Option<Answer>, Stop>
     requires output { kept.IsOutput stage.now.output }
-    requires few { stage.now.steps ≤ 2 ^ 48 }
+    requires few { stage.now.steps ≤ most_steps }
     requires below { guest.old.steps < stage.now.steps }
     ensures comes_on { ComesOn (came_on stage.now saved (first_end guest.old (next_steps stage.now every guest.old))
         (state_after guest.old (next_steps stage.now every guest.old))) guest.new result }
@@ -149,19 +112,17 @@ fn go_on(
     let most = every.count().min(stage.steps - guest.steps());
     let end = guest.run(most);
     let steps = guest.steps();
+    let step = steps + 1;
     match end {
         RunEnd::Exited(status) => {
-            let exit = Exit {
-                status,
-                step: steps + 1,
-            };
+            let exit = Exit { status, step };
             Ok(Some(exited(alloc, stage, saved, exit, guest.files())?))
         }
         RunEnd::Trapped(cause) => {
-            Ok(Some(run_failed(alloc, stage, RunCause::Trap(cause), steps + 1)?))
+            Ok(Some(run_failed(alloc, stage, RunCause::Trap(cause), step)?))
         }
         RunEnd::UnknownCall(number) => {
-            Ok(Some(run_failed(alloc, stage, RunCause::Call(number), steps + 1)?))
+            Ok(Some(run_failed(alloc, stage, RunCause::Call(number), step)?))
         }
         RunEnd::Spent if steps < stage.steps => Ok(None),
         RunEnd::Spent => Ok(Some(run_failed(alloc, stage, RunCause::Spent, stage.steps)?)),

@@ -1,8 +1,8 @@
 //! `ends RECIPE STAGE PREFIX COUNT`: checks that the first saved state is the stage's start, and reports how the run after the last one
 //! ends.
 
-ghost use Rattle.std.specs.Prelude.{◌≡◌, ◌≤◌, ◌<◌, ◌+◌, ◌-◌, ◌^◌, ℕ, Err, List, map};
-ghost use Rattle.audit_run.specs.Stage.Rules.{IsStageOf};
+ghost use Rattle.std.specs.Prelude.{◌≡◌, ◌≤◌, ℕ, List, map};
+ghost use Rattle.ddc_base.specs.Limits.{most_steps};
 ghost use Rattle.guest_run.specs.Setting.{Setting};
 ghost use Rattle.guest_run.specs.Start.{start_of};
 ghost use Rattle.recipe.specs.Kept as kept;
@@ -10,21 +10,19 @@ ghost use Rattle.segments.specs.Faults.{start_refusal_of, state_fault_number};
 ghost use Rattle.segments.specs.Segments.{EndsWith, StartChecks};
 ghost use Rattle.command_plan.specs.declared.status.Status.TheVariants.{Refuted, Yes};
 ghost use Rattle.command_plan.specs.Performs.{Performs};
-ghost use Rattle.command_plan.specs.Plan.{answers, needs, unless_refused};
+ghost use Rattle.command_plan.specs.Plan.{answers, unless_refused};
 ghost use Rattle.command_plan.specs.Steps.{Says};
-ghost use Rattle.stage_commands.specs.Ends.{ends_files, ends_judged, ends_plan, needs_first, needs_last};
+ghost use Rattle.stage_commands.specs.Ends.{ends_plan, needs_first, needs_last};
 ghost use Rattle.stage_commands.specs.Exits.{output_left, run_failed};
-ghost use Rattle.stage_commands.specs.Inside.Kept.{IsReady};
-ghost use Rattle.stage_commands.specs.Names.{piece_name};
-ghost use Rattle.stage_commands.specs.States.{end_after, state_said};
+ghost use Rattle.stage_commands.specs.States.{end_after, state_parsed};
 ghost use Rattle.stage_commands.specs.Texts.{other_first_line, refuted_first_line, refuted_last_line, run_record};
-ghost use Rattle.audit_rules.specs.Stages.{contents, finished, start_cause, start_stage};
+ghost use Rattle.audit_rules.specs.Stages.{finished, start_cause};
 
 use crate::exits::{output_left, run_failed};
 use crate::names::fetch_state;
-use crate::ready::{Ready, make_ready, stage_after};
+use crate::ready::{make_ready, stage_after};
 use crate::texts;
-use crate::words::{EndsWords, Prefix, StateCount};
+use crate::words::EndsWords;
 use audit_rules::{RunCause, StartCause};
 use audit_run::stage::{Exit, box_of, content};
 use command_plan::{Answer, Status, Stop, usage};
@@ -42,65 +40,19 @@ pub fn perform<S: Shelf>(alloc: Global, shelf: &mut S, words: &[&str]) -> Result
     let Some(words) = EndsWords::read(words) else {
         return usage(alloc);
     };
-    ends(alloc, shelf, &words)
-}
-
-/// Runs `ends` on its words.
-fn ends<S: Shelf>(alloc: Global, shelf: &mut S, words: &EndsWords<'_>) -> Result<Answer, Stop>
-    ensures { Performs (ends_files words.now.place.recipe words.now.place.stage words.now.prefix words.now.states) (S.state shelf.old) (S.state shelf.new) result }
-{
-    let ready = make_ready(alloc, shelf, &words.place, &words.prefix)?;
-    judge_states(alloc, shelf, &ready, &words.prefix, words.states)
-}
-
-/// Fetches the first and the last state, and judges both.
-fn judge_states<S: Shelf>(
-    alloc: Global,
-    shelf: &mut S,
-    ready: &Ready,
-    prefix: &Prefix<'_>,
-    states: StateCount,
-) -> Result<Answer, Stop>
-    requires { IsReady ready.now }
-    ensures { Performs (needs (piece_name prefix.now 0) 4_294_967_296 (λ first. needs (piece_name prefix.now (states - 1)) 4_294_967_296 (λ last.
-        ends_judged ready.now first last))) (S.state shelf.old) (S.state shelf.new) result }
-{
-    let count = states.count();
-    let first = fetch_state(alloc, shelf, prefix, 0)?;
-    let last = fetch_state(alloc, shelf, prefix, count - 1)?;
-    judge(alloc, ready, first.as_slice(), last.as_slice())
-}
-
-/// Judges both texts by the stage after the finished ones.
-fn judge(alloc: Global, ready: &Ready, first: &[u8], last: &[u8]) -> Result<Answer, Stop>
-    requires { IsReady ready.now }
-    ensures { Says (ends_judged ready.now first.now last.now) result }
-{
-    match stage_after(ready) {
-        Some(stage) => judge_stage(alloc, ready, stage, first, last),
-        None => usage(alloc),
-    }
-}
-
-/// Judges both texts by a stage.
-fn judge_stage(
-    alloc: Global,
-    ready: &Ready,
-    stage: &Stage,
-    first: &[u8],
-    last: &[u8],
-) -> Result<Answer, Stop>
-    requires ready { IsReady ready.now }
-    requires rules { IsStageOf ready.now.recipe stage.now }
-    ensures { Says (needs_first stage.now (start_stage ready.now.recipe (contents ready.now.inputs ready.now.done) stage.now) (state_said first.now)
-        (needs_last stage.now (end_after last.now stage.now.steps))) result }
-{
+    let ready = make_ready(alloc, shelf, &words.target, &words.prefix)?;
+    let first = fetch_state(alloc, shelf, &words.prefix, 0)?;
+    let last = fetch_state(alloc, shelf, &words.prefix, words.states.count() - 1)?;
+    let stage = match stage_after(&ready) {
+        Some(stage) => stage,
+        None => return usage(alloc),
+    };
     let inputs = ready.inputs.as_slice();
     let done = ready.done.as_slice();
     let given = box_of(alloc, &ready.recipe, stage, inputs, done)?;
     let program = content(&ready.recipe, inputs, done, &stage.program);
-    let found = check_start(alloc, program, &given, first);
-    judge_first(alloc, stage, found, last)
+    let found = check_start(alloc, program, &given, first.as_slice());
+    judge_first(alloc, stage, found, last.as_slice())
 }
 
 /// Judges the last text, or answers that the first one is refuted or the stage did not start.
@@ -111,9 +63,9 @@ fn judge_first(
     last: &[u8],
 ) -> Result<Answer, Stop>
     requires output { kept.IsOutput stage.now.output }
-    requires few { stage.now.steps ≤ 2 ^ 48 }
+    requires few { stage.now.steps ≤ most_steps }
     ensures { (program : List ℕ) (setting : Setting) (first : List ℕ) → StartChecks program setting first found
-        → Says (needs_first stage.now (start_of program setting) (state_said first) (needs_last stage.now (end_after last.now stage.now.steps))) result }
+        → Says (needs_first stage.now (start_of program setting) (state_parsed first) (needs_last stage.now (end_after last.now stage.now.steps))) result }
 {
     match found {
         StartAnswer::Yes => judge_last(alloc, stage, last),
@@ -158,7 +110,7 @@ fn other_first(alloc: Global, offset: u64) -> Result<Answer, Stop>
 /// Judges the last text, and reports what the run after it left.
 fn judge_last(alloc: Global, stage: &Stage, last: &[u8]) -> Result<Answer, Stop>
     requires output { kept.IsOutput stage.now.output }
-    requires few { stage.now.steps ≤ 2 ^ 48 }
+    requires few { stage.now.steps ≤ most_steps }
     ensures { Says (needs_last stage.now (end_after last.now stage.now.steps)) result }
 {
     match check_end(alloc, last, stage.steps) {
@@ -188,7 +140,7 @@ fn ended(
     last: &[u8],
 ) -> Result<Answer, Stop>
     requires output { kept.IsOutput stage.now.output }
-    requires few { stage.now.steps ≤ 2 ^ 48 }
+    requires few { stage.now.steps ≤ most_steps }
     requires ends { EndsWith last.now stage.now.steps guest.now end }
     ensures { Says (needs_last stage.now (end_after last.now stage.now.steps)) result }
 {

@@ -3,6 +3,7 @@
 ghost use Rattle.std.specs.Prelude.{◌≡◌, ◌*◌, ◌<◌, ◌≤◌, ◌^◌, ◌↔◌, ℕ, ◌+◌, IsTrue, List, [], ◌∷◌, None, Ok, Option, Result, Some, decimal};
 ghost use Rattle.ddc_base.specs.ByteLists.{AreBytes};
 ghost use Rattle.ddc_base.specs.Outside.{NamedFiles};
+ghost use Rattle.ddc_base.specs.Limits.{most_states, most_steps};
 ghost use Rattle.command_plan.specs.Words.{are_two_files, as_steps};
 ghost use Rattle.command_plan.specs.declared.status.Status.TheVariants.{TooManySegments, Yes};
 ghost use Rattle.command_plan.specs.Plan.{LoadsBytes, Plan, outcome};
@@ -26,11 +27,11 @@ ghost use Rattle.recipe.specs.declared.parts.Stage.{Stage};
 ghost use Rattle.segments.specs.Segments.{BeginsWith, ChecksPiece, second_text};
 ghost use Rattle.segments.specs.declared.answers.SegmentFault.{SegmentFault};
 ghost use Rattle.segments.specs.declared.answers.StateFault.{StateFault};
-ghost use Rattle.stage_commands.specs.States.{ReadsAs, end_after, piece_answer, piece_of, state_said};
+ghost use Rattle.stage_commands.specs.States.{ReadsAs, end_after, piece_answer, piece_of, state_parsed};
 
 /// The state that is read from a text, or the reason why none is, follows the rules of such texts.
 pub fn texts_are_read()
-    ensures { (text : List ℕ) → ReadsAs text (state_said text) }
+    ensures { (text : List ℕ) → ReadsAs text (state_parsed text) }
 {}
 
 /// What `segment` prints of two texts is what the check of a segment answers.
@@ -47,9 +48,9 @@ pub fn pieces_are_shown()
 /// starts.
 pub fn firsts_are_reported()
     ensures reported { (stage : Stage) (program : List ℕ) (setting : Setting) (text : List ℕ) (next : Plan) → BeginsWith program setting text
-        → needs_first stage (start_of program setting) (state_said text) next ≡ next }
+        → needs_first stage (start_of program setting) (state_parsed text) next ≡ next }
     ensures shown { (stage : Stage) (program : List ℕ) (setting : Setting) (text : List ℕ) (begun : GuestState) → start_of program setting ≡ Ok begun → IsValid begun → AreBytes text
-        → ((next : Plan) → needs_first stage (start_of program setting) (state_said text) next ≡ next) → BeginsWith program setting text }
+        → ((next : Plan) → needs_first stage (start_of program setting) (state_parsed text) next ≡ next) → BeginsWith program setting text }
 {}
 
 /// What `ends` prints of the run after a last text is true, and nothing else would be.
@@ -82,7 +83,7 @@ pub fn checked_pieces_are_the_run()
 /// The texts of two valid states of one run, below 2^64 steps, are a segment if the latter is reached from the former by 1 to 2^48 steps.
 /// So `segment` returns 0 for any two neighbours that `cut` saved.
 pub fn neighbours_are_pieces()
-    ensures { (first last : GuestState) (steps : ℕ) → IsValid first → IsValid last → last.steps < 2 ^ 64 → 1 ≤ steps → steps ≤ 2 ^ 48
+    ensures { (first last : GuestState) (steps : ℕ) → IsValid first → IsValid last → last.steps < 2 ^ 64 → 1 ≤ steps → steps ≤ most_steps
         → after first steps ≡ Some last → piece_of (second_text first) (second_text last) ≡ Ok steps }
 {}
 
@@ -105,7 +106,7 @@ pub fn cuts_end()
     ensures many { (recipe stage every prefix : List ℕ) (files : NamedFiles) (start : CutStart recipe stage prefix files) (steps : ℕ) → as_steps every ≡ Some steps
         → IsTrue (are_stage_words recipe stage prefix)
         → ((cut_over recipe stage every prefix files).status ≡ TooManySegments)
-        ↔ ((first_end start.begun (1_000 * steps) ≡ None) × (1_000 * steps < start.named.steps)) }
+        ↔ ((first_end start.begun (most_states * steps) ≡ None) × (most_states * steps < start.named.steps)) }
 {}
 
 /// Where the audit's definition (`bench`) finishes a stage, `left` with the FILE of its output returns 0, saves the artefact under OUT and

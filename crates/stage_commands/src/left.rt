@@ -1,8 +1,8 @@
 //! `left RECIPE STAGE FILE OUT`: runs a stage, however it ends, and saves what it left at FILE.
 
-ghost use Rattle.std.specs.Prelude.{◌≡◌, ◌+◌, ◌≤◌, ◌^◌, ℕ, IfOk, List, Some, length, map, slice_get};
+ghost use Rattle.std.specs.Prelude.{◌≡◌, ◌+◌, ◌≤◌, ℕ, IfOk, List, map};
+ghost use Rattle.ddc_base.specs.Limits.{most_steps};
 ghost use Rattle.recipe.specs.Kept.{IsRecipe};
-ghost use Rattle.audit_rules.specs.Stages.{contents, start_stage};
 ghost use Rattle.audit_rules.specs.Valid.{AreDone, IsInputs};
 ghost use Rattle.audit_rules.specs.declared.answer.Finished.{Finished};
 ghost use Rattle.command_plan.specs.Performs.{Performs};
@@ -10,8 +10,7 @@ ghost use Rattle.command_plan.specs.Plan.{Plan};
 ghost use Rattle.command_plan.specs.Steps.{Obtains};
 ghost use Rattle.recipe_plan.specs.Recipes.{needs_apart, needs_inputs};
 ghost use Rattle.stage_commands.specs.Earlier.{needs_earlier, needs_stage};
-ghost use Rattle.stage_commands.specs.Inside.Kept.{IsReady};
-ghost use Rattle.stage_commands.specs.Left.{absent_status, run_left, ends_left, left_by, left_of_stage, left_files, file_left_line, left_plan, left_status, none_left_line};
+ghost use Rattle.stage_commands.specs.Left.{absent_status, run_left, ends_left, file_left_line, left_plan, left_status, none_left_line};
 
 use crate::earlier::stages_before;
 use crate::ready::{Ready, run_stages, stage_after};
@@ -43,22 +42,26 @@ pub fn perform<S: Shelf>(alloc: Global, shelf: &mut S, words: &[&str]) -> Result
     let Some(words) = LeftWords::read(words) else {
         return usage(alloc);
     };
-    left(alloc, shelf, &words)
-}
-
-/// Runs `left` on its words.
-fn left<S: Shelf>(alloc: Global, shelf: &mut S, words: &LeftWords<'_>) -> Result<Answer, Stop>
-    ensures { Performs (left_files words.now.place.recipe words.now.place.stage words.now.wanted.file words.now.wanted.out)
-        (S.state shelf.old) (S.state shelf.new) result }
-{
-    let recipe = fetch_recipe(alloc, shelf, &words.place.recipe)?;
-    let (inputs, done) = run_apart(alloc, shelf, &recipe, words)?;
+    let recipe = fetch_recipe(alloc, shelf, &words.target.recipe)?;
+    let (inputs, done) = run_apart(alloc, shelf, &recipe, &words)?;
     let ready = Ready {
         recipe,
         inputs,
         done,
     };
-    run_after(alloc, shelf, &ready, &words.wanted)
+    let stage = match stage_after(&ready) {
+        Some(stage) => stage,
+        None => return usage(alloc),
+    };
+    let inputs = ready.inputs.as_slice();
+    let done = ready.done.as_slice();
+    match start_stage(alloc, &ready.recipe, stage, inputs, done)? {
+        Ok(guest) => run_out(alloc, shelf, stage, guest, &words.wanted),
+        Err(cause) => {
+            let fault = StageFault::Runs(RunCause::Start(cause), 0);
+            unfinished(alloc, &ready.recipe, done.len() as u32 + 1, fault)
+        }
+    }
 }
 
 /// Fetches a recipe's inputs, none of which is OUT, and runs the stages before STAGE.
@@ -68,57 +71,16 @@ fn run_apart<S: Shelf>(
     recipe: &Recipe,
     words: &LeftWords<'_>,
 ) -> Result<(Inputs, ListOf<Done>), Stop>
-    ensures obtained { Obtains (λ (next : List (List ℕ) × List Finished → Plan). needs_stage recipe.now words.now.place.stage (λ count.
+    ensures obtained { Obtains (λ (next : List (List ℕ) × List Finished → Plan). needs_stage recipe.now words.now.target.stage (λ count.
         needs_apart recipe.now words.now.wanted.out (λ _. needs_inputs recipe.now (λ inputs. needs_earlier recipe.now inputs count (λ done. next (inputs, done))))))
         (S.state shelf.old) (S.state shelf.new) result }
     ensures given { IfOk result (λ found. IsInputs recipe.now found.0) }
     ensures done { IfOk result (λ found. AreDone recipe.now found.1) }
     ensures kept { IfOk result (λ found. IsRecipe recipe.now) }
 {
-    let count = stages_before(alloc, recipe, &words.place.stage)?;
+    let count = stages_before(alloc, recipe, &words.target.stage)?;
     apart(alloc, recipe, &words.wanted.out)?;
     run_stages(alloc, shelf, recipe, count)
-}
-
-/// Runs the stage after the finished ones.
-fn run_after<S: Shelf>(
-    alloc: Global,
-    shelf: &mut S,
-    ready: &Ready,
-    wanted: &Wanted<'_>,
-) -> Result<Answer, Stop>
-    requires { IsReady ready.now }
-    ensures { Performs (left_of_stage ready.now.recipe ready.now.inputs ready.now.done wanted.now.file wanted.now.out) (S.state shelf.old) (S.state shelf.new) result }
-{
-    match stage_after(ready) {
-        Some(stage) => start(alloc, shelf, ready, stage, wanted),
-        None => usage(alloc),
-    }
-}
-
-/// Starts a stage and runs it; answers with 6 where it does not start.
-fn start<S: Shelf>(
-    alloc: Global,
-    shelf: &mut S,
-    ready: &Ready,
-    stage: &Stage,
-    wanted: &Wanted<'_>,
-) -> Result<Answer, Stop>
-    requires ready { IsReady ready.now }
-    requires stage { slice_get ready.now.recipe.stages (length ready.now.done) ≡ Some stage.now }
-    ensures { Performs (left_by ready.now.recipe (length ready.now.done + 1) stage.now wanted.now.file wanted.now.out
-        (start_stage ready.now.recipe (contents ready.now.inputs ready.now.done) stage.now))
-        (S.state shelf.old) (S.state shelf.new) result }
-{
-    let inputs = ready.inputs.as_slice();
-    let done = ready.done.as_slice();
-    match start_stage(alloc, &ready.recipe, stage, inputs, done)? {
-        Ok(guest) => run_out(alloc, shelf, stage, guest, wanted),
-        Err(cause) => {
-            let fault = StageFault::Runs(RunCause::Start(cause), 0);
-            unfinished(alloc, &ready.recipe, done.len() as u32 + 1, fault)
-        }
-    }
 }
 
 /// Runs a stage to its end, and saves what is left at FILE.
@@ -131,7 +93,7 @@ fn run_out<S: Shelf>(
 ) -> Result<Answer, Stop>
     requires fresh { guest.steps ≡ 0 }
     requires some { 1 ≤ stage.now.steps }
-    requires few { stage.now.steps ≤ 2 ^ 48 }
+    requires few { stage.now.steps ≤ most_steps }
     ensures { Performs (ends_left stage.now.name wanted.now.file wanted.now.out (run_left guest stage.now.steps)) (S.state shelf.old) (S.state shelf.new) result }
 {
     let mut guest = guest;
@@ -150,13 +112,15 @@ fn run_out<S: Shelf>(
 fn end_of(guest: &mut Guest<RunRam>, most: u64) -> Result<(RunCause, u64), OutOfMemory>
     requires fresh { guest.old.steps ≡ 0 }
     requires some { 1 ≤ most }
-    requires few { most ≤ 2 ^ 48 }
+    requires few { most ≤ most_steps }
     ensures { IfOk result (λ end. run_left guest.old most ≡ record { cause = end.0; step = end.1; files = guest.new.world }) }
 {
-    match guest.run(most) {
-        RunEnd::Exited(status) => Ok((RunCause::Status(status), guest.steps() + 1)),
-        RunEnd::Trapped(cause) => Ok((RunCause::Trap(cause), guest.steps() + 1)),
-        RunEnd::UnknownCall(number) => Ok((RunCause::Call(number), guest.steps() + 1)),
+    let end = guest.run(most);
+    let step = guest.steps() + 1;
+    match end {
+        RunEnd::Exited(status) => Ok((RunCause::Status(status), step)),
+        RunEnd::Trapped(cause) => Ok((RunCause::Trap(cause), step)),
+        RunEnd::UnknownCall(number) => Ok((RunCause::Call(number), step)),
         RunEnd::Spent => Ok((RunCause::Spent, most)),
         RunEnd::OutOfMemory => Err(OutOfMemory),
     }

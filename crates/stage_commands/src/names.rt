@@ -2,25 +2,21 @@
 
 ghost use Rattle.std.specs.Prelude.{◌≡◌, ◌≤◌, ◌<◌, IfOk, IfSome, IsTrue, string_bytes};
 ghost use Rattle.ddc_base.specs.Outside.{ShelfState};
+ghost use Rattle.ddc_base.specs.Limits.{most_state, most_states};
 ghost use Rattle.command_plan.specs.Plan.{needs};
 ghost use Rattle.command_plan.specs.Words.{is_file_word};
 ghost use Rattle.command_plan.specs.Steps.{Obtains};
 ghost use Rattle.recipe_plan.specs.Recipes.{needs_apart};
 ghost use Rattle.stage_commands.specs.Names.{as_states, each_name, is_prefix, needs_other, piece_name};
 
-use crate::words::Prefix;
+use crate::words::NamePrefix;
 use command_plan::words::{has_no_zero_byte, is_one_file};
 use command_plan::{FileName, Stop, fetch, usage};
+use ddc_base::limits::{MOST_STATE, MOST_STATES};
 use ddc_base::{Bytes, OutOfMemory, Shelf, read_decimal};
 use recipe::Recipe;
 use recipe_plan::apart;
 use std::alloc::Global;
-
-/// The most states of a cut.
-pub(crate) const MOST_STATES: u32 = 1_000;
-
-/// The most bytes of a state that are loaded. The text of every state is shorter.
-pub(crate) const STATE_LIMIT: u64 = 4_294_967_296;
 
 /// Whether PREFIX has 1 to 250 bytes, none of them zero.
 pub(crate) fn is_prefix(prefix: &str) -> bool
@@ -33,7 +29,7 @@ pub(crate) fn is_prefix(prefix: &str) -> bool
 #[tactic(auto, unfolding(crate::specs::Names::as_states))]
 pub(crate) fn states_of(word: &str) -> Option<u32>
     ensures value { result ≡ as_states word.now }
-    ensures within { IfSome result (λ count. (1 ≤ count) × (count ≤ 1_000)) }
+    ensures within { IfSome result (λ count. (1 ≤ count) × (count ≤ most_states)) }
 {
     let count = read_decimal(word.as_bytes())?;
     if 1 <= count && count <= MOST_STATES as u64 {
@@ -46,10 +42,10 @@ pub(crate) fn states_of(word: &str) -> Option<u32>
 /// The name PREFIX.K of the state of a number K, below 1,000.
 pub(crate) fn piece_name(
     alloc: Global,
-    prefix: &Prefix<'_>,
+    prefix: &NamePrefix<'_>,
     number: u32,
 ) -> Result<String, OutOfMemory>
-    requires { number < 1_000 }
+    requires { number < most_states }
     ensures name { IfOk result (λ name. string_bytes name ≡ piece_name prefix.now number) }
     ensures file { IsTrue (is_file_word (piece_name prefix.now number)) }
 {
@@ -61,23 +57,23 @@ pub(crate) fn piece_name(
 pub(crate) fn fetch_state<S: Shelf>(
     alloc: Global,
     shelf: &mut S,
-    prefix: &Prefix<'_>,
+    prefix: &NamePrefix<'_>,
     number: u32,
 ) -> Result<Bytes, Stop>
-    requires { number < 1_000 }
-    ensures { Obtains (needs (piece_name prefix.now number) 4_294_967_296) (S.state shelf.old) (S.state shelf.new) result }
+    requires { number < most_states }
+    ensures { Obtains (needs (piece_name prefix.now number) most_state) (S.state shelf.old) (S.state shelf.new) result }
 {
     let name = piece_name(alloc, prefix, number)?;
-    fetch(alloc, shelf, &FileName::of(name.as_str()), STATE_LIMIT)
+    fetch(alloc, shelf, &FileName::of(name.as_str()), MOST_STATE)
 }
 
 /// Stops with a usage answer where one of PREFIX.0 to PREFIX.999 names the same file as RECIPE.
 pub(crate) fn names_other(
     alloc: Global,
     file: &FileName<'_>,
-    prefix: &Prefix<'_>,
+    prefix: &NamePrefix<'_>,
 ) -> Result<(), Stop>
-    ensures { (shelf : ShelfState) → Obtains (each_name (needs_other file.now) prefix.now 1_000) shelf shelf result }
+    ensures { (shelf : ShelfState) → Obtains (each_name (needs_other file.now) prefix.now most_states) shelf shelf result }
 {
     for number in 0..MOST_STATES {
         let name = piece_name(alloc, prefix, number)?;
@@ -98,8 +94,12 @@ fn other(alloc: Global, file: &FileName<'_>, name: &FileName<'_>) -> Result<(), 
 }
 
 /// Stops with a usage answer where one of PREFIX.0 to PREFIX.999 names the same file as an input.
-pub(crate) fn names_apart(alloc: Global, recipe: &Recipe, prefix: &Prefix<'_>) -> Result<(), Stop>
-    ensures { (shelf : ShelfState) → Obtains (each_name (needs_apart recipe.now) prefix.now 1_000) shelf shelf result }
+pub(crate) fn names_apart(
+    alloc: Global,
+    recipe: &Recipe,
+    prefix: &NamePrefix<'_>,
+) -> Result<(), Stop>
+    ensures { (shelf : ShelfState) → Obtains (each_name (needs_apart recipe.now) prefix.now most_states) shelf shelf result }
 {
     for number in 0..MOST_STATES {
         let name = piece_name(alloc, prefix, number)?;

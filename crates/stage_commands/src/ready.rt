@@ -1,6 +1,7 @@
 //! What the commands on one stage do first: load the recipe and inputs, and run the stages before it.
 
 ghost use Rattle.std.specs.Prelude.{◌≡◌, ◌<◌, ℕ, IfOk, IfSome, List, MatchOption, None, Some, length, slice_get};
+ghost use Rattle.ddc_base.specs.Limits.{most_states};
 ghost use Rattle.audit_run.specs.Stage.Rules.{IsStageOf};
 ghost use Rattle.recipe.specs.Kept.{IsRecipe};
 ghost use Rattle.audit_rules.specs.Valid.{AreDone, IsInputs};
@@ -15,7 +16,7 @@ ghost use Rattle.stage_commands.specs.Ready.{needs_ready};
 
 use crate::earlier::{run_before, stages_before};
 use crate::names::{names_apart, names_other};
-use crate::words::{Prefix, StageWord, StageWords};
+use crate::words::{NamePrefix, StageWord, StageWords};
 use audit_run::stage::Done;
 use command_plan::Stop;
 use ddc_base::{ListOf, Shelf};
@@ -35,15 +36,15 @@ pub(crate) struct Ready {
 pub(crate) fn make_ready<S: Shelf>(
     alloc: Global,
     shelf: &mut S,
-    place: &StageWords<'_>,
-    prefix: &Prefix<'_>,
+    target: &StageWords<'_>,
+    prefix: &NamePrefix<'_>,
 ) -> Result<Ready, Stop>
-    ensures obtained { Obtains (needs_ready place.now.recipe place.now.stage prefix.now) (S.state shelf.old) (S.state shelf.new) result }
+    ensures obtained { Obtains (needs_ready target.now.recipe target.now.stage prefix.now) (S.state shelf.old) (S.state shelf.new) result }
     ensures ready { IfOk result IsReady }
 {
-    names_other(alloc, &place.recipe, prefix)?;
-    let recipe = fetch_recipe(alloc, shelf, &place.recipe)?;
-    let (inputs, done) = run_apart(alloc, shelf, &recipe, &place.stage, prefix)?;
+    names_other(alloc, &target.recipe, prefix)?;
+    let recipe = fetch_recipe(alloc, shelf, &target.recipe)?;
+    let (inputs, done) = run_apart(alloc, shelf, &recipe, &target.stage, prefix)?;
     Ok(Ready {
         recipe,
         inputs,
@@ -57,9 +58,9 @@ fn run_apart<S: Shelf>(
     shelf: &mut S,
     recipe: &Recipe,
     stage: &StageWord<'_>,
-    prefix: &Prefix<'_>,
+    prefix: &NamePrefix<'_>,
 ) -> Result<(Inputs, ListOf<Done>), Stop>
-    ensures obtained { Obtains (λ (next : List (List ℕ) × List Finished → Plan). needs_stage recipe.now stage.now (λ count. each_name (needs_apart recipe.now) prefix.now 1_000 (λ _.
+    ensures obtained { Obtains (λ (next : List (List ℕ) × List Finished → Plan). needs_stage recipe.now stage.now (λ count. each_name (needs_apart recipe.now) prefix.now most_states (λ _.
         needs_inputs recipe.now (λ inputs. needs_earlier recipe.now inputs count (λ done. next (inputs, done)))))) (S.state shelf.old) (S.state shelf.new) result }
     ensures given { IfOk result (λ found. IsInputs recipe.now found.0) }
     ensures done { IfOk result (λ found. AreDone recipe.now found.1) }

@@ -3,42 +3,26 @@
 ghost use Rattle.std.specs.Prelude.{map};
 ghost use Rattle.command_plan.specs.Performs.{Performs};
 ghost use Rattle.command_plan.specs.Steps.{Says};
-ghost use Rattle.stage_commands.specs.Segment.{piece_reported, segment_files, segment_plan};
+ghost use Rattle.stage_commands.specs.Segment.{piece_reported, segment_plan};
 ghost use Rattle.stage_commands.specs.States.{piece_of};
 
-use crate::names::STATE_LIMIT;
 use crate::texts;
-use command_plan::{Answer, FileName, Status, Stop, fetch, two_files, usage};
+use crate::words::segment_words;
+use command_plan::{Answer, Status, Stop, fetch, usage};
 use ddc_base::Shelf;
+use ddc_base::limits::MOST_STATE;
 use segments::{SegmentAnswer, SegmentFault, check};
 use std::alloc::Global;
 
 /// `segment FROM TO`: checks a segment of a run. Statuses 0, 1, 2, 10, 11, 13.
-#[tactic(auto, using(command_plan::proofs::Performing::performing))]
 pub fn perform<S: Shelf>(alloc: Global, shelf: &mut S, words: &[&str]) -> Result<Answer, Stop>
     ensures { Performs (segment_plan (map (λ w. w.now) words.now)) (S.state shelf.old) (S.state shelf.new) result }
 {
-    let [from, to] = words else {
+    let Some((from, to)) = segment_words(words) else {
         return usage(alloc);
     };
-    let Some((from, to)) = two_files(from, to) else {
-        return usage(alloc);
-    };
-    segment(alloc, shelf, &from, &to)
-}
-
-/// Runs `segment` on two files.
-#[tactic(auto, using(command_plan::proofs::Performing::performing), unfolding(crate::specs::Segment::segment_files))]
-fn segment<S: Shelf>(
-    alloc: Global,
-    shelf: &mut S,
-    from: &FileName<'_>,
-    to: &FileName<'_>,
-) -> Result<Answer, Stop>
-    ensures { Performs (segment_files from.now to.now) (S.state shelf.old) (S.state shelf.new) result }
-{
-    let former = fetch(alloc, shelf, from, STATE_LIMIT)?;
-    let latter = fetch(alloc, shelf, to, STATE_LIMIT)?;
+    let former = fetch(alloc, shelf, &from, MOST_STATE)?;
+    let latter = fetch(alloc, shelf, &to, MOST_STATE)?;
     tell(alloc, former.as_slice(), latter.as_slice())
 }
 

@@ -2,6 +2,7 @@
 
 ghost use Rattle.std.specs.Prelude.{◌≡◌, ℕ, All, IfOk, List, map};
 ghost use Rattle.ddc_base.specs.Outside.{ShelfState};
+ghost use Rattle.ddc_base.specs.Limits.{most_lines};
 ghost use Rattle.mem_files.specs.Outputs.{IsContent};
 ghost use Rattle.prompt.specs.Talks.{talk};
 ghost use Rattle.recipe.specs.Kept.{IsRecipe};
@@ -17,7 +18,7 @@ ghost use Rattle.command_plan.specs.Words.{usage};
 ghost use Rattle.recipe_plan.specs.Recipes.{needs_inputs};
 ghost use Rattle.stage_commands.specs.Earlier.{needs_earlier, needs_stage};
 ghost use Rattle.stage_commands.specs.Inside.Kept.{IsReady};
-ghost use Rattle.stage_commands.specs.Step.{needs_session, session_of, step_plan, step_stage};
+ghost use Rattle.stage_commands.specs.Step.{needs_session, session_of, step_plan};
 
 use crate::earlier::stages_before;
 use crate::ready::{Ready, run_stages};
@@ -25,6 +26,7 @@ use crate::words::{StageWord, StageWords};
 use audit_rules::{RunCause, StageFault, StartCause};
 use audit_run::stage::{Done, box_of, content};
 use command_plan::{Stop, usage};
+use ddc_base::limits::MOST_LINES;
 use ddc_base::{Bytes, ListOf, OutOfMemory, PutFail, Shelf, Sink};
 use guest_run::StartRefusal;
 use prompt::{Prompt, converse};
@@ -32,9 +34,6 @@ use recipe::{Inputs, Recipe, Stage};
 use recipe_plan::{fetch_recipe, unfinished};
 use std::alloc::Global;
 use step_debug::Session;
-
-/// The most lines of a session.
-const MOST_LINES: u32 = 65_536;
 
 /// `step RECIPE STAGE`: answers lines of standard input about STAGE's program, unless a status ends the command before. Statuses 0, 2, 4,
 /// 6, 7, 10 to 13.
@@ -51,7 +50,14 @@ pub fn perform<S: Shelf, K: Sink, P: Prompt>(
     let Some(words) = StageWords::read(words) else {
         return refuse(alloc);
     };
-    step(alloc, shelf, out, prompt, &words)
+    let recipe = fetch_recipe(alloc, shelf, &words.recipe)?;
+    let (inputs, done) = run_named(alloc, shelf, &recipe, &words.stage)?;
+    let ready = Ready {
+        recipe,
+        inputs,
+        done,
+    };
+    talk(alloc, out, prompt, &ready)
 }
 
 /// The answer to wrong arguments: usage.
@@ -59,31 +65,6 @@ fn refuse(alloc: Global) -> Result<Result<(), PutFail>, Stop>
     ensures { (state : OutsideState) → PerformsTalk usage state state result }
 {
     Err(Stop::Answered(usage(alloc)?))
-}
-
-/// Runs `step` on its words.
-fn step<S: Shelf, K: Sink, P: Prompt>(
-    alloc: Global,
-    shelf: &mut S,
-    out: &mut K,
-    prompt: &mut P,
-    words: &StageWords<'_>,
-) -> Result<Result<(), PutFail>, Stop>
-    ensures { PerformsTalk (step_stage words.now.recipe words.now.stage) (outside (S.state shelf.old) (K.state out.old) (P.state prompt.old))
-        (outside (S.state shelf.new) (K.state out.new) (P.state prompt.new)) result }
-{
-    let recipe = fetch_recipe(alloc, shelf, &words.recipe)?;
-    let (inputs, done) = run_named(alloc, shelf, &recipe, &words.stage)?;
-    talk(
-        alloc,
-        out,
-        prompt,
-        &Ready {
-            recipe,
-            inputs,
-            done,
-        },
-    )
 }
 
 /// Fetches a recipe's inputs, and runs the stages before STAGE.
@@ -112,7 +93,7 @@ fn talk<K: Sink, P: Prompt>(
     ready: &Ready,
 ) -> Result<Result<(), PutFail>, Stop>
     requires { IsReady ready.now }
-    ensures { (shelf : ShelfState) → PerformsTalk (needs_session ready.now.recipe ready.now.inputs ready.now.done (λ session. talks (talk reply_to session 65_536)))
+    ensures { (shelf : ShelfState) → PerformsTalk (needs_session ready.now.recipe ready.now.inputs ready.now.done (λ session. talks (talk reply_to session most_lines)))
         (outside shelf (K.state out.old) (P.state prompt.old)) (outside shelf (K.state out.new) (P.state prompt.new)) result }
 {
     let mut session = start_session(alloc, ready)?;

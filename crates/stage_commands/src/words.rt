@@ -1,7 +1,8 @@
 //! The arguments of the commands on one stage, one type for each set of them.
 
 ghost use Rattle.std.specs.Prelude.{◌≡◌, ◌≤◌, IsTrue, map};
-ghost use Rattle.stage_commands.specs.Inside.Words.{as_prefix, as_stage_word, cut_words, ends_words, left_words, named_left, named_stage, stage_words};
+ghost use Rattle.ddc_base.specs.Limits.{most_states};
+ghost use Rattle.stage_commands.specs.Inside.Words.{as_prefix, as_stage_word, cut_words, ends_words, left_words, named_left, named_stage, segment_words, stage_words};
 ghost use Rattle.stage_commands.specs.Names.{as_states, is_prefix};
 
 use crate::names::{is_prefix, states_of};
@@ -49,11 +50,11 @@ impl<'w> StageWord<'w> {
 
 /// PREFIX, with which the names of states begin: 1 to 250 bytes, none of them zero. Contracts see the bytes.
 #[derive(Drop)]
-pub(crate) struct Prefix<'w> {
+pub(crate) struct NamePrefix<'w> {
     text: &'w str,
 }
 
-impl<'w> Model for Prefix<'w> {
+impl<'w> Model for NamePrefix<'w> {
     ghost use Rattle.std.specs.Prelude.{List, ℕ, IsTrue};
     ghost use Rattle.stage_commands.specs.Names.{is_prefix};
 
@@ -64,13 +65,13 @@ impl<'w> Model for Prefix<'w> {
     ghost invariant = { λ word. IsTrue (is_prefix word.text.now) };
 }
 
-impl<'w> Prefix<'w> {
+impl<'w> NamePrefix<'w> {
     /// Reads a word as PREFIX; `None` for all other words.
-    pub(crate) fn read(word: &'w str) -> Option<Prefix<'w>>
+    pub(crate) fn read(word: &'w str) -> Option<NamePrefix<'w>>
         ensures { result ≡ as_prefix word.now }
     {
         if is_prefix(word) {
-            Some(Prefix { text: word })
+            Some(NamePrefix { text: word })
         } else {
             None
         }
@@ -93,12 +94,13 @@ pub(crate) struct StateCount {
 
 impl Model for StateCount {
     ghost use Rattle.std.specs.Prelude.{ℕ, ◌≤◌};
+    ghost use Rattle.ddc_base.specs.Limits.{most_states};
 
     ghost Value = { ℕ };
 
     ghost view = { λ states. states.count };
 
-    ghost invariant = { λ states. (1 ≤ states.count) × (states.count ≤ 1_000) };
+    ghost invariant = { λ states. (1 ≤ states.count) × (states.count ≤ most_states) };
 
     ghost inverse = { λ count. record { count = count } };
 }
@@ -116,10 +118,20 @@ impl StateCount {
     pub(crate) fn count(self) -> u32
         ensures value { result ≡ self }
         ensures some { 1 ≤ self }
-        ensures most { self ≤ 1_000 }
+        ensures most { self ≤ most_states }
     {
         self.count
     }
+}
+
+/// Reads the arguments `FROM TO` of `segment`; `None` for all others.
+pub(crate) fn segment_words<'w>(words: &[&'w str]) -> Option<(FileName<'w>, FileName<'w>)>
+    ensures { result ≡ segment_words (map (λ w. w.now) words.now) }
+{
+    let [from, to] = words else {
+        return None;
+    };
+    two_files(from, to)
 }
 
 /// The arguments of `step`: a recipe, and the name of one of its stages.
@@ -153,7 +165,7 @@ impl<'w> StageWords<'w> {
 /// The arguments of `left`: a stage of a recipe, and FILE and OUT.
 #[derive(Drop)]
 pub(crate) struct LeftWords<'w> {
-    pub place: StageWords<'w>,
+    pub target: StageWords<'w>,
     pub wanted: Wanted<'w>,
 }
 
@@ -176,9 +188,9 @@ impl<'w> LeftWords<'w> {
         let (recipe, out) = two_files(recipe, out)?;
         let stage = StageWord::read(stage)?;
         let file = GuestFile::read(file)?;
-        let place = StageWords { recipe, stage };
+        let target = StageWords { recipe, stage };
         let wanted = Wanted { file, out };
-        Some(LeftWords { place, wanted })
+        Some(LeftWords { target, wanted })
     }
 }
 
@@ -186,13 +198,13 @@ impl<'w> LeftWords<'w> {
 #[derive(Drop)]
 pub(crate) struct Spacing<'w> {
     pub every: StepCount,
-    pub prefix: Prefix<'w>,
+    pub prefix: NamePrefix<'w>,
 }
 
 /// The arguments of `cut`: a stage of a recipe, and EVERY and PREFIX.
 #[derive(Drop)]
 pub(crate) struct CutWords<'w> {
-    pub place: StageWords<'w>,
+    pub target: StageWords<'w>,
     pub spacing: Spacing<'w>,
 }
 
@@ -205,18 +217,18 @@ impl<'w> CutWords<'w> {
             return None;
         };
         let every = StepCount::read(every)?;
-        let place = StageWords::of(recipe, stage)?;
-        let prefix = Prefix::read(prefix)?;
+        let target = StageWords::of(recipe, stage)?;
+        let prefix = NamePrefix::read(prefix)?;
         let spacing = Spacing { every, prefix };
-        Some(CutWords { place, spacing })
+        Some(CutWords { target, spacing })
     }
 }
 
 /// The arguments of `ends`: a stage of a recipe, the beginning of its states' names, and their number.
 #[derive(Drop)]
 pub(crate) struct EndsWords<'w> {
-    pub place: StageWords<'w>,
-    pub prefix: Prefix<'w>,
+    pub target: StageWords<'w>,
+    pub prefix: NamePrefix<'w>,
     pub states: StateCount,
 }
 
@@ -229,10 +241,10 @@ impl<'w> EndsWords<'w> {
             return None;
         };
         let states = StateCount::read(count)?;
-        let place = StageWords::of(recipe, stage)?;
-        let prefix = Prefix::read(prefix)?;
+        let target = StageWords::of(recipe, stage)?;
+        let prefix = NamePrefix::read(prefix)?;
         Some(EndsWords {
-            place,
+            target,
             prefix,
             states,
         })

@@ -1,3 +1,3 @@
 pub mod Digits
 pub mod Written
-pub mod Standing
+pub mod Positions

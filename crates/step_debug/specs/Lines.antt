@@ -2,6 +2,7 @@
 use Rattle.std.specs.Prelude.{ℕ, ◌+◌, ◌-◌, ◌*◌, ◌^◌, ◌==◌, ◌&&◌, Option, None, Some, option_map, List, [], ◌∷◌, length, take, drop, bytes_eq, codes, nat_le, nat_lt, if◌then◌else◌}
 use Rattle.std.specs.List.{position}
 use Rattle.ddc_base.specs.Decimals.{as_decimal}
+use Rattle.ddc_base.specs.Limits.{most_steps}
 use Rattle.step_debug.specs.declared.command.SessionCommand.{SessionCommand}
 use Rattle.step_debug.specs.declared.command.SessionCommand.TheVariants.{Where, Step, Go, Back, Break, Regs, Mem, Quit, Unknown}
 
@@ -55,8 +56,8 @@ mem_of (Some (address, count)) = ranged (as_address address) (as_count 64 count)
 -- the command of a word and the rest of the line after the blank
 abbrev pub worded : List ℕ → List ℕ → SessionCommand
 worded word rest =
-    if bytes_eq word (codes "step") then numbered Step (as_count (2 ^ 48) rest)
-    else (if bytes_eq word (codes "back") then numbered Back (as_count (2 ^ 48) rest)
+    if bytes_eq word (codes "step") then numbered Step (as_count most_steps rest)
+    else (if bytes_eq word (codes "back") then numbered Back (as_count most_steps rest)
     else (if bytes_eq word (codes "break") then numbered Break (as_address rest)
     else (if bytes_eq word (codes "mem") then mem_of (cut rest)
     else Unknown)))

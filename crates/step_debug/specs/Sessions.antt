@@ -1,5 +1,6 @@
 -- A stepping session: the reply to each line, by the state of the program's run. docs/reference/step.md says the same for people.
-use Rattle.std.specs.Prelude.{◌≡◌, ℕ, ◌+◌, ◌-◌, ◌≤◌, ◌^◌, ◌⊎◌, Option, Some, None, Result, Ok, Err, List, [], min, nat_lt, if◌then◌else◌}
+use Rattle.std.specs.Prelude.{◌≡◌, ℕ, ◌+◌, ◌-◌, ◌≤◌, ◌⊎◌, Option, Some, None, Result, Ok, Err, List, [], min, nat_lt, if◌then◌else◌}
+use Rattle.ddc_base.specs.Limits.{most_steps}
 use Rattle.paged_mem.specs.Memory.{bytes_at}
 use Rattle.guest_run.specs.declared.guest.StartRefusal.{StartRefusal}
 use Rattle.guest_run.specs.Setting.{Setting}
@@ -44,7 +45,7 @@ pub record IsSession (session : SessionState) : Type 0 where
   pub fresh : start.steps ≡ 0
   pub reached : after start session.at.steps ≡ Some session.at
   pub within : session.at.steps ≤ session.limit
-  pub few : session.limit ≤ 2 ^ 48
+  pub few : session.limit ≤ most_steps
 
 -- ---- the replies, each with the session after it
 

@@ -5,10 +5,9 @@ ghost use Rattle.std.specs.List.{position};
 ghost use Rattle.step_debug.specs.Lines.{as_address, as_count, command_of, cut, digit_of, number_from, ranged, with_digit, worded};
 
 use crate::command::SessionCommand;
+use ddc_base::limits::MOST_STEPS;
 use ddc_base::read_decimal;
 
-/// The most steps that a line can request: 2^48.
-const MOST_STEPS: u64 = 281_474_976_710_656;
 /// The most bytes of memory that a line can request.
 const MOST_BYTES: u64 = 64;
 
@@ -77,14 +76,14 @@ fn ranged(at: Option<u64>, count: Option<u64>) -> SessionCommand
 fn cut(text: &[u8]) -> Option<(&[u8], &[u8])>
     ensures { option_map (λ cut. (cut.0.now, cut.1.now)) result ≡ cut text.now }
 {
-    match place_of_blank(text) {
+    match offset_of_blank(text) {
         Some(at) => Some((&text[..at], after(text, at))),
         None => None,
     }
 }
 
 /// The index of the first blank.
-fn place_of_blank(text: &[u8]) -> Option<usize>
+fn offset_of_blank(text: &[u8]) -> Option<usize>
     ensures value { result ≡ position (λ b. b == 32) text.now }
     ensures within { IfSome result (λ at. at < length text.now) }
 {

@@ -1,6 +1,7 @@
 //! A session.
 
-ghost use Rattle.std.specs.Prelude.{◌≡◌, ◌+◌, ◌≤◌, ◌^◌, IfOk, OnErr, Some};
+ghost use Rattle.std.specs.Prelude.{◌≡◌, ◌+◌, ◌≤◌, IfOk, OnErr, Some};
+ghost use Rattle.ddc_base.specs.Limits.{most_steps};
 ghost use Rattle.guest_run.specs.Run.{after};
 ghost use Rattle.guest_run.specs.State.{GuestState};
 ghost use Rattle.step_debug.specs.Lines.{command_of};
@@ -51,7 +52,7 @@ impl<'a> Session<'a> {
         setting: RunBox<'a>,
         limit: u64,
     ) -> Result<Session<'a>, StartRefusal>
-        requires { limit ≤ 2 ^ 48 }
+        requires { limit ≤ most_steps }
         ensures { StartsSession program.now setting.entry limit result }
     {
         match Guest::start(alloc, program, &setting) {
@@ -160,7 +161,7 @@ impl<'a> Session<'a> {
 
 /// The guest after `count` more steps, which are known not to end the run.
 fn repeated(mut guest: Guest<RunRam>, count: u64) -> Result<Guest<RunRam>, OutOfMemory>
-    requires few { guest.steps + count ≤ 2 ^ 48 }
+    requires few { guest.steps + count ≤ most_steps }
     requires goes { (last : GuestState) × (after guest count ≡ Some last) }
     ensures { IfOk result (λ new. after guest count ≡ Some new) }
 {

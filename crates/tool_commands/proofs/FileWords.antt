@@ -4,12 +4,13 @@ use Rattle.std.specs.Prelude.{bytes_eq}
 use Rattle.std.specs.List.{list_all, list_any}
 use Rattle.std.proofs.lemmas.Bool.{and_parts, leb-true, ne_eqb, or_parts}
 use Rattle.std.proofs.lemmas.List.Elements.{All-nil, All-push}
+use Rattle.ddc_base.specs.Limits.{most_files}
 use Rattle.mem_files.specs.Names.{begins_with_dot_slash, is_file_name, stripped}
 use Rattle.linux_calls.proofs.Texts.{has_zero, name_of_text}
 use Rattle.command_plan.specs.Lists.{IsListed, is_listed_byte, is_listed_word, listed_word}
 use Rattle.command_plan.proofs.Listing.{holds-listed, parts-of}
 use Rattle.tool_commands.specs.Inside.Placing.{AreApart, IsApart}
-use Rattle.tool_commands.specs.Scripts.{file_line, stands_for_another}
+use Rattle.tool_commands.specs.Scripts.{file_line, names_another}
 
 -- ---- a word
 
@@ -21,17 +22,17 @@ no-zero (byte ∷ bytes) is =
     ap (λ b. b || has_zero bytes) (ne_eqb byte 0 (λ zero. omega (arith, low, zero))) ∙ no-zero bytes parts.1
 
 -- a listed word that stands for a file names one
-pub file-named : (earlier : List (List ℕ)) (word : List ℕ) → is_listed_word word ≡ true → stands_for_another earlier word ≡ true → IsTrue (is_file_name (stripped word))
-file-named earlier word is stands =
+pub file-named : (earlier : List (List ℕ)) (word : List ℕ) → is_listed_word word ≡ true → names_another earlier word ≡ true → IsTrue (is_file_name (stripped word))
+file-named earlier word is other =
     let parts = parts-of word is in
     let short = parts.1 in
-    let some = leb-true 1 (length (stripped word)) (and_parts (nat_le 1 (length (stripped word))) (not (list_any (λ listed. bytes_eq (stripped listed) (stripped word)) earlier)) stands).0 in
+    let some = leb-true 1 (length (stripped word)) (and_parts (nat_le 1 (length (stripped word))) (not (list_any (λ listed. bytes_eq (stripped listed) (stripped word)) earlier)) other).0 in
     let named = name_of_text word (omega (arith, short)) (no-zero word parts.2) (λ none. omega (arith, some, none)) in
     (and_parts (is_file_name (stripped word)) (not (begins_with_dot_slash (stripped word))) named).0
 
-pub word-named : (earlier : List (List ℕ)) (line word : List ℕ) → Some word ≡ listed_word line → is_listed_word word ≡ true → stands_for_another earlier line ≡ true
+pub word-named : (earlier : List (List ℕ)) (line word : List ℕ) → Some word ≡ listed_word line → is_listed_word word ≡ true → names_another earlier line ≡ true
     → IsTrue (is_file_name (stripped word))
-word-named earlier line word is listed stands = file-named earlier word listed (subst (λ w. stands_for_another earlier w ≡ true) (by (is_listed_word line) is) stands) where
+word-named earlier line word is listed other = file-named earlier word listed (subst (λ w. names_another earlier w ≡ true) (by (is_listed_word line) is) other) where
   by : (b : Bool) → Some word ≡ (if b then Some line else None) → line ≡ word
   by true is = cc
   by false is = absurd cc
@@ -59,5 +60,5 @@ line-apart words line word apart is =
       by false some twice none here = absurd cc
 
 -- no two words of a list stand for one file
-pub listed-apart : (words : List (List ℕ)) → IsListed file_line 4096 words → AreApart words
-listed-apart words is = holds-listed file_line 4096 AreApart line-apart words tt is
+pub listed-apart : (words : List (List ℕ)) → IsListed file_line most_files words → AreApart words
+listed-apart words is = holds-listed file_line most_files AreApart line-apart words tt is

@@ -4,11 +4,11 @@ pub mod Arguments
 pub mod Making
 pub mod ListedFiles
 pub mod ReadScripts
-mod FilePlaces
+mod PlacedFiles
 mod FileWords
 mod ScriptEnds
-mod ScriptPlaces
-mod PlaceSteps
+mod NumberedCommands
+mod OffsetSteps
 mod TokenPlacing
 mod Spots
 mod Worded

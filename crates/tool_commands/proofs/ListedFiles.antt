@@ -5,6 +5,7 @@ use Rattle.std.specs.List.{list_all, slice_split}
 use Rattle.std.proofs.lemmas.Bool.{and_parts, leb-true, ltb-true}
 use Rattle.std.proofs.lemmas.List.Elements.{All-cons, All-head, All-nil, All-push, All-tail}
 use Rattle.std.proofs.lemmas.List.Sums.{sum_by-cons}
+use Rattle.ddc_base.specs.Limits.{most_content, most_files, most_total}
 use Rattle.mem_files.specs.Calls.{placed}
 use Rattle.mem_files.specs.Names.{is_file_name, stripped}
 use Rattle.mem_files.specs.Outputs.{IsContent}
@@ -14,8 +15,8 @@ use Rattle.kaem_script.specs.FilesListed.{FilesListed, IsList, no_files}
 use Rattle.kaem_script.proofs.Names.{list-more}
 use Rattle.command_plan.specs.Lists.{is_line_feed, is_listed_byte, is_listed_word, list_of, listed_after, with_line_item}
 use Rattle.command_plan.proofs.Listing.{holds-listed, parts-of}
-use Rattle.tool_commands.specs.Scripts.{and_file, and_files, file_line, stands_for_another}
-use Rattle.tool_commands.proofs.FilePlaces.{HasRoom, placed-so, room-at-first, room-following}
+use Rattle.tool_commands.specs.Scripts.{and_file, and_files, file_line, names_another}
+use Rattle.tool_commands.proofs.PlacedFiles.{HasBudget, placed-so, budget-at-first, budget-following}
 use Rattle.tool_commands.proofs.FileWords.{file-named, listed-apart}
 
 -- ---- no text lists more than so many
@@ -28,12 +29,12 @@ module _ {A : Type 0} (form : List A → List ℕ → Option A) (most : ℕ) whe
   few-last true earlier items few is = few-items earlier items few is
   few-last false earlier items few is = absurd cc
 
-  few-line : (room : Bool) (found : Option A) (earlier items : List A) (rest : A → Result (List A) ℕ) → nat_lt (length earlier) most ≡ room
+  few-line : (budget : Bool) (found : Option A) (earlier items : List A) (rest : A → Result (List A) ℕ) → nat_lt (length earlier) most ≡ budget
       → ((item : A) → length (earlier ++ item ∷ []) ≤ most → rest item ≡ Ok items → length items ≤ most)
-      → cond room (with_line_item found (length earlier + 1) rest) (Err (length earlier + 1)) ≡ Ok items → length items ≤ most
-  few-line true (Some item) earlier items rest room later is = later item (omega (arith, ltb-true (length earlier) most room, length-append earlier (item ∷ []))) is
-  few-line true None earlier items rest room later is = absurd cc
-  few-line false found earlier items rest room later is = absurd cc
+      → cond budget (with_line_item found (length earlier + 1) rest) (Err (length earlier + 1)) ≡ Ok items → length items ≤ most
+  few-line true (Some item) earlier items rest budget later is = later item (omega (arith, ltb-true (length earlier) most budget, length-append earlier (item ∷ []))) is
+  few-line true None earlier items rest budget later is = absurd cc
+  few-line false found earlier items rest budget later is = absurd cc
 
   few-after : (lines : List (List ℕ)) (earlier items : List A) → length earlier ≤ most → listed_after form most earlier lines ≡ Ok items → length items ≤ most
   few-after [] earlier items few is = few-items earlier items few is
@@ -62,41 +63,41 @@ bytes-of (byte ∷ word) is =
 
 word-more : (earlier : List (List ℕ)) (line word : List ℕ) → All IsFileWord earlier → file_line earlier line ≡ Some word → All IsFileWord (earlier ++ word ∷ [])
 unfolding file_line
-word-more earlier line word are is = by (is_listed_word line && stands_for_another earlier line) refl is
+word-more earlier line word are is = by (is_listed_word line && names_another earlier line) refl is
   where
-    by : (b : Bool) → (is_listed_word line && stands_for_another earlier line) ≡ b → cond b (Some line) None ≡ Some word → All IsFileWord (earlier ++ word ∷ [])
+    by : (b : Bool) → (is_listed_word line && names_another earlier line) ≡ b → cond b (Some line) None ≡ Some word → All IsFileWord (earlier ++ word ∷ [])
     by false reads here = absurd cc
     by true reads here =
         let same : line ≡ word = cc in
-        let parts = and_parts (is_listed_word line) (stands_for_another earlier line) reads in
+        let parts = and_parts (is_listed_word line) (names_another earlier line) reads in
         let good : IsFileWord line = record { bytes = bytes-of line (parts-of line parts.0).2; named = file-named earlier line parts.0 parts.1 } in
         All-push IsFileWord earlier word are (subst IsFileWord same good)
 
 -- ---- the files
 
-files-listed : (words contents : List (List ℕ)) (room : ℕ) (listed : FilesListed) → IsList listed → IsSound listed.world → HasRoom listed room words → All IsFileWord words
-    → length contents ≡ length words → All IsContent contents → sum_by length contents ≤ room
+files-listed : (words contents : List (List ℕ)) (budget : ℕ) (listed : FilesListed) → IsList listed → IsSound listed.world → HasBudget listed budget words → All IsFileWord words
+    → length contents ≡ length words → All IsContent contents → sum_by length contents ≤ budget
     → IsList (and_files listed words contents) × IsSound (and_files listed words contents).world
-files-listed [] contents room listed list sound has are count each fits = (list, sound)
-files-listed (word ∷ words) [] room listed list sound has are count each fits = absurd (omega (arith, count))
-files-listed (word ∷ words) (content ∷ contents) room listed list sound has are count each fits =
+files-listed [] contents budget listed list sound has are count each fits = (list, sound)
+files-listed (word ∷ words) [] budget listed list sound has are count each fits = absurd (omega (arith, count))
+files-listed (word ∷ words) (content ∷ contents) budget listed list sound has are count each fits =
     let w = listed.world in
     let sum = sum_by-cons length content contents in
     let good = All-head IsFileWord word words are in
     let is = All-head IsContent content contents each in
-    let small : length content ≤ 268_435_456 = is.small in
-    let within : length content ≤ room = omega (arith, fits, sum) in
-    let placing = placed-so listed room word words content has good.named small within in
-    files-listed words contents (room - length content) (and_file listed word content)
+    let small : length content ≤ most_content = is.small in
+    let within : length content ≤ budget = omega (arith, fits, sum) in
+    let placing = placed-so listed budget word words content has good.named small within in
+    files-listed words contents (budget - length content) (and_file listed word content)
     (list-more listed.names w (placed w word content).1 word content list (λ i. (placing i, (placed w word content).1)))
     (placed-sound w word content sound good.bytes is.bytes)
-    (room-following listed room word words content has good.named small within)
+    (budget-following listed budget word words content has good.named small within)
     (All-tail IsFileWord word words are) (omega (arith, count)) (All-tail IsContent content contents each) (omega (arith, fits, sum))
 
 -- of a list that reads, with a content for each of its words, within the limits
-pub listed-sound : (text : List ℕ) (words contents : List (List ℕ)) → list_of file_line 4_096 text ≡ Ok words → length contents ≡ length words → All IsContent contents
-    → sum_by length contents ≤ 536_870_912 → IsList (and_files no_files words contents) × IsSound (and_files no_files words contents).world
+pub listed-sound : (text : List ℕ) (words contents : List (List ℕ)) → list_of file_line most_files text ≡ Ok words → length contents ≡ length words → All IsContent contents
+    → sum_by length contents ≤ most_total → IsList (and_files no_files words contents) × IsSound (and_files no_files words contents).world
 listed-sound text words contents is count each fits =
     let none : IsList no_files = record { named = λ k d less. absurd (omega arith); there = λ k d less. absurd (omega arith); few = omega arith } in
-    files-listed words contents 536_870_912 no_files none first-sound (room-at-first words (listed-apart words (text, is)) (few-listed file_line 4_096 text words is))
-    (holds-listed file_line 4_096 (All IsFileWord) word-more words (All-nil IsFileWord) (text, is)) count each fits
+    files-listed words contents most_total no_files none first-sound (budget-at-first words (listed-apart words (text, is)) (few-listed file_line most_files text words is))
+    (holds-listed file_line most_files (All IsFileWord) word-more words (All-nil IsFileWord) (text, is)) count each fits

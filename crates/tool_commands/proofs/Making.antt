@@ -32,12 +32,12 @@ module _ (language : HexLanguage) (base : ℕ) (source : List ℕ) (shelf : Shel
 
   pub has_none : (why : HexRefusal) (answer : Answer) → Links (Err why) (value_of language base source) → Refuses why (Ok answer)
       → Obtains (needs_value language base source) shelf shelf (Err (stop.Answered answer))
-  has_none refusal.OutOfMemory answer is said = absurd cc
-  has_none why answer is said = step.refuses (value_of language base source) refuse (λ v. v) shelf why answer (sym is) said.by_result
+  has_none refusal.OutOfMemory answer is answered = absurd cc
+  has_none why answer is answered = step.refuses (value_of language base source) refuse (λ v. v) shelf why answer (sym is) answered.by_result
 
   pub value_wants : (why : HexRefusal) (ending : Stop) → Refuses why (Err ending) → Obtains (needs_value language base source) shelf shelf (Err ending)
-  value_wants refusal.OutOfMemory ending said = step.wants_as (needs_value language base source) shelf ending cc
-  value_wants why ending said = step.wants_as (needs_value language base source) shelf ending said.by_result
+  value_wants refusal.OutOfMemory ending answered = step.wants_as (needs_value language base source) shelf ending cc
+  value_wants why ending answered = step.wants_as (needs_value language base source) shelf ending answered.by_result
 
 module _ (source : List ℕ) (shelf : ShelfState) where
   abbrev refuse_m1 : M1Refusal → Plan
@@ -48,9 +48,9 @@ module _ (source : List ℕ) (shelf : ShelfState) where
 
   pub has_no_items : (why : M1Refusal) (answer : Answer) → Expands (expansion_of source) (Err why) → RefusesM1 why (Ok answer)
       → Obtains (needs_items source) shelf shelf (Err (stop.Answered answer))
-  has_no_items m1.OutOfMemory answer is said = absurd cc
-  has_no_items why answer is said = step.refuses (expansion_of source) refuse_m1 items_text shelf why answer is said.by_result
+  has_no_items m1.OutOfMemory answer is answered = absurd cc
+  has_no_items why answer is answered = step.refuses (expansion_of source) refuse_m1 items_text shelf why answer is answered.by_result
 
   pub items_want : (why : M1Refusal) (ending : Stop) → RefusesM1 why (Err ending) → Obtains (needs_items source) shelf shelf (Err ending)
-  items_want m1.OutOfMemory ending said = step.wants_as (needs_items source) shelf ending cc
-  items_want why ending said = step.wants_as (needs_items source) shelf ending said.by_result
+  items_want m1.OutOfMemory ending answered = step.wants_as (needs_items source) shelf ending cc
+  items_want why ending answered = step.wants_as (needs_items source) shelf ending answered.by_result

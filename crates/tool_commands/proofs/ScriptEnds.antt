@@ -33,10 +33,10 @@ use Rattle.tool_commands.specs.ScriptTexts.{command_failed_line, commands_true_l
 
 -- ---- a script that was read
 
-pub script-said : (text : List ℕ) (said : ScriptContents) → commands_of text ≡ Ok said.commands → said.digest.0 ≡ sha256 text → script_of text ≡ Ok said
+pub script-parsed : (text : List ℕ) (parsed : ScriptContents) → commands_of text ≡ Ok parsed.commands → parsed.digest.0 ≡ sha256 text → script_of text ≡ Ok parsed
 unfolding script_of
-script-said text said is digest =
-    ap (script_by_text text) is ∙ λ i. Ok (record { digest = record { 0 = sym digest i }; commands = said.commands })
+script-parsed text parsed is digest =
+    ap (script_by_text text) is ∙ λ i. Ok (record { digest = record { 0 = sym digest i }; commands = parsed.commands })
 
 pub script-fault : (text : List ℕ) (fault : ScriptFault) (at : ℕ) → commands_of text ≡ Err (fault, at) → script_of text ≡ Err (fault, at)
 unfolding script_of
@@ -51,12 +51,12 @@ refuse_script fault = answers ScriptRefused (script_line fault.0 fault.1)
 pub where_stopped : {A : Type 0} (plan : Plan) (found meant : ScriptResult A) (stop : ScriptStop) (shelf : ShelfState) (result : Result Answer Stop) → found ≡ meant
     → ((number : ℕ) (why : CommandCause) (step : ℕ) → meant ≡ Err (number, why, step) → plan ≡ answers RunFailed (command_failed_line number why step))
     → AnswersScript found (Err stop) → AnswersStop stop result → Performs plan shelf shelf result
-where_stopped plan found meant (Failed number why step) shelf result same is answered said =
+where_stopped plan found meant (Failed number why step) shelf result same is answered parsed =
     let P : Plan → Type 0 = λ it. Performs it shelf shelf result in
-    subst P (sym (is number why step (sym same ∙ answered))) (says (answers RunFailed (command_failed_line number why step)) shelf result said)
-where_stopped plan found meant (OutOfMemory number) shelf result same is answered said =
+    subst P (sym (is number why step (sym same ∙ answered))) (says (answers RunFailed (command_failed_line number why step)) shelf result parsed)
+where_stopped plan found meant (OutOfMemory number) shelf result same is answered parsed =
     let P : Result Answer Stop → Type 0 = λ it. Performs plan shelf shelf it in
-    subst P (sym said) (wants_memory plan shelf)
+    subst P (sym parsed) (wants_memory plan shelf)
 
 -- ---- the end of an audit
 
@@ -80,16 +80,16 @@ saved-so file content commands made answer old new result text_is same says_so p
     subst (λ plan. Performs plan old new result)
     ((λ i. sets file (text_is i) (sym says_so.by_result i)) ∙ ap (λ cs. sets file (script_report_text made) (answers Yes (done_line (length cs) (steps_in cs)))) same) p
 
-module _ (file : List ℕ) (said : ScriptContents) (listed : FilesListed) where
-  pub all-ran : (folds : Folded) (made : ScriptReport) → script_ended said listed folds ≡ Ok made → folded_plan file said listed folds ≡ saved file made
+module _ (file : List ℕ) (parsed : ScriptContents) (listed : FilesListed) where
+  pub all-ran : (folds : Folded) (made : ScriptReport) → script_ended parsed listed folds ≡ Ok made → folded_plan file parsed listed folds ≡ saved file made
   unfolding script_report
   all-ran (RanAll ran world) made is =
-      let same : script_report said listed ran world ≡ made = cc in
-      (λ i. sets file (script_report_text (script_report said listed ran world)) (answers Yes (done_line (sym (length-map ran command_line) i) (sym (same-steps ran) i)))) ∙ ap (saved file) same
+      let same : script_report parsed listed ran world ≡ made = cc in
+      (λ i. sets file (script_report_text (script_report parsed listed ran world)) (answers Yes (done_line (sym (length-map ran command_line) i) (sym (same-steps ran) i)))) ∙ ap (saved file) same
   all-ran (Stopped number why step) made is = absurd cc
 
-  pub one-stopped : (folds : Folded) (number : ℕ) (why : CommandCause) (step : ℕ) → script_ended said listed folds ≡ Err (number, why, step)
-      → folded_plan file said listed folds ≡ answers RunFailed (command_failed_line number why step)
+  pub one-stopped : (folds : Folded) (number : ℕ) (why : CommandCause) (step : ℕ) → script_ended parsed listed folds ≡ Err (number, why, step)
+      → folded_plan file parsed listed folds ≡ answers RunFailed (command_failed_line number why step)
   one-stopped (RanAll ran world) number why step is = absurd cc
   one-stopped (Stopped at cause last) number why step is =
       let stop_is : (at, cause, last) ≡ (number, why, step) = cc in
@@ -106,5 +106,5 @@ pub a-fault : (commands : ℕ) (fault : Option (ScriptPart × ℕ)) (part : Scri
 a-fault commands None part place is = absurd cc
 a-fault commands (Some (first, at)) part place is =
     let part_is : first ≡ part = cc in
-    let place_is : at ≡ place = cc in
-    λ i. answers Refuted (script_refuted_line (part_is i) (place_is i))
+    let offset_is : at ≡ place = cc in
+    λ i. answers Refuted (script_refuted_line (part_is i) (offset_is i))

@@ -2,16 +2,17 @@
 use Rattle.std.proofs.Common.{◌≡◌, ℕ, suc, ◌+◌, ◌<◌, ◌≤◌, Bool, true, false, cond, nat_lt, List, [], ◌++◌, length, length-append, append_assoc, Option, None, Some, Result, Ok, Err, refl, sym, ap, ◌∙◌, ◌⊎◌, inl, inr, arith}
 use Rattle.std.proofs.lemmas.Bool.{cond-true, cond-false, cases_lt}
 use Rattle.std.proofs.lemmas.Bool.Decides.{nat_tests}
+use Rattle.ddc_base.specs.Limits.{most_items, most_source}
 use Rattle.hex_langs.specs.declared.items.item.Item.{Item}
 use Rattle.hex_langs.specs.declared.items.reader.HexRefusal.{HexRefusal}
 use Rattle.hex_langs.specs.declared.items.reader.HexRefusal.TheVariants.{TooLong}
 use Rattle.hex_langs.specs.declared.items.token.Dialect.{Dialect}
 use Rattle.hex_langs.specs.declared.items.token.TokenFault.{TokenFault}
 use Rattle.hex_langs.specs.declared.items.words.Open.{Open}
-use Rattle.hex_langs.specs.Items.Reading.{after_step, answer, Ending, Faulted, Faulty, Formed, formed, Halted, items_of, limited_items, NoToken, reading, Reading, Then, Whole, with_front}
+use Rattle.hex_langs.specs.Items.Reading.{after_step, answer, Ending, Faulted, Faulty, Formed, formed, Halted, items_of, limited_items, NoToken, reading, Reading, Then, Whole, with_prefix}
 use Rattle.hex_langs.specs.Items.Words.{Step, taken}
-use Rattle.tool_commands.specs.Places.{first_offset, item_place, place_of_item, place_within}
-use Rattle.tool_commands.specs.TokenPlaces.{IsFormedAt, IsPlaceOf}
+use Rattle.tool_commands.specs.Offsets.{first_offset, item_offset, offset_of_item, offset_within}
+use Rattle.tool_commands.specs.TokenOffsets.{IsFormedAt, IsOffsetOf}
 
 below : (a b : ℕ) → a < b → nat_lt a b ≡ true
 below a b less = grind (arith, nat_tests)
@@ -20,14 +21,14 @@ beyond : (a b : ℕ) → b ≤ a → nat_lt a b ≡ false
 beyond a b more = grind (arith, nat_tests)
 
 -- the items before are put in front
-fronts : (front before : List Item) (rest : Formed TokenFault) → with_front front (with_front before rest) ≡ with_front (front ++ before) rest
-fronts front before rest = ap (λ (items : List Item). record { items = items; end = rest.end }) (sym (append_assoc front before rest.items))
+prefixes : (prefix before : List Item) (rest : Formed TokenFault) → with_prefix prefix (with_prefix before rest) ≡ with_prefix (prefix ++ before) rest
+prefixes prefix before rest = ap (λ (items : List Item). record { items = items; end = rest.end }) (sym (append_assoc prefix before rest.items))
 
 abbrev Placed : ℕ → ℕ → Option Open → Reading TokenFault → Type 0
-Placed index done word tokens = (place : ℕ) × (item_place index done word tokens ≡ Some place) × IsFormedAt index done word tokens place
+Placed index done word tokens = (offset : ℕ) × (item_offset index done word tokens ≡ Some offset) × IsFormedAt index done word tokens offset
 
 placed : (tokens : Reading TokenFault) (index done : ℕ) (word : Option Open) → done ≤ index → index < done + length (formed word tokens).items
-    → done + length (formed word tokens).items ≤ 33554432 → Placed index done word tokens
+    → done + length (formed word tokens).items ≤ most_items → Placed index done word tokens
 placed NoToken index done word low high few = absurd (omega arith)
 placed (Faulty why at) index done word low high few = absurd (omega arith)
 placed (Then at token later) index done word low high few = by (λ more next. placed later index more next) (taken word at token) refl high few
@@ -47,12 +48,12 @@ placed (Then at token later) index done word low high few = by (λ more next. pl
       takes = takes;
       low = omega arith;
       high = omega arith;
-      place_is = refl;
+      offset_is = refl;
     }
 
-    on : (step : List Item × Option Open) (place : ℕ) → taken word at token ≡ Ok step → IsFormedAt index (done + length step.0) step.1 later place
-        → IsFormedAt index done word (Then at token later) place
-    on step place takes found = record {
+    on : (step : List Item × Option Open) (offset : ℕ) → taken word at token ≡ Ok step → IsFormedAt index (done + length step.0) step.1 later offset
+        → IsFormedAt index done word (Then at token later) offset
+    on step offset takes found = record {
       count = suc found.count;
       at = found.at;
       token = found.token;
@@ -60,33 +61,33 @@ placed (Then at token later) index done word low high few = by (λ more next. pl
       read = found.read;
       before = step.0 ++ found.before;
       word = found.word;
-      reads = ap (λ (s : Step). after_step s (λ next. formed next later)) takes ∙ ap (with_front step.0) found.reads
-          ∙ fronts step.0 found.before (formed found.word (Then found.at found.token found.later));
+      reads = ap (λ (s : Step). after_step s (λ next. formed next later)) takes ∙ ap (with_prefix step.0) found.reads
+          ∙ prefixes step.0 found.before (formed found.word (Then found.at found.token found.later));
       made = found.made;
       next = found.next;
       takes = found.takes;
       low = omega (arith, found.low, length-append step.0 found.before);
       high = omega (arith, found.high, length-append step.0 found.before);
-      place_is = found.place_is;
+      offset_is = found.offset_is;
     }
 
-    by : ((more : ℕ) (next : Option Open) → more ≤ index → index < more + length (formed next later).items → more + length (formed next later).items ≤ 33554432
+    by : ((more : ℕ) (next : Option Open) → more ≤ index → index < more + length (formed next later).items → more + length (formed next later).items ≤ most_items
         → Placed index more next later) → (s : Step) → taken word at token ≡ s → index < done + length (after_step s (λ next. formed next later)).items
-        → done + length (after_step s (λ next. formed next later)).items ≤ 33554432
-        → (place : ℕ) × (place_within index done (first_offset word at) s (λ more next. item_place index more next later) ≡ Some place)
-        × IsFormedAt index done word (Then at token later) place
+        → done + length (after_step s (λ next. formed next later)).items ≤ most_items
+        → (offset : ℕ) × (offset_within index done (first_offset word at) s (λ more next. item_offset index more next later) ≡ Some offset)
+        × IsFormedAt index done word (Then at token later) offset
     by rest (Err why) takes high few = absurd (omega arith)
     by rest (Ok step) takes high few = at_index (cases_lt index (done + length step.0))
       where
         whole : length (step.0 ++ (formed step.1 later).items) ≡ length step.0 + length (formed step.1 later).items
         whole = length-append step.0 (formed step.1 later).items
 
-        fits : nat_lt 33554432 (done + length step.0) ≡ false
-        fits = beyond 33554432 (done + length step.0) (omega (arith, few, whole))
+        fits : nat_lt most_items (done + length step.0) ≡ false
+        fits = beyond most_items (done + length step.0) (omega (arith, few, whole))
 
         at_index : (index < done + length step.0) ⊎ (done + length step.0 ≤ index)
-            → (place : ℕ) × (place_within index done (first_offset word at) (Ok step) (λ more next. item_place index more next later) ≡ Some place)
-            × IsFormedAt index done word (Then at token later) place
+            → (offset : ℕ) × (offset_within index done (first_offset word at) (Ok step) (λ more next. item_offset index more next later) ≡ Some offset)
+            × IsFormedAt index done word (Then at token later) offset
         at_index (inl within) = (
           first_offset word at,
           cond-false _ _ _ fits ∙ cond-true _ _ _ (below index (done + length step.0) within),
@@ -100,22 +101,22 @@ placed (Then at token later) index done word low high few = by (λ more next. pl
             )
 
 -- what is read whole is what is formed, and not too much
-read-whole : (formed : Formed TokenFault) (items : List Item) → limited_items formed ≡ Ok items → (length formed.items ≤ 33554432) × (formed.items ≡ items)
-read-whole formed items is = by (cases_lt 33554432 (length formed.items))
+read-whole : (formed : Formed TokenFault) (items : List Item) → limited_items formed ≡ Ok items → (length formed.items ≤ most_items) × (formed.items ≡ items)
+read-whole formed items is = by (cases_lt most_items (length formed.items))
   where
     ended : (end : Ending TokenFault) → ◌≡◌ {A = Result (List Item) HexRefusal} (answer formed.items end) (Ok items) → formed.items ≡ items
     ended Whole is = cc
     ended (Halted why) is = absurd cc
     ended (Faulted why at) is = absurd cc
 
-    by : (33554432 < length formed.items) ⊎ (length formed.items ≤ 33554432) → (length formed.items ≤ 33554432) × (formed.items ≡ items)
-    by (inl many) = let no = sym (cond-true _ _ _ (below 33554432 (length formed.items) many)) ∙ is in absurd cc
-    by (inr few) = (few, ended formed.end (sym (cond-false _ _ _ (beyond 33554432 (length formed.items) few)) ∙ is))
+    by : (most_items < length formed.items) ⊎ (length formed.items ≤ most_items) → (length formed.items ≤ most_items) × (formed.items ≡ items)
+    by (inl many) = let no = sym (cond-true _ _ _ (below most_items (length formed.items) many)) ∙ is in absurd cc
+    by (inr few) = (few, ended formed.end (sym (cond-false _ _ _ (beyond most_items (length formed.items) few)) ∙ is))
 
-pub stands_at_its_token : (dialect : Dialect) (source : List ℕ) (items : List Item) (index : ℕ) → items_of dialect source ≡ Ok items → index < length items
-    → (place : ℕ) × (place_of_item dialect source index ≡ Some place) × IsPlaceOf dialect source index place
-unfolding items_of place_of_item
-stands_at_its_token dialect source items index is within = by (nat_lt 67108864 (length source)) is
+pub is_at_its_token : (dialect : Dialect) (source : List ℕ) (items : List Item) (index : ℕ) → items_of dialect source ≡ Ok items → index < length items
+    → (offset : ℕ) × (offset_of_item dialect source index ≡ Some offset) × IsOffsetOf dialect source index offset
+unfolding items_of offset_of_item
+is_at_its_token dialect source items index is within = by (nat_lt most_source (length source)) is
   where
     tokens : Reading TokenFault
     tokens = reading dialect 0 0 source

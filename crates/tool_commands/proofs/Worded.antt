@@ -9,15 +9,26 @@ use Rattle.command_plan.specs.Plan.{Plan}
 use Rattle.command_plan.specs.Words.{are_three_files, are_two_files, as_steps, is_file_word, or_usage, usage}
 use Rattle.tool_commands.specs.Asm.{as_base, asm_files, asm_plan}
 use Rattle.tool_commands.specs.Hex0.{hex0_files, hex0_plan}
-use Rattle.tool_commands.specs.Inside.Words.{asm_of, asm_words, hex0_of_names, hex0_words, kaem_of, kaem_words, run_of, run_words, script_words, script_words_of}
+use Rattle.tool_commands.specs.Inside.Words.{asm_of, asm_words, binary_word, hex0_of_names, hex0_words, kaem_of, kaem_words, run_of, run_words, script_words, script_words_of}
 use Rattle.tool_commands.specs.Kaem.{kaem_files, kaem_plan}
 use Rattle.tool_commands.specs.KaemVerify.{kaem_verify_files, kaem_verify_plan}
+use Rattle.tool_commands.specs.List.{list_file, list_plan}
 use Rattle.tool_commands.specs.RunProgram.{run_file, run_plan}
 use Rattle.tool_commands.specs.declared.words.AsmWords.{AsmWords}
 use Rattle.tool_commands.specs.declared.words.Hex0Words.{Hex0Words}
 use Rattle.tool_commands.specs.declared.words.KaemWords.{KaemWords}
 use Rattle.tool_commands.specs.declared.words.RunWords.{RunWords}
 use Rattle.tool_commands.specs.declared.words.ScriptWords.{ScriptWords}
+
+-- ---- list
+
+listed : (binary : List ℕ) (named : Bool) → (if named then list_file binary else usage) ≡ or_usage (if named then Some binary else None) list_file
+listed binary true = refl
+listed binary false = refl
+
+pub lists : (words : List (List ℕ)) → list_plan words ≡ or_usage (binary_word words) list_file
+lists (binary ∷ []) = listed binary (is_file_word binary)
+lists _ = refl
 
 -- ---- hex0
 

@@ -10,6 +10,7 @@ use Rattle.hex_langs.specs.Writer.Writing.{items_text}
 use Rattle.ddc_base.specs.declared.languages.Language.{Language}
 use Rattle.ddc_base.specs.declared.languages.Language.TheVariants.{Hex0, Hex1, Hex2, M1}
 use Rattle.ddc_base.specs.Languages.Words.{language_named}
+use Rattle.ddc_base.specs.Limits.{most_address, most_content}
 use Rattle.m1_lang.specs.Expansion.{expansion_of}
 use Rattle.m1_lang.specs.Refusals.{m1_refusal_number, m1_refusal_place}
 use Rattle.command_plan.specs.declared.status.Status.TheVariants.{Yes, CheckFailed}
@@ -24,10 +25,10 @@ made_line size = line (codes "made" ∷ decimal size ∷ [])
 unfoldable pub refused_line : ℕ → ℕ → List ℕ
 refused_line number place = line (codes "refused" ∷ decimal number ∷ decimal place ∷ [])
 
--- a base, from 0 to 2 ^ 37, both included
+-- a base, from 0 to `most_address`, both included
 abbrev pub within_bases : Option ℕ → Option ℕ
 within_bases None = None
-within_bases (Some base) = if nat_le base (2 ^ 37) then Some base else None
+within_bases (Some base) = if nat_le base most_address then Some base else None
 
 unfoldable pub as_base : List ℕ → Option ℕ
 as_base word = within_bases (as_decimal word)
@@ -53,7 +54,7 @@ needs_made M1 base source = needs_items source
 -- loads the source, of at most 268,435,456 bytes, and saves its value
 unfoldable pub asm_files : Language → ℕ → List ℕ → List ℕ → Plan
 asm_files language base source out =
-    needs source 268_435_456 (λ text.
+    needs source most_content (λ text.
     needs_made language base text (λ made.
     sets out made (answers Yes (made_line (length made)))))
 

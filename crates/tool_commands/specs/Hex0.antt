@@ -1,6 +1,7 @@
 -- `hex0 SOURCE BINARY`: whether the binary is the hex0 value of the source. docs/reference/command-line.md says the same for people.
 use Rattle.std.specs.Prelude.{ℕ, ◌&&◌, Option, Some, None, List, [], ◌∷◌, length, if◌then◌else◌}
 use Rattle.ddc_base.specs.Difference.{first_difference}
+use Rattle.ddc_base.specs.Limits.{most_content}
 use Rattle.hex_langs.specs.Hex0.{hex0_of}
 use Rattle.command_plan.specs.declared.status.Status.TheVariants.{Yes, Differs}
 use Rattle.command_plan.specs.Texts.{equal_line, differs_line}
@@ -15,8 +16,8 @@ comparison first second (Some offset) = answers Differs (differs_line offset (le
 -- loads the source and then the binary, each of at most 268,435,456 bytes, and compares the source's value with the binary
 unfoldable pub hex0_files : List ℕ → List ℕ → Plan
 hex0_files source binary =
-    needs source 268_435_456 (λ text.
-    needs binary 268_435_456 (λ bytes.
+    needs source most_content (λ text.
+    needs binary most_content (λ bytes.
     comparison (hex0_of text) bytes (first_difference (hex0_of text) bytes)))
 
 -- the plan for the words after `hex0`

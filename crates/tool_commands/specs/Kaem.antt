@@ -18,15 +18,15 @@ steps_of_commands ran = sum_by (λ (one : Ran). one.steps) ran
 
 -- saves the report if all commands ran; answers with the command that stopped the script otherwise
 abbrev pub folded_plan : List ℕ → ScriptContents → FilesListed → Folded → Plan
-folded_plan report said listed (RanAll ran world) =
-    sets report (script_report_text (script_report said listed ran world)) (answers Yes (done_line (length ran) (steps_of_commands ran)))
-folded_plan report said listed (Stopped number cause step) = answers RunFailed (command_failed_line number cause step)
+folded_plan report parsed listed (RanAll ran world) =
+    sets report (script_report_text (script_report parsed listed ran world)) (answers Yes (done_line (length ran) (steps_of_commands ran)))
+folded_plan report parsed listed (Stopped number cause step) = answers RunFailed (command_failed_line number cause step)
 
 -- loads the script, the list and the files, and then runs the commands
 unfoldable pub kaem_files : List ℕ → List ℕ → List ℕ → ℕ → Plan
 kaem_files script list report most =
-    needs_script_and_list script list report (λ said words.
-    needs_files words (λ listed. folded_plan report said listed (folded most listed.world said.commands)))
+    needs_script_and_list script list report (λ parsed words.
+    needs_files words (λ listed. folded_plan report parsed listed (folded most listed.world parsed.commands)))
 
 -- the plan for the words after `kaem`
 abbrev pub kaem_plan : List (List ℕ) → Plan

@@ -3,6 +3,7 @@
 use Rattle.std.specs.Prelude.{ℕ, ◌-◌, nat_le, ◌&&◌, if◌then◌else◌, Option, None, Some, Ok, Err, List, [], ◌∷◌, codes, decimal, length, slice_get, take}
 use Rattle.ddc_base.specs.Decimals.{as_decimal}
 use Rattle.ddc_base.specs.Lines.{line}
+use Rattle.ddc_base.specs.Limits.{most_commands, most_files}
 use Rattle.kaem_script.specs.declared.cause.CommandCause.{CommandCause}
 use Rattle.kaem_script.specs.declared.cause.CommandCause.TheVariants as cause
 use Rattle.kaem_script.specs.declared.leaving.CommandLeft.{CommandLeft}
@@ -57,7 +58,7 @@ command_left_plan number file out (Err stop) = answers RunFailed (command_failed
 -- the number of a command, from 1 to 4,096, both included
 abbrev pub within_commands : Option ℕ → Option ℕ
 within_commands None = None
-within_commands (Some number) = if nat_le 1 number && nat_le number 4_096 then Some number else None
+within_commands (Some number) = if nat_le 1 number && nat_le number most_commands then Some number else None
 
 unfoldable pub as_command_number : List ℕ → Option ℕ
 as_command_number word = within_commands (as_decimal word)
@@ -77,13 +78,13 @@ kaem_left_words _ = None
 -- commands up to that one
 abbrev pub kaem_left_files : KaemLeftWords → Plan
 kaem_left_files words =
-    needs_script words.script (λ said.
-    or_usage (slice_get said.commands (words.command - 1)) (λ command.
-    needs_list file_line 4_096 words.list (λ names.
+    needs_script words.script (λ parsed.
+    or_usage (slice_get parsed.commands (words.command - 1)) (λ command.
+    needs_list file_line most_files words.list (λ names.
     needs_unlisted names words.wanted.out (λ _.
     needs_files names (λ listed.
     command_left_plan words.command words.wanted.file words.wanted.out
-    (left_of_command words.steps listed.world (take (words.command - 1) said.commands) command))))))
+    (left_of_command words.steps listed.world (take (words.command - 1) parsed.commands) command))))))
 
 -- the plan for the words after `kaem-left`
 abbrev pub kaem_left_plan : List (List ℕ) → Plan

@@ -9,8 +9,8 @@ pub mod ScriptTexts
 pub mod Kaem
 pub mod KaemVerify
 pub mod KaemLeft
-pub mod Places
+pub mod Offsets
 pub mod ShownWords
-pub mod TokenPlaces
+pub mod TokenOffsets
 pub mod Spots
 pub mod Where

@@ -4,6 +4,7 @@ use Rattle.std.specs.Prelude.{ℕ, ◌+◌, List, [], ◌∷◌, ◌++◌, Optio
 use Rattle.byteorder.specs.Endian.{little_number}
 use Rattle.hex.specs.Hex.{encode_lower}
 use Rattle.ddc_base.specs.Lines.{line}
+use Rattle.ddc_base.specs.Limits.{most_listed}
 use Rattle.rv64_decode.specs.declared.Inst.{Inst}
 use Rattle.rv64_decode.specs.Decode.{decoded}
 use Rattle.rv64_decode.specs.Text.{text}
@@ -33,7 +34,7 @@ listing offset rest = rest_line offset rest
 
 -- loads the binary, of at most 16,777,216 bytes, and lists it
 unfoldable pub list_file : List ℕ → Plan
-list_file binary = needs binary 16_777_216 (λ bytes. answers Yes (listing 0 bytes))
+list_file binary = needs binary most_listed (λ bytes. answers Yes (listing 0 bytes))
 
 -- the plan for the words after `list`
 abbrev pub list_plan : List (List ℕ) → Plan

@@ -6,6 +6,7 @@ use Rattle.std.specs.FinMap as map
 use Rattle.hex.specs.Hex.{encode_lower}
 use Rattle.sha2.specs.Sha256.{sha256}
 use Rattle.ddc_base.specs.Lines.{line}
+use Rattle.ddc_base.specs.Limits.{most_content, usual_heap}
 use Rattle.mem_files.specs.World.{World}
 use Rattle.mem_files.specs.Outputs.{FirstStream, left, out}
 use Rattle.guest_run.specs.Setting.{Setting, is_text}
@@ -72,12 +73,12 @@ start_plan (Err why) most = answers RunFailed (failed_line (refusal_text why) 0)
 
 -- an execution context with these arguments, no environment, no files, and a heap of at most 536,870,912 bytes
 abbrev pub setting_of : List (List ℕ) → Setting
-setting_of args = record { args = args; env = []; files = map.empty; heap = 536_870_912 }
+setting_of args = record { args = args; env = []; files = map.empty; heap = usual_heap }
 
 -- loads the program, of at most 268,435,456 bytes, and runs it with its own name as its first argument
 unfoldable pub run_file : List ℕ → List (List ℕ) → ℕ → Plan
 run_file program args most =
-    needs program 268_435_456 (λ bytes. start_plan (start_of bytes (setting_of (program ∷ args))) most)
+    needs program most_content (λ bytes. start_plan (start_of bytes (setting_of (program ∷ args))) most)
 
 -- a program's file name, and arguments without a zero byte
 abbrev pub are_run_words : List ℕ → List (List ℕ) → Bool

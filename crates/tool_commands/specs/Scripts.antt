@@ -2,6 +2,7 @@
 -- docs/reference/kaem.md say the same for people. Digests are SHA-256 (FIPS 180-4).
 use Rattle.std.specs.Prelude.{ℕ, Bool, ◌&&◌, not, nat_le, bytes_eq, if◌then◌else◌, Option, None, Some, Result, Ok, Err, List, [], ◌∷◌, ◌++◌, length}
 use Rattle.std.specs.List.{list_any}
+use Rattle.ddc_base.specs.Limits.{most_content, most_files, most_script, most_total}
 use Rattle.sha2.specs.Sha256.{sha256}
 use Rattle.mem_files.specs.Calls.{placed}
 use Rattle.mem_files.specs.Names.{stripped}
@@ -28,18 +29,18 @@ script_of text = script_by_text text (commands_of text)
 -- loads the script, of at most 1,048,576 bytes, and reads it
 abbrev pub needs_script : List ℕ → (ScriptContents → Plan) → Plan
 needs_script file next =
-    needs file 1_048_576 (λ text. unless_refused (script_of text) (λ fault. answers ScriptRefused (script_line fault.0 fault.1)) next)
+    needs file most_script (λ text. unless_refused (script_of text) (λ fault. answers ScriptRefused (script_line fault.0 fault.1)) next)
 
 -- ---- LIST
 
 -- a word names a file by its text without leading `./`, and none of the earlier words names the same file
-abbrev pub stands_for_another : List (List ℕ) → List ℕ → Bool
-stands_for_another earlier word =
+abbrev pub names_another : List (List ℕ) → List ℕ → Bool
+names_another earlier word =
     nat_le 1 (length (stripped word)) && not (list_any (λ listed. bytes_eq (stripped listed) (stripped word)) earlier)
 
 -- a line is one word that names another file than each line before it
 unfoldable pub file_line : List (List ℕ) → List ℕ → Option (List ℕ)
-file_line earlier line = if is_listed_word line && stands_for_another earlier line then Some line else None
+file_line earlier line = if is_listed_word line && names_another earlier line then Some line else None
 
 -- a usage answer where a listed word names the same file as REPORT
 unfoldable pub needs_unlisted : List (List ℕ) → List ℕ → (Unit {0} → Plan) → Plan
@@ -58,10 +59,10 @@ and_files listed _ _ = listed
 
 -- loads the files of the listed words in order, each of at most 268,435,456 bytes and all together of at most 536,870,912
 unfoldable pub needs_files : List (List ℕ) → (FilesListed → Plan) → Plan
-needs_files words next = needs_all 268_435_456 536_870_912 words (λ contents. next (and_files no_files words contents))
+needs_files words next = needs_all most_content most_total words (λ contents. next (and_files no_files words contents))
 
 -- ---- what is loaded before the files: SCRIPT, then LIST, of at most 4,096 lines; REPORT must not name a listed file
 
 abbrev pub needs_script_and_list : List ℕ → List ℕ → List ℕ → (ScriptContents → List (List ℕ) → Plan) → Plan
 needs_script_and_list script list report next =
-    needs_script script (λ said. needs_list file_line 4_096 list (λ words. needs_unlisted words report (λ _. next said words)))
+    needs_script script (λ parsed. needs_list file_line most_files list (λ words. needs_unlisted words report (λ _. next parsed words)))

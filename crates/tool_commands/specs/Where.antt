@@ -6,15 +6,16 @@ use Rattle.ddc_base.specs.Languages.Words.{language_named}
 use Rattle.ddc_base.specs.Lines.{line}
 use Rattle.ddc_base.specs.declared.languages.Language.{Language}
 use Rattle.ddc_base.specs.declared.languages.Language.TheVariants.{Hex0, Hex1, Hex2, M1}
+use Rattle.ddc_base.specs.Limits.{most_content}
 use Rattle.hex_langs.specs.declared.items.token.Dialect.{Dialect}
 use Rattle.hex_langs.specs.declared.items.token.Dialect.TheVariants as dialect
 use Rattle.command_plan.specs.declared.status.Status.TheVariants.{Refuted, Yes}
 use Rattle.command_plan.specs.Plan.{Plan, answers, needs}
 use Rattle.command_plan.specs.Words.{as_file_name, or_usage}
-use Rattle.tool_commands.specs.declared.places.Spot.{Spot}
-use Rattle.tool_commands.specs.declared.refusal_place.WhereWords.{WhereWords}
+use Rattle.tool_commands.specs.declared.offsets.Spot.{Spot}
+use Rattle.tool_commands.specs.declared.refusal_offset.WhereWords.{WhereWords}
 use Rattle.tool_commands.specs.ShownWords.{shown_word}
-use Rattle.tool_commands.specs.Places.{front_word, place_of_item, spot_after}
+use Rattle.tool_commands.specs.Offsets.{leading_word, offset_of_item, spot_after}
 
 -- ---- the byte offset of a refusal
 
@@ -22,19 +23,19 @@ use Rattle.tool_commands.specs.Places.{front_word, place_of_item, spot_after}
 abbrev pub is_of_item : ℕ → Bool
 is_of_item number = nat_le 4 number && nat_le number 6
 
-abbrev pub linked_place : Dialect → List ℕ → ℕ → ℕ → Option ℕ
-linked_place dialect text number place = if is_of_item number then place_of_item dialect text place else Some place
+abbrev pub linked_offset : Dialect → List ℕ → ℕ → ℕ → Option ℕ
+linked_offset dialect text number place = if is_of_item number then offset_of_item dialect text place else Some place
 
 -- the byte offset of a refusal in a text, by its number, at most 6, and its place
-abbrev pub place_in : Language → List ℕ → ℕ → ℕ → Option ℕ
-place_in Hex0 text number place = Some place
-place_in Hex1 text number place = linked_place dialect.Hex1 text number place
-place_in Hex2 text number place = linked_place dialect.Hex2 text number place
-place_in M1 text number place = Some place
+abbrev pub offset_in : Language → List ℕ → ℕ → ℕ → Option ℕ
+offset_in Hex0 text number place = Some place
+offset_in Hex1 text number place = linked_offset dialect.Hex1 text number place
+offset_in Hex2 text number place = linked_offset dialect.Hex2 text number place
+offset_in M1 text number place = Some place
 
 -- a text that is too long, number 7, is refused at no byte offset
-abbrev pub refusal_place : Language → List ℕ → ℕ → ℕ → Option ℕ
-refusal_place language text number place = if number == 7 then None else place_in language text number place
+abbrev pub refusal_offset : Language → List ℕ → ℕ → ℕ → Option ℕ
+refusal_offset language text number place = if number == 7 then None else offset_in language text number place
 
 -- ---- the answer
 
@@ -48,7 +49,7 @@ no_place_line = line (codes "no" ∷ codes "place" ∷ [])
 abbrev pub located : List ℕ → Option ℕ → Plan
 located text None = answers Refuted no_place_line
 located text (Some at) =
-    if nat_lt at (length text) then answers Yes (spot_line (spot_after (take at text)) (front_word (drop at text))) else answers Refuted no_place_line
+    if nat_lt at (length text) then answers Yes (spot_line (spot_after (take at text)) (leading_word (drop at text))) else answers Refuted no_place_line
 
 -- ---- the arguments
 
@@ -68,7 +69,7 @@ where_words _ = None
 
 -- loads the source, of at most 268,435,456 bytes, and answers with the place of the refusal
 abbrev pub where_file : WhereWords → Plan
-where_file words = needs words.source 268_435_456 (λ text. located text (refusal_place words.language text words.number words.place))
+where_file words = needs words.source most_content (λ text. located text (refusal_offset words.language text words.number words.place))
 
 -- the plan for the words after `where`
 abbrev pub where_plan : List (List ℕ) → Plan

@@ -1,12 +1,13 @@
 //! `asm LANG BASE SOURCE OUT`: saves the value of a source.
 
-ghost use Rattle.std.specs.Prelude.{◌≡◌, ◌≤◌, ◌^◌, IfOk, map};
+ghost use Rattle.std.specs.Prelude.{◌≡◌, ◌≤◌, IfOk, map};
 ghost use Rattle.ddc_base.specs.Outside.{ShelfState};
+ghost use Rattle.ddc_base.specs.Limits.{most_address};
 ghost use Rattle.command_plan.specs.declared.status.Status.TheVariants.{CheckFailed};
 ghost use Rattle.command_plan.specs.Performs.{Performs};
 ghost use Rattle.command_plan.specs.Plan.{answers};
 ghost use Rattle.command_plan.specs.Steps.{Obtains, Says};
-ghost use Rattle.tool_commands.specs.Asm.{made_line, refused_line, needs_items, needs_made, needs_value, asm_files, asm_plan};
+ghost use Rattle.tool_commands.specs.Asm.{made_line, refused_line, needs_items, needs_made, needs_value, asm_plan};
 ghost use Rattle.tool_commands.specs.Inside.Refusing.{Refuses, RefusesM1};
 
 use crate::words::AsmWords;
@@ -25,13 +26,6 @@ pub fn perform<S: Shelf>(alloc: Global, shelf: &mut S, words: &[&str]) -> Result
     let Some(words) = AsmWords::read(words) else {
         return usage(alloc);
     };
-    asm(alloc, shelf, &words)
-}
-
-/// Runs `asm` on a language, a base and two files.
-fn asm<S: Shelf>(alloc: Global, shelf: &mut S, words: &AsmWords<'_>) -> Result<Answer, Stop>
-    ensures { Performs (asm_files words.now.language words.now.base words.now.source words.now.out) (S.state shelf.old) (S.state shelf.new) result }
-{
     let text = fetch_file(alloc, shelf, &words.source)?;
     let made = make(alloc, words.language, words.base.address(), text.as_slice())?;
     let answer = Answer {
@@ -43,7 +37,7 @@ fn asm<S: Shelf>(alloc: Global, shelf: &mut S, words: &AsmWords<'_>) -> Result<A
 
 /// The value of a source in a language at a base; in M1, the text of its items. Stops with 7 where the language refuses the source.
 fn make(alloc: Global, language: Language, base: u64, source: &[u8]) -> Result<Bytes, Stop>
-    requires { base ≤ 2 ^ 37 }
+    requires { base ≤ most_address }
     ensures { (shelf : ShelfState) → Obtains (needs_made language base source.now) shelf shelf result }
 {
     match language {
@@ -56,7 +50,7 @@ fn make(alloc: Global, language: Language, base: u64, source: &[u8]) -> Result<B
 
 /// The value of a hex0, hex1 or hex2 source at a base. Stops with 7 where the language refuses the source.
 fn make_value(alloc: Global, language: HexLanguage, base: u64, source: &[u8]) -> Result<Bytes, Stop>
-    requires { base ≤ 2 ^ 37 }
+    requires { base ≤ most_address }
     ensures { (shelf : ShelfState) → Obtains (needs_value language base source.now) shelf shelf result }
 {
     match value(alloc, language, base, source) {

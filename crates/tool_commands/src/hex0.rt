@@ -5,7 +5,7 @@ ghost use Rattle.ddc_base.specs.Difference as difference;
 ghost use Rattle.command_plan.specs.Performs.{Performs};
 ghost use Rattle.command_plan.specs.Steps.{Says};
 ghost use Rattle.hex_langs.specs.Hex0.{hex0_of};
-ghost use Rattle.tool_commands.specs.Hex0.{comparison, hex0_files, hex0_plan};
+ghost use Rattle.tool_commands.specs.Hex0.{comparison, hex0_plan};
 
 use crate::words::Hex0Words;
 use command_plan::{Answer, Status, Stop, fetch_file, texts, usage};
@@ -19,13 +19,6 @@ pub fn perform<S: Shelf>(alloc: Global, shelf: &mut S, words: &[&str]) -> Result
     let Some(words) = Hex0Words::read(words) else {
         return usage(alloc);
     };
-    hex0(alloc, shelf, &words)
-}
-
-/// Runs `hex0` on two files.
-fn hex0<S: Shelf>(alloc: Global, shelf: &mut S, words: &Hex0Words<'_>) -> Result<Answer, Stop>
-    ensures { Performs (hex0_files words.now.source words.now.binary) (S.state shelf.old) (S.state shelf.new) result }
-{
     let text = fetch_file(alloc, shelf, &words.source)?;
     let bytes = fetch_file(alloc, shelf, &words.binary)?;
     compare(alloc, text.as_slice(), bytes.as_slice())

@@ -1,17 +1,15 @@
 //! `kaem SCRIPT LIST REPORT STEPS`: runs the commands of a script on listed files, and saves the script's report.
 
 ghost use Rattle.std.specs.Prelude.{◌≡◌, ◌≤◌, All, length, map, sum_by};
+ghost use Rattle.ddc_base.specs.Limits.{most_commands};
 ghost use Rattle.report.specs.declared.script.types.CommandLine.{CommandLine as ReportLine};
 ghost use Rattle.report.specs.Script.Reports.{IsCommandLine, IsScriptReport, script_report_text};
-ghost use Rattle.kaem_script.specs.Fold.{folded};
 ghost use Rattle.command_plan.specs.declared.status.Status.TheVariants.{Yes};
 ghost use Rattle.command_plan.specs.Performs.{Performs};
 ghost use Rattle.command_plan.specs.Plan.{answers, sets};
 ghost use Rattle.command_plan.specs.Steps.{Says};
-ghost use Rattle.tool_commands.specs.Inside.Listing.{needs_unlisted_words};
 ghost use Rattle.tool_commands.specs.Inside.Refusing.{AnswersStop};
-ghost use Rattle.tool_commands.specs.Kaem.{folded_plan, kaem_files, kaem_plan};
-ghost use Rattle.tool_commands.specs.Scripts.{needs_files};
+ghost use Rattle.tool_commands.specs.Kaem.{kaem_plan};
 ghost use Rattle.tool_commands.specs.ScriptTexts.{done_line};
 
 use crate::script_texts;
@@ -19,7 +17,7 @@ use crate::scripts::{fetch_files, fetch_script, fetch_unlisted};
 use crate::words::KaemWords;
 use command_plan::{Answer, FileName, Status, Stop, keep, usage};
 use ddc_base::Shelf;
-use kaem_script::{FileList, Script, ScriptStop};
+use kaem_script::ScriptStop;
 use report::script::{CommandLine, ScriptReport};
 use std::alloc::Global;
 
@@ -30,45 +28,10 @@ pub fn perform<S: Shelf>(alloc: Global, shelf: &mut S, words: &[&str]) -> Result
     let Some(words) = KaemWords::read(words) else {
         return usage(alloc);
     };
-    kaem(alloc, shelf, &words)
-}
-
-/// Runs `kaem` on three files and a number of steps.
-fn kaem<S: Shelf>(alloc: Global, shelf: &mut S, words: &KaemWords<'_>) -> Result<Answer, Stop>
-    ensures { Performs (kaem_files words.now.script words.now.list words.now.report words.now.steps) (S.state shelf.old) (S.state shelf.new) result }
-{
     let script = fetch_script(alloc, shelf, &words.script)?;
-    run_listed(alloc, shelf, &script, words)
-}
-
-/// Runs a script on the files of LIST. The script is borrowed, so that the caller frees it.
-fn run_listed<S: Shelf>(
-    alloc: Global,
-    shelf: &mut S,
-    script: &Script,
-    words: &KaemWords<'_>,
-) -> Result<Answer, Stop>
-    ensures { Performs (needs_unlisted_words words.now.list words.now.report (λ names. needs_files names (λ listed.
-        folded_plan words.now.report script.now listed (folded words.now.steps listed.world script.now.commands))))
-        (S.state shelf.old) (S.state shelf.new) result }
-{
     let names = fetch_unlisted(alloc, shelf, &words.list, &words.report)?;
     let files = fetch_files(alloc, shelf, &names)?;
-    run(alloc, shelf, script, &files, words)
-}
-
-/// Runs the commands of a script on its files.
-fn run<S: Shelf>(
-    alloc: Global,
-    shelf: &mut S,
-    script: &Script,
-    files: &FileList,
-    words: &KaemWords<'_>,
-) -> Result<Answer, Stop>
-    ensures { Performs (folded_plan words.now.report script.now files.now (folded words.now.steps files.now.world script.now.commands))
-        (S.state shelf.old) (S.state shelf.new) result }
-{
-    match kaem_script::audit(alloc, script, files, words.steps.count()) {
+    match kaem_script::audit(alloc, &script, &files, words.steps.count()) {
         Ok(made) => save(alloc, shelf, &words.report, &made),
         Err(stop) => stopped(alloc, stop),
     }
@@ -93,7 +56,7 @@ fn save<S: Shelf>(
 
 /// The answer where all commands ran: their number and their steps together.
 fn done(alloc: Global, commands: &[CommandLine]) -> Result<Answer, Stop>
-    requires few { length commands.now ≤ 4096 }
+    requires few { length commands.now ≤ most_commands }
     requires each { All IsCommandLine commands.now }
     ensures { Says (answers Yes (done_line (length commands.now) (sum_by (λ (c : ReportLine). c.steps) commands.now))) result }
 {
@@ -105,7 +68,7 @@ fn done(alloc: Global, commands: &[CommandLine]) -> Result<Answer, Stop>
 
 /// The steps of all commands together.
 fn steps_in_all(commands: &[CommandLine]) -> u64
-    requires few { length commands.now ≤ 4096 }
+    requires few { length commands.now ≤ most_commands }
     requires each { All IsCommandLine commands.now }
     ensures { result ≡ sum_by (λ (c : ReportLine). c.steps) commands.now }
 {

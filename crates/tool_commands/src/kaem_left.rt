@@ -1,14 +1,9 @@
 //! `kaem-left SCRIPT LIST STEPS COMMAND FILE OUT`: runs the commands of a script up to one of them, however it ends, and saves what it left
 //! at FILE.
 
-ghost use Rattle.std.specs.Prelude.{◌≡◌, ◌-◌, ◌≤◌, map, slice_get, take};
-ghost use Rattle.kaem_script.specs.Kept.{AreCommands, IsCommand};
-ghost use Rattle.kaem_script.specs.Leaving.{left_of_command};
+ghost use Rattle.std.specs.Prelude.{◌≡◌, map};
 ghost use Rattle.command_plan.specs.Performs.{Performs};
-ghost use Rattle.command_plan.specs.Words.{or_usage};
-ghost use Rattle.tool_commands.specs.Inside.Listing.{needs_unlisted_words};
-ghost use Rattle.tool_commands.specs.KaemLeft.{command_absent_status, kaem_left_files, kaem_left_plan, command_left_plan, command_left_status, command_saved_left};
-ghost use Rattle.tool_commands.specs.Scripts.{needs_files};
+ghost use Rattle.tool_commands.specs.KaemLeft.{command_absent_status, kaem_left_plan, command_left_status, command_saved_left};
 
 use crate::guest_file::bytes_left_at;
 use crate::kaem::stopped;
@@ -17,7 +12,7 @@ use crate::scripts::{fetch_files, fetch_script, fetch_unlisted};
 use crate::words::KaemLeftWords;
 use command_plan::{Answer, Status, Stop, keep, usage};
 use ddc_base::Shelf;
-use kaem_script::{Command, CommandCause, CommandLeft, Script};
+use kaem_script::{CommandCause, CommandLeft};
 use std::alloc::Global;
 
 /// `kaem-left SCRIPT LIST STEPS COMMAND FILE OUT`: saves what COMMAND left at FILE. Statuses 0, 2, 6, 10, 11, 13, 15, 16.
@@ -27,60 +22,18 @@ pub fn perform<S: Shelf>(alloc: Global, shelf: &mut S, words: &[&str]) -> Result
     let Some(words) = KaemLeftWords::read(words) else {
         return usage(alloc);
     };
-    kaem_left(alloc, shelf, &words)
-}
-
-/// Runs `kaem-left` on its words.
-fn kaem_left<S: Shelf>(
-    alloc: Global,
-    shelf: &mut S,
-    words: &KaemLeftWords<'_>,
-) -> Result<Answer, Stop>
-    ensures { Performs (kaem_left_files words.now) (S.state shelf.old) (S.state shelf.new) result }
-{
     let script = fetch_script(alloc, shelf, &words.script)?;
-    find(alloc, shelf, &script, words)
-}
-
-/// Finds COMMAND in a script and continues with it; a usage answer where the script has no such command.
-fn find<S: Shelf>(
-    alloc: Global,
-    shelf: &mut S,
-    script: &Script,
-    words: &KaemLeftWords<'_>,
-) -> Result<Answer, Stop>
-    ensures { Performs (or_usage (slice_get script.now.commands (words.now.command - 1)) (λ command.
-        needs_unlisted_words words.now.list words.now.wanted.out (λ names. needs_files names (λ listed.
-        command_left_plan words.now.command words.now.wanted.file words.now.wanted.out
-        (left_of_command words.now.steps listed.world (take (words.now.command - 1) script.now.commands) command)))))
-        (S.state shelf.old) (S.state shelf.new) result }
-{
     let commands = script.commands();
     let earlier = words.command.number() as usize - 1;
-    match commands.get(earlier) {
-        Some(command) => run(alloc, shelf, &commands[..earlier], command, words),
-        None => usage(alloc),
-    }
-}
-
-/// Runs the command after the earlier ones, on the listed files.
-fn run<S: Shelf>(
-    alloc: Global,
-    shelf: &mut S,
-    earlier: &[Command],
-    command: &Command,
-    words: &KaemLeftWords<'_>,
-) -> Result<Answer, Stop>
-    requires earlier { AreCommands earlier.now }
-    requires command { IsCommand command.now }
-    ensures { Performs (needs_unlisted_words words.now.list words.now.wanted.out (λ names. needs_files names (λ listed.
-        command_left_plan words.now.command words.now.wanted.file words.now.wanted.out (left_of_command words.now.steps listed.world earlier.now command.now))))
-        (S.state shelf.old) (S.state shelf.new) result }
-{
+    let command = match commands.get(earlier) {
+        Some(command) => command,
+        None => return usage(alloc),
+    };
     let names = fetch_unlisted(alloc, shelf, &words.list, &words.wanted.out)?;
     let files = fetch_files(alloc, shelf, &names)?;
-    match kaem_script::left(alloc, earlier, command, &files, words.steps.count()) {
-        Ok(left) => save(alloc, shelf, &left, words),
+    let before = &commands[..earlier];
+    match kaem_script::left(alloc, before, command, &files, words.steps.count()) {
+        Ok(left) => save(alloc, shelf, &left, &words),
         Err(stop) => stopped(alloc, stop),
     }
 }

@@ -8,37 +8,24 @@ ghost use Rattle.command_plan.specs.Performs.{Performs};
 ghost use Rattle.command_plan.specs.Steps.{Says};
 ghost use Rattle.command_plan.specs.Plan.{answers};
 ghost use Rattle.command_plan.specs.Causes.Texts.{hex_word};
-ghost use Rattle.tool_commands.specs.List.{instruction_text, word_line, rest_line, listing, list_file, list_plan};
+ghost use Rattle.tool_commands.specs.List.{instruction_text, word_line, rest_line, listing, list_plan};
 
+use crate::words::binary_word;
 use byteorder::{BigEndian, ByteOrder, LittleEndian};
-use command_plan::{Answer, FileName, Status, Stop, fetch, usage};
+use command_plan::{Answer, Status, Stop, fetch, usage};
+use ddc_base::limits::MOST_LISTED;
 use ddc_base::{Bytes, OutOfMemory, Shelf};
 use rv64_decode::{decode, print};
 use std::alloc::Global;
 
-/// The most bytes of a file that can be listed.
-const LIST_LIMIT: u64 = 16_777_216;
-
 /// `list BINARY`: lists the words of BINARY. Statuses 0, 2, 10, 11, 13.
-#[tactic(auto, using(command_plan::proofs::Performing::performing))]
 pub fn perform<S: Shelf>(alloc: Global, shelf: &mut S, words: &[&str]) -> Result<Answer, Stop>
     ensures { Performs (list_plan (map (λ w. w.now) words.now)) (S.state shelf.old) (S.state shelf.new) result }
 {
-    let [binary] = words else {
+    let Some(binary) = binary_word(words) else {
         return usage(alloc);
     };
-    let Some(binary) = FileName::read(binary) else {
-        return usage(alloc);
-    };
-    list(alloc, shelf, &binary)
-}
-
-/// Runs `list` on a file.
-#[tactic(auto, using(command_plan::proofs::Performing::performing), unfolding(crate::specs::List::list_file))]
-fn list<S: Shelf>(alloc: Global, shelf: &mut S, binary: &FileName<'_>) -> Result<Answer, Stop>
-    ensures { Performs (list_file binary.now) (S.state shelf.old) (S.state shelf.new) result }
-{
-    let bytes = fetch(alloc, shelf, binary, LIST_LIMIT)?;
+    let bytes = fetch(alloc, shelf, &binary, MOST_LISTED)?;
     listed(alloc, bytes.as_slice())
 }
 

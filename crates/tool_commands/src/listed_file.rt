@@ -3,7 +3,7 @@
 ghost use Rattle.std.specs.Prelude.{◌≡◌, IsTrue, bytes_eq};
 ghost use Rattle.std.specs.List.{list_any};
 ghost use Rattle.mem_files.specs.Names.{is_file_name, stripped};
-ghost use Rattle.tool_commands.specs.Scripts.{stands_for_another};
+ghost use Rattle.tool_commands.specs.Scripts.{names_another};
 
 use command_plan::lists::Listed;
 use command_plan::{FileName, ListedWord};
@@ -40,7 +40,7 @@ impl Listed for FileLine {
         earlier: &[FileLine],
         line: &[u8],
     ) -> Result<Option<FileLine>, OutOfMemory> {
-        if !stands_for_another(earlier, line) {
+        if !names_another(earlier, line) {
             return Ok(None);
         }
         match ListedWord::read(alloc, line)? {
@@ -71,8 +71,8 @@ impl FileLine {
 }
 
 /// Whether a word names a file, and none of the earlier words names the same one.
-fn stands_for_another(earlier: &[FileLine], word: &[u8]) -> bool
-    ensures { result ≡ stands_for_another earlier.now word.now }
+fn names_another(earlier: &[FileLine], word: &[u8]) -> bool
+    ensures { result ≡ names_another earlier.now word.now }
 {
     let name = strip(word);
     !name.is_empty() && !is_named(earlier, name)
@@ -82,11 +82,11 @@ fn stands_for_another(earlier: &[FileLine], word: &[u8]) -> bool
 fn is_named(words: &[FileLine], name: &[u8]) -> bool
     ensures { result ≡ list_any (λ word. bytes_eq (stripped word) name.now) words.now }
 {
-    words.iter().any(|word| stands_for(word, name))
+    words.iter().any(|word| denotes(word, name))
 }
 
 /// Whether a word names the file of this name.
-fn stands_for(word: &FileLine, name: &[u8]) -> bool
+fn denotes(word: &FileLine, name: &[u8]) -> bool
     ensures { result ≡ bytes_eq (stripped word.now) name.now }
 {
     strip(word.as_str().as_bytes()) == name

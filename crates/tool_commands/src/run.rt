@@ -1,23 +1,22 @@
 //! `run PROGRAM STEPS ARG..`: runs a program within so many steps, and prints how it ended and what it left.
 
-ghost use Rattle.std.specs.Prelude.{◌≡◌, ◌≤◌, ◌<◌, ◌+◌, ◌^◌, ◌∷◌, IfOk, map};
+ghost use Rattle.std.specs.Prelude.{◌≡◌, ◌≤◌, ◌<◌, ◌+◌, ◌∷◌, IfOk, map};
+ghost use Rattle.ddc_base.specs.Limits.{most_steps};
 ghost use Rattle.guest_run.specs.Run.{first_end};
 ghost use Rattle.guest_run.specs.Start.{start_of};
 ghost use Rattle.command_plan.specs.Performs.{Performs};
 ghost use Rattle.command_plan.specs.Steps.{Says};
 ghost use Rattle.command_plan.specs.Plan.{answers};
-ghost use Rattle.tool_commands.specs.RunProgram.{setting_of, exited_text, end_plan, start_plan, status_of, run_file, run_plan};
+ghost use Rattle.tool_commands.specs.RunProgram.{setting_of, exited_text, end_plan, start_plan, status_of, run_plan};
 
 use crate::run_texts;
 use crate::words::{Args, RunWords};
 use command_plan::{Answer, FileName, Status, Stop, fetch_file, usage};
+use ddc_base::limits::USUAL_HEAP;
 use ddc_base::{OutOfMemory, Shelf};
 use guest_run::{Guest, RunBox, RunEnd, RunRam, StartRefusal};
 use mem_files::Files;
 use std::alloc::Global;
-
-/// The most bytes of a program's heap.
-const HEAP: u64 = 536_870_912;
 
 /// `run PROGRAM STEPS ARG..`: runs a program. Statuses 0, 2, 6, 10, 11, 13.
 pub fn perform<S: Shelf>(alloc: Global, shelf: &mut S, words: &[&str]) -> Result<Answer, Stop>
@@ -26,30 +25,15 @@ pub fn perform<S: Shelf>(alloc: Global, shelf: &mut S, words: &[&str]) -> Result
     let Some(words) = RunWords::read(words) else {
         return usage(alloc);
     };
-    run(alloc, shelf, &words)
-}
-
-/// Runs `run` on a program, its arguments and a number of steps.
-#[tactic(auto, using(command_plan::proofs::Performing::performing), unfolding(crate::specs::RunProgram::run_file))]
-fn run<S: Shelf>(alloc: Global, shelf: &mut S, words: &RunWords<'_>) -> Result<Answer, Stop>
-    ensures { Performs (run_file words.now.program words.now.args words.now.steps) (S.state shelf.old) (S.state shelf.new) result }
-{
-    let bytes = fetch_file(alloc, shelf, &words.program)?;
-    start(alloc, bytes.as_slice(), words)
-}
-
-/// Starts a program with its name and the arguments, and runs it for at most `words.steps` steps.
-fn start(alloc: Global, program: &[u8], words: &RunWords<'_>) -> Result<Answer, Stop>
-    ensures { Says (start_plan (start_of program.now (setting_of (words.now.program ∷ words.now.args))) words.now.steps) result }
-{
+    let program = fetch_file(alloc, shelf, &words.program)?;
     let setting = box_of(alloc, &words.program, &words.args)?;
-    start_in(alloc, program, &setting, words.steps.count())
+    start(alloc, program.as_slice(), &setting, words.steps.count())
 }
 
 /// Starts a program in an execution context, and runs it for at most `most` steps, from 1 to 2^48.
-fn start_in(alloc: Global, program: &[u8], setting: &RunBox, most: u64) -> Result<Answer, Stop>
+fn start(alloc: Global, program: &[u8], setting: &RunBox, most: u64) -> Result<Answer, Stop>
     requires some { 1 ≤ most }
-    requires few { most ≤ 2 ^ 48 }
+    requires few { most ≤ most_steps }
     ensures { Says (start_plan (start_of program.now setting.now) most) result }
 {
     match Guest::<RunRam>::start(alloc, program, setting) {
@@ -71,7 +55,7 @@ fn box_of<'a>(
     ensures { IfOk result (λ given. given ≡ setting_of (name.now ∷ args.now)) }
 {
     let words = args.words();
-    let mut given = RunBox::new(alloc, HEAP);
+    let mut given = RunBox::new(alloc, USUAL_HEAP);
     given.push_arg(name.text().as_bytes())?;
     for arg in words {
         given.push_arg(arg.as_bytes())?;
@@ -82,15 +66,15 @@ fn box_of<'a>(
 /// Runs a started program for at most `most` more steps, at least 1.
 fn run_guest(alloc: Global, guest: &mut Guest<RunRam>, most: u64) -> Result<Answer, Stop>
     requires some { 1 ≤ most }
-    requires few { guest.old.steps + most ≤ 2 ^ 48 }
+    requires few { guest.old.steps + most ≤ most_steps }
     ensures { Says (end_plan (first_end guest.old most) most) result }
 {
     let end = guest.run(most);
-    let steps = guest.steps();
+    let step = guest.steps() + 1;
     match end {
-        RunEnd::Exited(status) => exited(alloc, status, steps + 1, guest.files()),
-        RunEnd::Trapped(cause) => run_texts::trapped(alloc, cause, steps + 1),
-        RunEnd::UnknownCall(number) => run_texts::called(alloc, number, steps + 1),
+        RunEnd::Exited(status) => exited(alloc, status, step, guest.files()),
+        RunEnd::Trapped(cause) => run_texts::trapped(alloc, cause, step),
+        RunEnd::UnknownCall(number) => run_texts::called(alloc, number, step),
         RunEnd::Spent => run_texts::spent(alloc, most),
         RunEnd::OutOfMemory => Err(Stop::OutOfMemory),
     }

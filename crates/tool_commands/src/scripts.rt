@@ -3,6 +3,7 @@
 ghost use Rattle.std.specs.Prelude.{◌≡◌, ◌≤◌, IfOk, OnOk, length, ℕ};
 ghost use Rattle.std.specs.List.{list_any};
 ghost use Rattle.ddc_base.specs.Outside.{ShelfState};
+ghost use Rattle.ddc_base.specs.Limits.{most_files};
 ghost use Rattle.kaem_script.specs.declared.refusal.ScriptFault.{ScriptFault as Fault};
 ghost use Rattle.command_plan.specs.declared.status.Status.TheVariants.{ScriptRefused};
 ghost use Rattle.command_plan.specs.Lists.{needs_list};
@@ -19,22 +20,11 @@ use crate::script_texts;
 use command_plan::lists::fetch_list;
 use command_plan::words::is_one_file;
 use command_plan::{Answer, FileName, Status, Stop, fetch, usage};
+use ddc_base::limits::{MOST_CONTENT, MOST_FILES, MOST_SCRIPT, MOST_TOTAL};
 use ddc_base::{Bytes, ListOf, OutOfMemory, Shelf};
 use kaem_script::{FileList, Script, ScriptFault, ScriptRefusal};
 use mem_files::PlaceRefusal;
 use std::alloc::Global;
-
-/// The most bytes of a script that are loaded.
-const SCRIPT_LIMIT: u64 = 1_048_576;
-
-/// The most lines of a list of files.
-const MOST_FILES: u32 = 4_096;
-
-/// The most bytes of a listed file.
-const FILE_LIMIT: u64 = 268_435_456;
-
-/// The most bytes of all listed files together.
-const FILES_LIMIT: u64 = 536_870_912;
 
 /// Fetches a script and reads it. Stops with 15 where the file is not a script.
 pub(crate) fn fetch_script<S: Shelf>(
@@ -44,11 +34,11 @@ pub(crate) fn fetch_script<S: Shelf>(
 ) -> Result<Script, Stop>
     ensures { Obtains (needs_script file.now) (S.state shelf.old) (S.state shelf.new) result }
 {
-    let text = fetch(alloc, shelf, file, SCRIPT_LIMIT)?;
+    let text = fetch(alloc, shelf, file, MOST_SCRIPT)?;
     read_script(alloc, text)
 }
 
-/// Reads a script and frees its text. Stops with 15 where the text is not a script.
+/// Reads a script, and does not keep its text. Stops with 15 where the text is not a script.
 fn read_script(alloc: Global, text: Bytes) -> Result<Script, Stop>
     ensures { (shelf : ShelfState) → Obtains (unless_refused (script_of text) (λ (fault : Fault × ℕ). answers ScriptRefused (script_line fault.0 fault.1)))
         shelf shelf result }
@@ -80,7 +70,7 @@ pub(crate) fn fetch_unlisted<S: Shelf>(
     report: &FileName<'_>,
 ) -> Result<ListOf<FileLine>, Stop>
     ensures obtained { Obtains (needs_unlisted_words list.now report.now) (S.state shelf.old) (S.state shelf.new) result }
-    ensures few { IfOk result (λ words. length words ≤ 4096) }
+    ensures few { IfOk result (λ words. length words ≤ most_files) }
     ensures apart { IfOk result AreApart }
 {
     let words = fetch_words(alloc, shelf, list)?;
@@ -94,11 +84,11 @@ fn fetch_words<S: Shelf>(
     shelf: &mut S,
     list: &FileName<'_>,
 ) -> Result<ListOf<FileLine>, Stop>
-    ensures obtained { Obtains (needs_list file_line 4096 list.now) (S.state shelf.old) (S.state shelf.new) result }
-    ensures few { IfOk result (λ words. length words ≤ 4096) }
+    ensures obtained { Obtains (needs_list file_line most_files list.now) (S.state shelf.old) (S.state shelf.new) result }
+    ensures few { IfOk result (λ words. length words ≤ most_files) }
     ensures apart { IfOk result AreApart }
 {
-    fetch_list::<FileLine, S>(alloc, shelf, list, MOST_FILES)
+    fetch_list::<FileLine, S>(alloc, shelf, list, MOST_FILES as u32)
 }
 
 /// Stops with a usage answer where a listed word names the file that is to be written.
@@ -129,7 +119,7 @@ pub(crate) fn fetch_files<S: Shelf>(
     words: &ListOf<FileLine>,
 ) -> Result<FileList, Stop>
     requires apart { AreApart words.now }
-    requires few { length words.now ≤ 4096 }
+    requires few { length words.now ≤ most_files }
     ensures { Obtains (needs_files words.now) (S.state shelf.old) (S.state shelf.new) result }
 {
     fetch_each(alloc, shelf, words.as_slice())
@@ -138,14 +128,14 @@ pub(crate) fn fetch_files<S: Shelf>(
 /// Fetches the files that these words name, in order. While a file is added, its bytes are in memory twice.
 fn fetch_each<S: Shelf>(alloc: Global, shelf: &mut S, words: &[FileLine]) -> Result<FileList, Stop>
     requires apart { AreApart words.now }
-    requires few { length words.now ≤ 4096 }
+    requires few { length words.now ≤ most_files }
     ensures { Obtains (needs_files words.now) (S.state shelf.old) (S.state shelf.new) result }
 {
     let mut files = FileList::new(alloc)?;
-    let mut room = FILES_LIMIT;
+    let mut budget = MOST_TOTAL;
     for word in words {
-        let content = fetch(alloc, shelf, &word.name(), FILE_LIMIT.min(room))?;
-        room -= content.len() as u64;
+        let content = fetch(alloc, shelf, &word.name(), MOST_CONTENT.min(budget))?;
+        budget -= content.len() as u64;
         add(&mut files, word, content.as_slice())?;
     }
     Ok(files)

@@ -1,24 +1,30 @@
 //! The arguments of the commands, one type for each set of them.
 
-ghost use Rattle.std.specs.Prelude.{◌≡◌, ◌≤◌, ◌^◌, IfSome, IsTrue, map};
+ghost use Rattle.std.specs.Prelude.{◌≡◌, ◌≤◌, IfSome, IsTrue, map};
 ghost use Rattle.std.specs.List.{list_all};
+ghost use Rattle.ddc_base.specs.Limits.{most_address, most_commands};
 ghost use Rattle.guest_run.specs.Setting.{is_text};
 ghost use Rattle.tool_commands.specs.Asm.{as_base};
 ghost use Rattle.tool_commands.specs.KaemLeft.{as_command_number, kaem_left_words};
-ghost use Rattle.tool_commands.specs.Inside.Words.{as_args, asm_words, hex0_words, kaem_words, run_words, script_words};
+ghost use Rattle.tool_commands.specs.Inside.Words.{as_args, asm_words, binary_word, hex0_words, kaem_words, run_words, script_words};
 
 use crate::guest_file::{GuestFile, Wanted};
 use command_plan::words::has_no_zero_byte;
 use command_plan::{FileName, StepCount, three_files, two_files};
 use ddc_base::languages::Language;
+use ddc_base::limits::{MOST_ADDRESS, MOST_COMMANDS};
 use ddc_base::read_decimal;
 use std::marker::Model;
 
-/// The greatest base, 2^37, included.
-const GREATEST_BASE: u64 = 137_438_953_472;
-
-/// The most commands of a script.
-const MOST_COMMANDS: u64 = 4_096;
+/// Reads the argument `BINARY` of `list`; `None` for all others.
+pub(crate) fn binary_word<'w>(words: &[&'w str]) -> Option<FileName<'w>>
+    ensures { result ≡ binary_word (map (λ w. w.now) words.now) }
+{
+    let [binary] = words else {
+        return None;
+    };
+    FileName::read(binary)
+}
 
 /// The arguments of `hex0`: a source, and a binary that is compared with its value. They may be one file.
 #[derive(Drop)]
@@ -48,13 +54,14 @@ pub(crate) struct Base {
 }
 
 impl Model for Base {
-    ghost use Rattle.std.specs.Prelude.{ℕ, ◌≤◌, ◌^◌};
+    ghost use Rattle.std.specs.Prelude.{ℕ, ◌≤◌};
+    ghost use Rattle.ddc_base.specs.Limits.{most_address};
 
     ghost Value = { ℕ };
 
     ghost view = { λ base. base.address };
 
-    ghost invariant = { λ base. base.address ≤ 2 ^ 37 };
+    ghost invariant = { λ base. base.address ≤ most_address };
 
     ghost inverse = { λ address. record { address = address } };
 }
@@ -71,7 +78,7 @@ impl Base {
     /// The address.
     pub(crate) fn address(self) -> u64
         ensures value { result ≡ self }
-        ensures most { self ≤ 2 ^ 37 }
+        ensures most { self ≤ most_address }
     {
         self.address
     }
@@ -81,10 +88,10 @@ impl Base {
 #[tactic(auto, unfolding(crate::specs::Asm::as_base))]
 fn base_of(word: &str) -> Option<u64>
     ensures value { result ≡ as_base word.now }
-    ensures within { IfSome result (λ base. base ≤ 2 ^ 37) }
+    ensures within { IfSome result (λ base. base ≤ most_address) }
 {
     let base = read_decimal(word.as_bytes())?;
-    if base <= GREATEST_BASE {
+    if base <= MOST_ADDRESS {
         Some(base)
     } else {
         None
@@ -255,12 +262,13 @@ pub(crate) struct CommandNumber {
 
 impl Model for CommandNumber {
     ghost use Rattle.std.specs.Prelude.{ℕ, ◌≤◌};
+    ghost use Rattle.ddc_base.specs.Limits.{most_commands};
 
     ghost Value = { ℕ };
 
     ghost view = { λ command. command.number };
 
-    ghost invariant = { λ command. (1 ≤ command.number) × (command.number ≤ 4_096) };
+    ghost invariant = { λ command. (1 ≤ command.number) × (command.number ≤ most_commands) };
 
     ghost inverse = { λ number. record { number = number } };
 }
@@ -278,7 +286,7 @@ impl CommandNumber {
     pub(crate) fn number(self) -> u32
         ensures value { result ≡ self }
         ensures some { 1 ≤ self }
-        ensures most { self ≤ 4_096 }
+        ensures most { self ≤ most_commands }
     {
         self.number
     }
@@ -288,10 +296,10 @@ impl CommandNumber {
 #[tactic(auto, unfolding(crate::specs::KaemLeft::as_command_number))]
 fn number_of(word: &str) -> Option<u32>
     ensures value { result ≡ as_command_number word.now }
-    ensures within { IfSome result (λ number. (1 ≤ number) × (number ≤ 4_096)) }
+    ensures within { IfSome result (λ number. (1 ≤ number) × (number ≤ most_commands)) }
 {
     let number = read_decimal(word.as_bytes())?;
-    if 1 <= number && number <= MOST_COMMANDS {
+    if 1 <= number && number <= MOST_COMMANDS as u64 {
         Some(number as u32)
     } else {
         None

@@ -5,6 +5,7 @@ use Rattle.std.specs.Prelude.{Contains}
 use Rattle.std.proofs.lemmas.Bool.{and_parts, and_from, eqb-true, le-leb, leb-true}
 use Rattle.std.proofs.lemmas.Option.{same_Some}
 use Rattle.ddc_base.specs.Results.{◌>>=◌, or_error}
+use Rattle.ddc_base.specs.Limits.{most_artefacts}
 use Rattle.mem_files.specs.World.{World}
 use Rattle.mem_files.specs.Outputs.{IsContent, out}
 use Rattle.mem_files.proofs.Leftovers.{output-is}
@@ -27,7 +28,7 @@ use Rattle.audit_rules.specs.Stages.{artefact_bytes, by_end, by_start, contents,
 use Rattle.audit_rules.proofs.Continues.{fresh}
 use Rattle.audit_rules.proofs.Endings.{ended, exit-done}
 use Rattle.audit_rules.proofs.GivenBoxes.{AreContents, box-is, content-is}
-use Rattle.audit_rules.proofs.Slices.{end-place}
+use Rattle.audit_rules.proofs.Slices.{end-step}
 use Rattle.verifier.proofs.StageRules.{rules-of}
 use Rattle.verifier.specs.declared.part.Part.{Part}
 use Rattle.verifier.specs.declared.part.Part.TheVariants as part
@@ -44,7 +45,7 @@ pub record IsDone (recipe : RecipeContents) (inputs : List (List ℕ)) (done : L
   pub leaves : last.world ≡ world
   pub within : steps ≤ stage.steps
   pub there : out world (output_of stage.output) ≡ Some made
-  pub small : artefact_bytes done + length made ≤ 1073741824
+  pub small : artefact_bytes done + length made ≤ most_artefacts
   pub right : check_of recipe (contents inputs done) stage made ≡ None
 
 -- ---- the bench's stage
@@ -63,20 +64,20 @@ result-done recipe inputs done stage f is = by_begin (start_stage recipe (conten
     by_first None at is = absurd cc
     by_first (Some (end, last)) at is =
         let e = ended recipe inputs done stage end last f is in
-        let place = end-place guest stage.steps (end, last) at in
-        let counted = after-counted guest last place.0 place.2 in
+        let at_step = end-step guest stage.steps (end, last) at in
+        let counted = after-counted guest last at_step.0 at_step.2 in
         let zero_steps = fresh _ _ guest started in
         let steps : f.steps ≡ last.steps + 1 = ap (λ (g : Finished). g.steps) e.is in
-        let number : f.steps ≡ suc place.0 = omega (arith, counted, zero_steps, steps) in (
+        let number : f.steps ≡ suc at_step.0 = omega (arith, counted, zero_steps, steps) in (
           last.world,
           e.made,
           record {
             guest = guest;
             last = last;
             started = started;
-            ended = ap (end_at guest) number ∙ end_at-next guest last place.0 place.2 ∙ ap (end_of last) place.3 ∙ ap (λ x. Some (x, last)) e.exit;
+            ended = ap (end_at guest) number ∙ end_at-next guest last at_step.0 at_step.2 ∙ ap (end_of last) at_step.3 ∙ ap (λ x. Some (x, last)) e.exit;
             leaves = refl;
-            within = omega (arith, place.1, number);
+            within = omega (arith, at_step.1, number);
             there = e.there;
             small = e.small;
             right = e.right;
@@ -157,18 +158,18 @@ pub record Made (so_far : Contents) (stage : Stage) (line : StageLine) (world : 
   pub left : has_left line world ≡ true
   pub there : out world (output_of stage.output) ≡ Some made
   pub mark : is_mark_of line.made made ≡ true
-  pub small : size_of so_far + length made ≤ 1073741824
+  pub small : size_of so_far + length made ≤ most_artefacts
 
 made-is : (so_far : Contents) (stage : Stage) (line : StageLine) (world : World) (made : List ℕ)
     → recorded so_far stage line world ≡ Some made → Made so_far stage line world made
 made-is so_far stage line world made is = by_left (has_left line world) refl is where
-  by_tests : (found : List ℕ) (b : Bool) → (is_mark_of line.made found && nat_le (size_of so_far + length found) 1_073_741_824) ≡ b
+  by_tests : (found : List ℕ) (b : Bool) → (is_mark_of line.made found && nat_le (size_of so_far + length found) most_artefacts) ≡ b
       → has_left line world ≡ true → out world (output_of stage.output) ≡ Some found → (if b then Some found else None) ≡ Some made → Made so_far stage line world made
   by_tests found false tests left there is = absurd cc
   by_tests found true tests left there is =
-      let parts = and_parts (is_mark_of line.made found) (nat_le (size_of so_far + length found) 1_073_741_824) tests in
+      let parts = and_parts (is_mark_of line.made found) (nat_le (size_of so_far + length found) most_artefacts) tests in
       let same : found ≡ made = same_Some found made is in
-      let small = leb-true (size_of so_far + length found) 1_073_741_824 parts.1 in
+      let small = leb-true (size_of so_far + length found) most_artefacts parts.1 in
       let lengths : length found ≡ length made = ap length same in
       record {
         left = left;
@@ -179,7 +180,7 @@ made-is so_far stage line world made is = by_left (has_left line world) refl is 
 
   by_output : (o : Option (List ℕ)) → out world (output_of stage.output) ≡ o → has_left line world ≡ true → made_as so_far line o ≡ Some made → Made so_far stage line world made
   by_output None there left is = absurd cc
-  by_output (Some found) there left is = by_tests found (is_mark_of line.made found && nat_le (size_of so_far + length found) 1_073_741_824) refl left there is
+  by_output (Some found) there left is = by_tests found (is_mark_of line.made found && nat_le (size_of so_far + length found) most_artefacts) refl left there is
 
   by_left : (b : Bool) → has_left line world ≡ b → (if b then made_as so_far line (out world (output_of stage.output)) else None) ≡ Some made → Made so_far stage line world made
   by_left false left is = absurd cc
@@ -258,7 +259,7 @@ replayed-done recipe inputs done stage line made is =
 
 -- the artefact of a stage that is right is a content, and within the limit of all artefacts
 pub replayed-content : (recipe : RecipeContents) (so_far : Contents) (stage : Stage) (line : StageLine) (made : List ℕ) → IsRecipe recipe → Contains recipe.stages stage
-    → AreContents so_far → replayed recipe so_far stage line ≡ Ok made → IsContent made × (size_of so_far + length made ≤ 1073741824)
+    → AreContents so_far → replayed recipe so_far stage line ≡ Ok made → IsContent made × (size_of so_far + length made ≤ most_artefacts)
 replayed-content recipe so_far stage line made is known are right =
     let j = judged recipe so_far stage line made right in
     let run : ProgramRun (program_of recipe so_far stage) (box_of recipe so_far stage) line.steps 0 j.world =
@@ -280,7 +281,7 @@ done-replayed recipe inputs done stage line world made ok left mark =
     λ w. or_error part.Files (recorded (contents inputs done) stage line w) >>= (λ found. checked_artefact found (check_of recipe (contents inputs done) stage found)) in
     let check : Result (List ℕ) Part → Result (List ℕ) Part = λ r. r >>= (λ found. checked_artefact found (check_of recipe (contents inputs done) stage found)) in
     let size = size-of inputs done in
-    let small : size_of (contents inputs done) + length made ≤ 1_073_741_824 = omega (arith, ok.small, size) in
+    let small : size_of (contents inputs done) + length made ≤ most_artefacts = omega (arith, ok.small, size) in
     ap (λ s. or_error part.Run (left_at s stage.steps line.steps) >>= files) ok.started
     ∙ ap (λ b. or_error part.Run (if b then exit_of (end_at ok.guest line.steps) else None) >>= files)
     (and_from (nat_le 1 line.steps) (nat_le line.steps stage.steps) (le-leb 1 line.steps (some-step ok.guest (Exited 0, ok.last) line.steps ok.ended)) (le-leb line.steps stage.steps ok.within))
@@ -289,7 +290,7 @@ done-replayed recipe inputs done stage line world made ok left mark =
     ∙ ap (λ b. check (or_error part.Files (if b then made_as (contents inputs done) line (out world (output_of stage.output)) else None))) left
     ∙ ap (λ o. check (or_error part.Files (made_as (contents inputs done) line o))) ok.there
     ∙ ap (λ b. check (or_error part.Files (if b then Some made else None)))
-    (and_from (is_mark_of line.made made) (nat_le (size_of (contents inputs done) + length made) 1_073_741_824) mark (le-leb (size_of (contents inputs done) + length made) 1_073_741_824 small))
+    (and_from (is_mark_of line.made made) (nat_le (size_of (contents inputs done) + length made) most_artefacts) mark (le-leb (size_of (contents inputs done) + length made) most_artefacts small))
     ∙ ap (checked_artefact made) ok.right
 
 -- ---- a judged run

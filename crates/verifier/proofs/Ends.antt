@@ -7,17 +7,17 @@ use Rattle.guest_run.specs.State.{GuestState}
 use Rattle.guest_run.specs.Run.{End, Exited, Trapped, UnknownCall, end_at, end_of, first_end}
 use Rattle.guest_run.proofs.Running.{after-counted, end_at-next}
 use Rattle.guest_run.proofs.RunLaws.{first_end-found, one_end-law}
-use Rattle.audit_rules.proofs.Slices.{end-place}
+use Rattle.audit_rules.proofs.Slices.{end-step}
 use Rattle.verifier.specs.Faults.{exit_of}
 use Rattle.verifier.specs.declared.part.Part.TheVariants as part
 
 -- an end within some steps is at its own step
 at_its_step : (old new : GuestState) (most : ℕ) (end : End) → first_end old most ≡ Some (end, new) → old.steps ≡ 0 → end_at old (new.steps + 1) ≡ Some (end, new)
 at_its_step old new most end is fresh =
-    let place = end-place old most (end, new) is in
-    let counted = after-counted old new place.0 place.2 in
-    let same : new.steps + 1 ≡ suc place.0 = omega (arith, counted, fresh) in
-    ap (end_at old) same ∙ end_at-next old new place.0 place.2 ∙ ap (end_of new) place.3
+    let at_step = end-step old most (end, new) is in
+    let counted = after-counted old new at_step.0 at_step.2 in
+    let same : new.steps + 1 ≡ suc at_step.0 = omega (arith, counted, fresh) in
+    ap (end_at old) same ∙ end_at-next old new at_step.0 at_step.2 ∙ ap (end_of new) at_step.3
 
 pub exits : (old new : GuestState) (number status : ℕ) → first_end old number ≡ Some (Exited status, new) → old.steps ≡ 0 → status ≡ 0 → new.steps + 1 ≡ number
     → or_error part.Run (exit_of (end_at old number)) ≡ Ok new.world

@@ -10,7 +10,7 @@ use Rattle.report.specs.declared.types.StageLine.{StageLine}
 use Rattle.audit_rules.specs.Contents.{Contents}
 use Rattle.verifier.specs.declared.part.Part.{Part}
 use Rattle.verifier.specs.Faults.{fault_after_stage, replayed, stages_fault, with_artefact}
-use Rattle.verifier.specs.Verdicts.{AreReplayed, CanWantAt, StandsAtPart}
+use Rattle.verifier.specs.Verdicts.{AreReplayed, CanWantAt, IsAtPart}
 
 drop-found : {A : Type 0} (xs : List A) (index : ℕ) (x : A) → slice_get xs index ≡ Some x → drop index xs ≡ x ∷ drop (index + 1) xs
 drop-found [] index x is = absurd cc
@@ -96,20 +96,20 @@ replayed_on recipe so_far all stages lines index stage line made found less is b
 
 module _ (recipe : RecipeContents) (inputs : List (List ℕ)) (stages : List Stage) (lines : List StageLine) (index number : ℕ) (so_far : Contents) (stage : Stage) (line : StageLine) where
   -- a replay that stands at a part of the stage of this index
-  pub stands : (part : Part) → stages ≡ recipe.stages → number ≡ index + 1 → slice_get stages index ≡ Some stage → index < length lines → line ≡ get_or lines index line
+  pub denotes : (part : Part) → stages ≡ recipe.stages → number ≡ index + 1 → slice_get stages index ≡ Some stage → index < length lines → line ≡ get_or lines index line
       → AreReplayed recipe (record { inputs = inputs; artefacts = [] }) (take index stages) (take index lines) so_far → CanWantAt recipe so_far stage line part
-      → StandsAtPart recipe inputs lines number part
-  stands part same is found less line_is before here =
-      let place : index ≡ number - 1 = omega (arith, is) in
+      → IsAtPart recipe inputs lines number part
+  denotes part same is found less line_is before here =
+      let index_is : index ≡ number - 1 = omega (arith, is) in
       let there : slice_get lines index ≡ Some line = slice_get-get_or lines index line less ∙ ap Some (sym line_is) in
       record {
         some = omega (arith, is);
         so_far = so_far;
         stage = stage;
-        stage_is = subst (λ (n : ℕ). slice_get recipe.stages n ≡ Some stage) place (subst (λ (s : List Stage). slice_get s index ≡ Some stage) same found);
+        stage_is = subst (λ (n : ℕ). slice_get recipe.stages n ≡ Some stage) index_is (subst (λ (s : List Stage). slice_get s index ≡ Some stage) same found);
         line = line;
-        line_is = subst (λ (n : ℕ). slice_get lines n ≡ Some line) place there;
+        line_is = subst (λ (n : ℕ). slice_get lines n ≡ Some line) index_is there;
         here = here;
-        before = subst (λ (n : ℕ). AreReplayed recipe (record { inputs = inputs; artefacts = [] }) (take n recipe.stages) (take n lines) so_far) place
+        before = subst (λ (n : ℕ). AreReplayed recipe (record { inputs = inputs; artefacts = [] }) (take n recipe.stages) (take n lines) so_far) index_is
             (subst (λ (s : List Stage). AreReplayed recipe (record { inputs = inputs; artefacts = [] }) (take index s) (take index lines) so_far) same before);
       }

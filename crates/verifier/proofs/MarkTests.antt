@@ -107,8 +107,8 @@ compared-Decides (Equal count) made binary =
 compared-Decides (Differs offset ours theirs) made binary = (
   λ t.
       let parts = and_parts (is_at offset (first_difference made binary) && ours == length made) (theirs == length binary) t in
-      let front = and_parts (is_at offset (first_difference made binary)) (ours == length made) parts.0 in
-      to (first_difference made binary) front.0 (eqb-true ours (length made) front.1) (eqb-true theirs (length binary) parts.1),
+      let prefix = and_parts (is_at offset (first_difference made binary)) (ours == length made) parts.0 in
+      to (first_difference made binary) prefix.0 (eqb-true ours (length made) prefix.1) (eqb-true theirs (length binary) parts.1),
   λ e. from (first_difference made binary) e,
 ) where
   to : (o : Option ℕ) → is_at offset o ≡ true → ours ≡ length made → theirs ≡ length binary → compared_at o made binary ≡ Differs offset ours theirs

@@ -170,23 +170,23 @@ own-line recipe inputs done stage f is =
     ∙ ap Ok same
 
 -- what lines without a fault stand for
-abbrev Stands : RecipeContents → List (List ℕ) → (Contents → Option (Part × ℕ)) → List Finished → List Stage → List StageLine → Type 0
-Stands recipe inputs last done stages lines =
+abbrev EndsWithout : RecipeContents → List (List ℕ) → (Contents → Option (Part × ℕ)) → List Finished → List Stage → List StageLine → Type 0
+EndsWithout recipe inputs last done stages lines =
     (more : List Finished) × (bench_from recipe inputs done stages ≡ Completes (bench_report recipe inputs (done ++ more)))
     × (stage_lines recipe stages more ≡ lines) × (last (contents inputs (done ++ more)) ≡ None)
 
-none-stands : (recipe : RecipeContents) (inputs : List (List ℕ)) (last : Contents → Option (Part × ℕ)) (done : List Finished) (stages : List Stage) (lines : List StageLine)
-    → names_stages recipe stages lines ≡ true → stages_fault recipe last (contents inputs done) stages lines ≡ None → Stands recipe inputs last done stages lines
-none-stands recipe inputs last done [] [] named is = (
+none-denotes : (recipe : RecipeContents) (inputs : List (List ℕ)) (last : Contents → Option (Part × ℕ)) (done : List Finished) (stages : List Stage) (lines : List StageLine)
+    → names_stages recipe stages lines ≡ true → stages_fault recipe last (contents inputs done) stages lines ≡ None → EndsWithout recipe inputs last done stages lines
+none-denotes recipe inputs last done [] [] named is = (
   [],
   ap (λ d. Completes (bench_report recipe inputs d)) (sym (append-nil done)),
   refl,
   ap (λ d. last (contents inputs d)) (append-nil done) ∙ is,
 )
-none-stands recipe inputs last done [] (first ∷ lines) named is = absurd cc
-none-stands recipe inputs last done (stage ∷ stages) [] named is = absurd cc
-none-stands recipe inputs last done (stage ∷ stages) (first ∷ lines) named is =
-    by_replay (replayed recipe (contents inputs done) stage first) refl is (λ d. none-stands recipe inputs last d stages lines rest.1) where
+none-denotes recipe inputs last done [] (first ∷ lines) named is = absurd cc
+none-denotes recipe inputs last done (stage ∷ stages) [] named is = absurd cc
+none-denotes recipe inputs last done (stage ∷ stages) (first ∷ lines) named is =
+    by_replay (replayed recipe (contents inputs done) stage first) refl is (λ d. none-denotes recipe inputs last d stages lines rest.1) where
       rest : ((bytes_eq stage.name first.name && same_language (check_language recipe stage) first.checked) ≡ true) × (names_stages recipe stages lines ≡ true)
       rest = and_parts (bytes_eq stage.name first.name && same_language (check_language recipe stage) first.checked) (names_stages recipe stages lines) named
 
@@ -195,8 +195,8 @@ none-stands recipe inputs last done (stage ∷ stages) (first ∷ lines) named i
 
       by_replay : (r : Result (List ℕ) Part) → replayed recipe (contents inputs done) stage first ≡ r
           → fault_after_stage (length (contents inputs done).artefacts + 1) r (λ made. stages_fault recipe last (with_artefact (contents inputs done) made) stages lines) ≡ None
-          → ((d : List Finished) → stages_fault recipe last (contents inputs d) stages lines ≡ None → Stands recipe inputs last d stages lines)
-          → Stands recipe inputs last done (stage ∷ stages) (first ∷ lines)
+          → ((d : List Finished) → stages_fault recipe last (contents inputs d) stages lines ≡ None → EndsWithout recipe inputs last d stages lines)
+          → EndsWithout recipe inputs last done (stage ∷ stages) (first ∷ lines)
       by_replay (Err why) at is later = absurd cc
       by_replay (Ok made) at is later =
           let ok = right recipe inputs done stage first made here.0 here.1 at in
@@ -270,9 +270,9 @@ header-is recipe report is =
     let stages = names_stages recipe recipe.stages report.stages in
     let last = and_parts (form && digest && inputs && stages) (names_compared recipe.compare.binary recipe.compare.stages report.compare) is in
     let middle = and_parts (form && digest && inputs) stages last.0 in
-    let front = and_parts (form && digest) inputs middle.0 in
-    let first = and_parts form digest front.0 in
-    record { form = first.0; digest = first.1; inputs = front.1; stages = middle.1; compared = last.1 }
+    let prefix = and_parts (form && digest) inputs middle.0 in
+    let first = and_parts form digest prefix.0 in
+    record { form = first.0; digest = first.1; inputs = prefix.1; stages = middle.1; compared = last.1 }
 
 pub is-header : (recipe : RecipeContents) (report : Report) → Header recipe report → is_header recipe report ≡ true
 unfolding is_header
@@ -322,15 +322,15 @@ fault-none recipe inputs report counted is = by_header (is_header recipe report)
   by_inputs : (o : Option (Part × ℕ)) → inputs_fault 1 inputs report.inputs ≡ o → Header recipe report → first_of_both o stages ≡ None → bench recipe inputs ≡ Completes report
   by_inputs (Some fault) at header is = absurd cc
   by_inputs None at header is =
-      let stands = none-stands recipe inputs (compare_fault recipe report.form report.compare) [] recipe.stages report.stages header.stages is in
-      let all = contents inputs stands.0 in
-      let compares = lines-are recipe all 1 recipe.compare.stages report.compare header.compared (no-wrong-line recipe report.form report.compare all stands.3) in
-      stands.1
+      let denotes = none-denotes recipe inputs (compare_fault recipe report.form report.compare) [] recipe.stages report.stages header.stages is in
+      let all = contents inputs denotes.0 in
+      let compares = lines-are recipe all 1 recipe.compare.stages report.compare header.compared (no-wrong-line recipe report.form report.compare all denotes.3) in
+      denotes.1
       ∙ (λ i. Completes (record {
         form = eqb-true recipe.format report.form header.form i;
         recipe = record { 0 = (bytes_eq-Decides recipe.digest.0 report.recipe.0).0 header.digest i };
         inputs = sym (inputs-are 1 recipe.inputs inputs report.inputs header.inputs at counted) i;
-        stages = stands.2 i;
+        stages = denotes.2 i;
         compare = compares i;
       }))
 

@@ -14,7 +14,7 @@ use Rattle.std.proofs.lemmas.Slice.Eq.{bytes_eq-Decides}
 use Rattle.mem_files.proofs.Directory.{bytes_cmp-IsAntisymmetric}
 use Rattle.mem_files.specs.declared.open_file.PlaceRefusal.{PlaceRefusal}
 use Rattle.mem_files.specs.declared.open_file.PlaceRefusal.TheVariants.{BadName, Twice, Full, OutOfMemory}
-use Rattle.mem_files.specs.Limits.{most_content, most_names}
+use Rattle.ddc_base.specs.Limits.{most_content, most_names}
 use Rattle.mem_files.specs.Names.{begins_with_dot_slash, bytes_cmp, is_file_name, is_stripped_name, stripped}
 use Rattle.guest_run.specs.Setting.{FileMap, PlacesIn, place_refusal}
 use Rattle.recipe.specs.declared.parts.StageFile.{StageFile}

@@ -4,6 +4,7 @@ use Rattle.std.specs.Prelude.{Contains, bytes_eq, is_some}
 use Rattle.std.specs.FinMap as finite
 use Rattle.std.proofs.lemmas.List.Elements.{All-contains, All-get_or, All-weaker}
 use Rattle.std.proofs.lemmas.Option.{same_Some, slice_get-get_or}
+use Rattle.ddc_base.specs.Limits.{most_address, most_heap, most_steps}
 use Rattle.mem_files.specs.Names.{bytes_cmp, is_stripped_name}
 use Rattle.guest_run.specs.Setting.{IsText}
 use Rattle.recipe.specs.declared.contents.RecipeContents.{RecipeContents}
@@ -29,10 +30,10 @@ args-are recipe stage is known = All-weaker rules.IsWord IsText (λ text word. w
 pub env-is : (recipe : RecipeContents) (stage : Stage) → IsRecipe recipe → Contains recipe.stages stage → All IsText stage.env
 env-is recipe stage is known = All-weaker rules.IsWord IsText (λ text word. word.whole) stage.env (rules-of recipe stage is known).env
 
-pub heap-is : (recipe : RecipeContents) (stage : Stage) → IsRecipe recipe → Contains recipe.stages stage → stage.heap ≤ 2 ^ 30
+pub heap-is : (recipe : RecipeContents) (stage : Stage) → IsRecipe recipe → Contains recipe.stages stage → stage.heap ≤ most_heap
 heap-is recipe stage is known = (kept recipe stage is known).heap
 
-pub steps-are : (recipe : RecipeContents) (stage : Stage) → IsRecipe recipe → Contains recipe.stages stage → stage.steps ≤ 2 ^ 48
+pub steps-are : (recipe : RecipeContents) (stage : Stage) → IsRecipe recipe → Contains recipe.stages stage → stage.steps ≤ most_steps
 steps-are recipe stage is known = (kept recipe stage is known).few_steps
 
 pub output-is : (recipe : RecipeContents) (stage : Stage) → IsRecipe recipe → Contains recipe.stages stage → IsOutputName stage.output
@@ -64,7 +65,7 @@ each-find P test (y ∷ ys) x each is = by_test (test y) is (each-find P test ys
   by_test true is later = subst P (same_Some y x is) (each zero y refl)
   by_test false is later = later is
 
-pub base-is : (recipe : RecipeContents) (name : List ℕ) (source : Source) → IsRecipe recipe → source_named recipe.sources name ≡ Some source → source.base ≤ 2 ^ 37
+pub base-is : (recipe : RecipeContents) (name : List ℕ) (source : Source) → IsRecipe recipe → source_named recipe.sources name ≡ Some source → source.base ≤ most_address
 base-is recipe name source is found = (each-find (IsSource recipe) (λ (s : Source). bytes_eq s.name name) recipe.sources source is.sources found).base
 
 -- a text that is borrowed

@@ -13,6 +13,7 @@ use Rattle.ddc_base.proofs.Differences.{first_difference-at, first_difference-sa
 use Rattle.ddc_base.specs.declared.digests.Digest.{Digest}
 use Rattle.ddc_base.specs.declared.languages.Language.{Language}
 use Rattle.ddc_base.specs.declared.languages.Language.TheVariants.{Hex0, Hex1, Hex2, M1}
+use Rattle.ddc_base.specs.Limits.{most_artefacts}
 use Rattle.hex_langs.specs.declared.items.item.Item.{Item}
 use Rattle.hex_langs.specs.declared.items.item.Item.TheVariants as item
 use Rattle.hex_langs.specs.declared.items.item.Kind.{Kind}
@@ -53,7 +54,7 @@ use Rattle.wheeler.proofs.Items.{no-other-item}
 use Rattle.verifier.specs.declared.part.Part.{Part}
 use Rattle.verifier.specs.declared.part.Part.TheVariants as part
 use Rattle.verifier.specs.Faults.{checked_artefact, compare_fault, fault_after_stage, first_fault, first_of_both, has_left, inputs_fault, is_at, is_header, line_place, made_as, names_compared, names_inputs, names_left, names_stages, recorded, replayed, same_language, says, size_of, stages_fault, with_artefact, wrong_line}
-use Rattle.verifier.specs.TrueReport.{AreTrueInputs, AreTrueStages, Compares, HasItems, IsOfSource, IsTrueCompare, IsTrueFile, IsTrueStage, IsYes, Marks, StandsFor, TrueReport}
+use Rattle.verifier.specs.TrueReport.{AreTrueInputs, AreTrueStages, Compares, HasItems, IsOfSource, IsTrueCompare, IsTrueFile, IsTrueStage, IsYes, Marks, Denotes, TrueReport}
 use Rattle.verifier.proofs.DoneStages.{judged, run-judged, some-step}
 use Rattle.verifier.proofs.MarkTests.{both, language-Decides, mark-Decides}
 use Rattle.verifier.proofs.OneReport.{Header, at_first, header-is, is-header, no-wrong-line}
@@ -194,19 +195,19 @@ right-m1 : (text made : List ℕ) → HasItems text made → checked (m1_value (
 right-m1 text made has =
     ap (λ m. checked (m1_value m) made) has.expands ∙ ap (items_against has.items) has.reads ∙ ap differs (same-items has.items)
 
-check-stands : (language : Language) (base : ℕ) (text made : List ℕ) → check language base text made ≡ None → StandsFor language base text made
+check-denotes : (language : Language) (base : ℕ) (text made : List ℕ) → check language base text made ≡ None → Denotes language base text made
 unfolding check
-check-stands Hex0 base text made is = hex-right (value_of hex.Hex0 base text) made is
-check-stands Hex1 base text made is = hex-right (value_of hex.Hex1 base text) made is
-check-stands Hex2 base text made is = hex-right (value_of hex.Hex2 base text) made is
-check-stands M1 base text made is = m1-right text made (expansion_of text) (items_of dialect.Hex2 made) refl refl is
+check-denotes Hex0 base text made is = hex-right (value_of hex.Hex0 base text) made is
+check-denotes Hex1 base text made is = hex-right (value_of hex.Hex1 base text) made is
+check-denotes Hex2 base text made is = hex-right (value_of hex.Hex2 base text) made is
+check-denotes M1 base text made is = m1-right text made (expansion_of text) (items_of dialect.Hex2 made) refl refl is
 
-stands-check : (language : Language) (base : ℕ) (text made : List ℕ) → StandsFor language base text made → check language base text made ≡ None
+denotes-check : (language : Language) (base : ℕ) (text made : List ℕ) → Denotes language base text made → check language base text made ≡ None
 unfolding check
-stands-check Hex0 base text made is = right-hex (value_of hex.Hex0 base text) made is
-stands-check Hex1 base text made is = right-hex (value_of hex.Hex1 base text) made is
-stands-check Hex2 base text made is = right-hex (value_of hex.Hex2 base text) made is
-stands-check M1 base text made is = right-m1 text made is
+denotes-check Hex0 base text made is = right-hex (value_of hex.Hex0 base text) made is
+denotes-check Hex1 base text made is = right-hex (value_of hex.Hex1 base text) made is
+denotes-check Hex2 base text made is = right-hex (value_of hex.Hex2 base text) made is
+denotes-check M1 base text made is = right-m1 text made is
 
 -- the text of a source's files
 abbrev files_of : RecipeContents → Contents → Source → List ℕ
@@ -250,7 +251,7 @@ check-source recipe before stage made kept right name named =
       found = has.found;
       language = has.language;
       defined = has.defined;
-      value = check-stands has.language has.source.base (files_of recipe before has.source) made
+      value = check-denotes has.language has.source.base (files_of recipe before has.source) made
           (sym (check-by recipe before stage name has.source has.language made named has.found has.defined) ∙ right);
     }
 
@@ -268,7 +269,7 @@ source-check recipe before stage made of = by_check stage.check refl where
   by_check (Some name) at =
       let is = of name at in
       check-by recipe before stage name is.source is.language made at is.found is.defined
-      ∙ stands-check is.language is.source.base (files_of recipe before is.source) made is.value
+      ∙ denotes-check is.language is.source.base (files_of recipe before is.source) made is.value
 
 -- ---- a stage
 
@@ -307,8 +308,8 @@ true-replayed recipe before stage line made is =
     ((leaves-Decides line is.world).1 (record { stream1 = is.stream1; stream2 = is.stream2; files = is.files }))
     ∙ ap (λ o. check (or_error part.Files (made_as before line o))) is.artefact
     ∙ ap (λ b. check (or_error part.Files (if b then Some made else None)))
-    (and_from (is_mark_of line.made made) (nat_le (size_of before + length made) 1_073_741_824) ((marks-Decides line.made made).1 is.mark)
-    (le-leb (size_of before + length made) 1_073_741_824 is.together))
+    (and_from (is_mark_of line.made made) (nat_le (size_of before + length made) most_artefacts) ((marks-Decides line.made made).1 is.mark)
+    (le-leb (size_of before + length made) most_artefacts is.together))
     ∙ ap (checked_artefact made) (source-check recipe before stage made is.checked)
 
 -- ---- all stages

@@ -5,6 +5,7 @@ use Rattle.ddc_base.specs.Difference.{first_difference}
 use Rattle.ddc_base.specs.Results.{◌>>=◌, or_error}
 use Rattle.ddc_base.specs.declared.languages.Language.{Language}
 use Rattle.ddc_base.specs.declared.languages.Language.TheVariants.{Hex0, Hex1, Hex2, M1}
+use Rattle.ddc_base.specs.Limits.{most_artefacts}
 use Rattle.mem_files.specs.World.{World}
 use Rattle.mem_files.specs.Outputs.{left, out}
 use Rattle.guest_run.specs.State.{GuestState}
@@ -103,7 +104,7 @@ size_of so_far = sum_by length so_far.artefacts
 abbrev pub made_as : Contents → StageLine → Option (List ℕ) → Option (List ℕ)
 made_as so_far line None = None
 made_as so_far line (Some made) =
-    if is_mark_of line.made made && nat_le (size_of so_far + length made) 1_073_741_824 then Some made else None
+    if is_mark_of line.made made && nat_le (size_of so_far + length made) most_artefacts then Some made else None
 
 abbrev pub recorded : Contents → Stage → StageLine → World → Option (List ℕ)
 recorded so_far stage line world = if has_left line world then made_as so_far line (out world (output_of stage.output)) else None

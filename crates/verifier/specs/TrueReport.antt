@@ -5,6 +5,7 @@ use Rattle.sha2.specs.Sha256.{sha256}
 use Rattle.ddc_base.specs.Difference.{IsFirstDifference}
 use Rattle.ddc_base.specs.declared.languages.Language.{Language}
 use Rattle.ddc_base.specs.declared.languages.Language.TheVariants.{Hex0, Hex1, Hex2, M1}
+use Rattle.ddc_base.specs.Limits.{most_artefacts}
 use Rattle.hex_langs.specs.declared.items.item.Item.{Item}
 use Rattle.hex_langs.specs.declared.items.token.Dialect.TheVariants as dialect
 use Rattle.hex_langs.specs.Items.Reading.{items_of}
@@ -60,11 +61,11 @@ pub record HasItems (text made : List ℕ) : Type 0 where
   pub reads : items_of dialect.Hex2 made ≡ Ok items
 
 -- what a text in a language may make at a base address: in hex0, hex1 and hex2 the text's value alone; in M1 any text of hex2 with its items
-abbrev pub StandsFor : Language → ℕ → List ℕ → List ℕ → Type 0
-StandsFor Hex0 base text made = value_of hex.Hex0 base text ≡ Ok made
-StandsFor Hex1 base text made = value_of hex.Hex1 base text ≡ Ok made
-StandsFor Hex2 base text made = value_of hex.Hex2 base text ≡ Ok made
-StandsFor M1 base text made = HasItems text made
+abbrev pub Denotes : Language → ℕ → List ℕ → List ℕ → Type 0
+Denotes Hex0 base text made = value_of hex.Hex0 base text ≡ Ok made
+Denotes Hex1 base text made = value_of hex.Hex1 base text ≡ Ok made
+Denotes Hex2 base text made = value_of hex.Hex2 base text ≡ Ok made
+Denotes M1 base text made = HasItems text made
 
 -- the source that a check names exists and is in a defined language, and its files, joined by an LF, stand for the artefact
 pub record IsOfSource (recipe : RecipeContents) (before : Contents) (name made : List ℕ) : Type 0 where
@@ -72,7 +73,7 @@ pub record IsOfSource (recipe : RecipeContents) (before : Contents) (name made :
   pub found : source_named recipe.sources name ≡ Some source
   pub language : Language
   pub defined : source.lang ≡ Defined language
-  pub value : StandsFor language source.base (joined_files (map (content recipe before) source.files)) made
+  pub value : Denotes language source.base (joined_files (map (content recipe before) source.files)) made
 
 -- a file's line has the file's name, and the length and digest of its content
 pub record IsTrueFile (line : LeftLine) (file : List ℕ × List ℕ) : Type 0 where
@@ -93,7 +94,7 @@ pub record IsTrueStage (recipe : RecipeContents) (before : Contents) (stage : St
   pub files : AllZip IsTrueFile line.left (left world)
   pub artefact : out world (output_of stage.output) ≡ Some made
   pub mark : Marks line.made made
-  pub together : size_of before + length made ≤ 1_073_741_824
+  pub together : size_of before + length made ≤ most_artefacts
   pub language : line.checked ≡ check_language recipe stage
   pub checked : (name : List ℕ) → stage.check ≡ Some name → IsOfSource recipe before name made
 

@@ -61,7 +61,7 @@ CanWantAt recipe so_far stage line Assembled = CanCheck recipe so_far stage line
 CanWantAt recipe so_far stage line part = ⊥
 
 -- a replay is at this part of the stage of this number, from 1: the lines of all stages before it are right
-pub record StandsAtPart (recipe : RecipeContents) (inputs : List (List ℕ)) (lines : List StageLine) (number : ℕ) (part : Part) : Type 0 where
+pub record IsAtPart (recipe : RecipeContents) (inputs : List (List ℕ)) (lines : List StageLine) (number : ℕ) (part : Part) : Type 0 where
   pub some : 1 ≤ number
   pub so_far : Contents
   pub before : AreReplayed recipe (record { inputs = inputs; artefacts = [] }) (take (number - 1) recipe.stages) (take (number - 1) lines) so_far
@@ -75,4 +75,4 @@ pub record StandsAtPart (recipe : RecipeContents) (inputs : List (List ℕ)) (li
 pub record IsReplaying (recipe : RecipeContents) (inputs : List (List ℕ)) (report : Report) (number : ℕ) (part : Part) : Type 0 where
   pub header : is_header recipe report ≡ true
   pub inputs_right : inputs_fault 1 inputs report.inputs ≡ None
-  pub stands : StandsAtPart recipe inputs report.stages number part
+  pub denotes : IsAtPart recipe inputs report.stages number part

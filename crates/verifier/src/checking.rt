@@ -1,13 +1,14 @@
 //! Whether an artefact is what its source stands for.
 
 ghost use Rattle.hex_langs.specs.Items.Reading.{ReadsItems, items_of};
+ghost use Rattle.ddc_base.specs.Limits.{most_address};
 ghost use Rattle.hex_langs.specs.declared.items.item.Item.{Item as RowItem};
 ghost use Rattle.hex_langs.specs.declared.items.reader.HexRefusal.{HexRefusal as Refusal};
 ghost use Rattle.hex_langs.specs.declared.items.token.Dialect.TheVariants as dialect;
 ghost use Rattle.hex_langs.specs.Link.Link.{Links};
 ghost use Rattle.hex_langs.specs.Link.Values.{linked};
 ghost use Rattle.audit_rules.specs.SourceCheck.Checks.{check, checked, first_other_item, hex_value, items_against, joined_files, same_item};
-ghost use Rattle.std.specs.Prelude.{◌≡◌, ◌≤◌, ◌^◌, is_none, ℕ, List, Result, IfOk};
+ghost use Rattle.std.specs.Prelude.{◌≡◌, ◌≤◌, is_none, ℕ, List, Result, IfOk};
 ghost use Rattle.verifier.specs.Inside.Holdings.{IsHeld, so_far};
 ghost use Rattle.verifier.specs.Inside.Refusing.{RefusesHex, RefusesM1};
 ghost use Rattle.audit_rules.specs.Contents.{check_of, text_of};
@@ -55,7 +56,7 @@ fn gives_text(
     language: Language,
     made: &[u8],
 ) -> Result<bool, OutOfMemory>
-    requires { source.now.base ≤ 2 ^ 37 }
+    requires { source.now.base ≤ most_address }
     ensures { IfOk result (λ right. right ≡ is_none (check language source.now.base (joined_files (text_of held.now.recipe.now (so_far held.now) source.now).files) made.now)) }
 {
     if let [only] = source.files.as_slice() {
@@ -90,7 +91,7 @@ fn gives(
     source: &[u8],
     made: &[u8],
 ) -> Result<bool, OutOfMemory>
-    requires { base ≤ 2 ^ 37 }
+    requires { base ≤ most_address }
     ensures { IfOk result (λ right. right ≡ is_none (check language base source.now made.now)) }
 {
     match language {
@@ -111,7 +112,7 @@ fn links_to(
     base: u64,
     made: &[u8],
 ) -> Result<bool, OutOfMemory>
-    requires { base ≤ 2 ^ 37 }
+    requires { base ≤ most_address }
     ensures { (meant : Result (List RowItem) Refusal) → ReadsItems meant items.entry → IfOk result (λ right. right ≡ is_none (checked (hex_value (linked base meant)) made.now)) }
 {
     match items {

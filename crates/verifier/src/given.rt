@@ -1,6 +1,6 @@
 //! The execution context of a stage's program.
 
-ghost use Rattle.mem_files.specs.Limits.{most_content, most_names};
+ghost use Rattle.ddc_base.specs.Limits.{most_content, most_names};
 ghost use Rattle.mem_files.specs.Names.{is_stripped_name};
 ghost use Rattle.std.specs.FinMap as map;
 ghost use Rattle.std.specs.List.{fold};

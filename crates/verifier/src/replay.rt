@@ -4,8 +4,9 @@ ghost use Rattle.guest_run.specs.Run.{end_at};
 ghost use Rattle.guest_run.specs.Start.{start_of};
 ghost use Rattle.mem_files.specs.Outputs.{out};
 ghost use Rattle.std.specs.Option.{option_copied};
-ghost use Rattle.std.specs.Prelude.{◌≡◌, ◌+◌, ◌≤◌, ◌^◌, Contains, IfOk};
+ghost use Rattle.std.specs.Prelude.{◌≡◌, ◌+◌, ◌≤◌, Contains, IfOk};
 ghost use Rattle.ddc_base.specs.Results.{or_error};
+ghost use Rattle.ddc_base.specs.Limits.{most_steps};
 ghost use Rattle.verifier.specs.Faults.{checked_artefact, exit_of, left_at, recorded, replayed, size_of};
 ghost use Rattle.verifier.specs.Inside.Holdings.{IsHeld, IsOutputName, IsRecorded, Judged, OnStopWant, judged_left, so_far};
 ghost use Rattle.verifier.specs.declared.part.Part.TheVariants as part;
@@ -19,7 +20,7 @@ use crate::held::Held;
 use crate::left::has_left;
 use crate::part::Part;
 use crate::stop::JudgingStop;
-use audit_rules::MAX_ARTEFACTS;
+use ddc_base::limits::MOST_ARTEFACTS;
 use ddc_base::{Bytes, OutOfMemory};
 use elf_load::read_image;
 use guest_run::{Guest, RunEnd, RunRam, StartRefusal};
@@ -47,7 +48,7 @@ pub(crate) fn replay(
     requires held { IsHeld held.now }
     requires known { Contains held.now.recipe.now.stages reported.now.stage.now }
     requires total { total ≡ size_of (so_far held.now) }
-    requires small { total ≤ MAX_ARTEFACTS }
+    requires small { total ≤ MOST_ARTEFACTS }
     ensures value { Judged (λ made. made) (replayed held.now.recipe.now (so_far held.now) reported.now.stage.now reported.now.line.now) result }
     ensures memory { OnStopWant result (CanWantAt held.now.recipe.now (so_far held.now) reported.now.stage.now reported.now.line.now) }
 {
@@ -66,7 +67,7 @@ fn left(
     requires held { IsHeld held.now }
     requires known { Contains held.now.recipe.now.stages reported.now.stage.now }
     requires total { total ≡ size_of (so_far held.now) }
-    requires small { total ≤ MAX_ARTEFACTS }
+    requires small { total ≤ MOST_ARTEFACTS }
     ensures value { Judged (λ made. made) (judged_left held.now.recipe.now (so_far held.now) reported.now.stage.now reported.now.line.now files.now) result }
     ensures memory { OnStopWant result (λ p. (p ≡ part.Assembled) × IsRecorded (so_far held.now) reported.now.stage.now reported.now.line.now files.now) }
 {
@@ -135,7 +136,7 @@ fn exited(
 fn run_out(guest: Guest<RunRam>, step: u64) -> Result<Guest<RunRam>, JudgingStop>
     requires fresh { guest.steps ≡ 0 }
     requires some { 1 ≤ step }
-    requires few { step ≤ 2 ^ 48 }
+    requires few { step ≤ most_steps }
     ensures value { Judged (λ guest. guest.world) (or_error part.Run (exit_of (end_at guest step))) result }
     ensures memory { OnStopWant result (λ p. p ≡ part.Run) }
 {
@@ -148,7 +149,7 @@ fn run_out(guest: Guest<RunRam>, step: u64) -> Result<Guest<RunRam>, JudgingStop
 fn run_to(guest: &mut Guest<RunRam>, step: u64) -> Result<(), JudgingStop>
     requires fresh { guest.old.steps ≡ 0 }
     requires some { 1 ≤ step }
-    requires few { step ≤ 2 ^ 48 }
+    requires few { step ≤ most_steps }
     ensures value { Judged (λ _. guest.new.world) (or_error part.Run (exit_of (end_at guest.old step))) result }
     ensures memory { OnStopWant result (λ p. p ≡ part.Run) }
 {
@@ -172,14 +173,14 @@ fn run_to(guest: &mut Guest<RunRam>, step: u64) -> Result<(), JudgingStop>
 /// The artefact left by a run; `None` if what was left is not as the line says or the artefacts together exceed their limit.
 fn recorded<'f>(reported: &ReportedStage<'_>, total: u64, files: &'f Files) -> Option<&'f [u8]>
     requires named { IsOutputName reported.now.stage.now.output }
-    requires small { total ≤ MAX_ARTEFACTS }
+    requires small { total ≤ MOST_ARTEFACTS }
     ensures { (so_far : Contents) → total ≡ size_of so_far → option_copied result ≡ recorded so_far reported.now.stage.now reported.now.line.now files.now }
 {
     if !has_left(reported.line, files) {
         return None;
     }
     let made = artefact(&reported.stage.output, files)?;
-    if reported.line.made.is_of(made) && total + made.len() as u64 <= MAX_ARTEFACTS {
+    if reported.line.made.is_of(made) && total + made.len() as u64 <= MOST_ARTEFACTS {
         Some(made)
     } else {
         None

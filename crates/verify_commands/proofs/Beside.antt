@@ -3,6 +3,7 @@ use Rattle.std.proofs.Common.{◌≡◌, ℕ, ◌-◌, Bool, true, false, if◌t
 use Rattle.ddc_base.specs.declared.outside.Loaded.{Loaded}
 use Rattle.ddc_base.specs.declared.outside.Loaded.TheVariants.{Bytes, Absent, TooLong}
 use Rattle.ddc_base.specs.Outside.{NamedFiles, loaded}
+use Rattle.ddc_base.specs.Limits.{most_content, most_inputs, most_recipe, most_report}
 use Rattle.recipe.specs.declared.contents.RecipeContents.{RecipeContents}
 use Rattle.recipe.specs.Reading.{recipe_of}
 use Rattle.report.specs.declared.types.Report.{Report}
@@ -50,53 +51,53 @@ module _ (files : NamedFiles) where
   reading (Ok value) refuse one other stays each = each value
   reading (Err refusal) refuse one other stays each = stays refusal
 
-  loads : (most room : ℕ) (names : List (List ℕ)) (one other : List (List ℕ) → Plan) → ((contents : List (List ℕ)) → Beside (one contents) (other contents) files)
-      → Beside (needs_all most room names one) (needs_all most room names other) files
-  loads most room [] one other each = each []
-  loads most room (name ∷ names) one other each =
-      load name (min most room) (λ content. needs_all most (room - length content) names (λ contents. one (content ∷ contents)))
-      (λ content. needs_all most (room - length content) names (λ contents. other (content ∷ contents)))
-      (λ content. loads most (room - length content) names (λ contents. one (content ∷ contents)) (λ contents. other (content ∷ contents)) (λ contents. each (content ∷ contents)))
+  loads : (most budget : ℕ) (names : List (List ℕ)) (one other : List (List ℕ) → Plan) → ((contents : List (List ℕ)) → Beside (one contents) (other contents) files)
+      → Beside (needs_all most budget names one) (needs_all most budget names other) files
+  loads most budget [] one other each = each []
+  loads most budget (name ∷ names) one other each =
+      load name (min most budget) (λ content. needs_all most (budget - length content) names (λ contents. one (content ∷ contents)))
+      (λ content. needs_all most (budget - length content) names (λ contents. other (content ∷ contents)))
+      (λ content. loads most (budget - length content) names (λ contents. one (content ∷ contents)) (λ contents. other (content ∷ contents)) (λ contents. each (content ∷ contents)))
 
-  told-beside : (said : RecipeContents) (inputs : List (List ℕ)) (made : Report) → Beside (judged_by Provenance said inputs made) (judged_by Assumptions said inputs made) files
-  told-beside said inputs made = by (first_fault said inputs made) where
-    by : (fault : Option (Part × ℕ)) → Beside (judged_with (explained Provenance said made) made.compare fault) (judged_with (explained Assumptions said made) made.compare fault) files
+  told-beside : (parsed : RecipeContents) (inputs : List (List ℕ)) (made : Report) → Beside (judged_by Provenance parsed inputs made) (judged_by Assumptions parsed inputs made) files
+  told-beside parsed inputs made = by (first_fault parsed inputs made) where
+    by : (fault : Option (Part × ℕ)) → Beside (judged_with (explained Provenance parsed inputs made) made.compare fault) (judged_with (explained Assumptions parsed inputs made) made.compare fault) files
     by None = record { status = refl; kept = refl; loads = λ found. found }
     by (Some (part, place)) = record { status = refl; kept = refl; loads = λ found. found }
 
-  after-apart : (said : RecipeContents) (report : List ℕ)
-      → Beside (needs_apart said report (λ _. needs_report report (λ made. needs_inputs said (λ inputs. judged_by Provenance said inputs made))))
-      (needs_apart said report (λ _. needs_report report (λ made. needs_inputs said (λ inputs. judged_by Assumptions said inputs made)))) files
+  after-apart : (parsed : RecipeContents) (report : List ℕ)
+      → Beside (needs_apart parsed report (λ _. needs_report report (λ made. needs_inputs parsed (λ inputs. judged_by Provenance parsed inputs made))))
+      (needs_apart parsed report (λ _. needs_report report (λ made. needs_inputs parsed (λ inputs. judged_by Assumptions parsed inputs made)))) files
   unfolding needs_apart
-  after-apart said report = by (is_input said report) where
+  after-apart parsed report = by (is_input parsed report) where
     one : Plan
-    one = needs_report report (λ made. needs_inputs said (λ inputs. judged_by Provenance said inputs made))
+    one = needs_report report (λ made. needs_inputs parsed (λ inputs. judged_by Provenance parsed inputs made))
 
     other : Plan
-    other = needs_report report (λ made. needs_inputs said (λ inputs. judged_by Assumptions said inputs made))
+    other = needs_report report (λ made. needs_inputs parsed (λ inputs. judged_by Assumptions parsed inputs made))
 
     by : (b : Bool) → Beside (if b then usage else one) (if b then usage else other) files
     by true = record { status = refl; kept = refl; loads = λ found. found }
     by false =
-        load report 1_073_741_824
-        (λ bytes. unless_refused (report_of bytes) (λ number. answers ReportRefused (report_line number)) (λ made. needs_inputs said (λ inputs. judged_by Provenance said inputs made)))
-        (λ bytes. unless_refused (report_of bytes) (λ number. answers ReportRefused (report_line number)) (λ made. needs_inputs said (λ inputs. judged_by Assumptions said inputs made)))
-        (λ bytes. reading (report_of bytes) (λ number. answers ReportRefused (report_line number)) (λ made. needs_inputs said (λ inputs. judged_by Provenance said inputs made))
-        (λ made. needs_inputs said (λ inputs. judged_by Assumptions said inputs made)) (λ number. record { status = refl; kept = refl; loads = λ found. found })
-        (λ made. loads 268_435_456 1_073_741_824 (paths said) (λ inputs. judged_by Provenance said inputs made) (λ inputs. judged_by Assumptions said inputs made) (λ inputs. told-beside said inputs made)))
+        load report most_report
+        (λ bytes. unless_refused (report_of bytes) (λ number. answers ReportRefused (report_line number)) (λ made. needs_inputs parsed (λ inputs. judged_by Provenance parsed inputs made)))
+        (λ bytes. unless_refused (report_of bytes) (λ number. answers ReportRefused (report_line number)) (λ made. needs_inputs parsed (λ inputs. judged_by Assumptions parsed inputs made)))
+        (λ bytes. reading (report_of bytes) (λ number. answers ReportRefused (report_line number)) (λ made. needs_inputs parsed (λ inputs. judged_by Provenance parsed inputs made))
+        (λ made. needs_inputs parsed (λ inputs. judged_by Assumptions parsed inputs made)) (λ number. record { status = refl; kept = refl; loads = λ found. found })
+        (λ made. loads most_content most_inputs (paths parsed) (λ inputs. judged_by Provenance parsed inputs made) (λ inputs. judged_by Assumptions parsed inputs made) (λ inputs. told-beside parsed inputs made)))
 
   files-beside : (recipe report : List ℕ) → Beside (judge_files Provenance recipe report) (judge_files Assumptions recipe report) files
   unfolding judge_files
   files-beside recipe report =
-      load recipe 1_048_576
+      load recipe most_recipe
       (λ bytes. unless_refused (recipe_of bytes) (λ refusal. answers RecipeRefused (recipe_line refusal))
-      (λ said. needs_apart said report (λ _. needs_report report (λ made. needs_inputs said (λ inputs. judged_by Provenance said inputs made)))))
+      (λ parsed. needs_apart parsed report (λ _. needs_report report (λ made. needs_inputs parsed (λ inputs. judged_by Provenance parsed inputs made)))))
       (λ bytes. unless_refused (recipe_of bytes) (λ refusal. answers RecipeRefused (recipe_line refusal))
-      (λ said. needs_apart said report (λ _. needs_report report (λ made. needs_inputs said (λ inputs. judged_by Assumptions said inputs made)))))
+      (λ parsed. needs_apart parsed report (λ _. needs_report report (λ made. needs_inputs parsed (λ inputs. judged_by Assumptions parsed inputs made)))))
       (λ bytes. reading (recipe_of bytes) (λ refusal. answers RecipeRefused (recipe_line refusal))
-      (λ said. needs_apart said report (λ _. needs_report report (λ made. needs_inputs said (λ inputs. judged_by Provenance said inputs made))))
-      (λ said. needs_apart said report (λ _. needs_report report (λ made. needs_inputs said (λ inputs. judged_by Assumptions said inputs made))))
-      (λ refusal. record { status = refl; kept = refl; loads = λ found. found }) (λ said. after-apart said report))
+      (λ parsed. needs_apart parsed report (λ _. needs_report report (λ made. needs_inputs parsed (λ inputs. judged_by Provenance parsed inputs made))))
+      (λ parsed. needs_apart parsed report (λ _. needs_report report (λ made. needs_inputs parsed (λ inputs. judged_by Assumptions parsed inputs made))))
+      (λ refusal. record { status = refl; kept = refl; loads = λ found. found }) (λ parsed. after-apart parsed report))
 
   by-words : (recipe report : List ℕ) (b : Bool) → Beside (if b then judge_files Provenance recipe report else usage) (if b then judge_files Assumptions recipe report else usage) files
   by-words recipe report true = files-beside recipe report

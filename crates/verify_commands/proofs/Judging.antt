@@ -16,13 +16,13 @@ use Rattle.verify_commands.specs.Verify.{judged_with}
 module _ (text : List ℕ) (lines : List CompareLine) (result : Result Answer Stop) where
   -- no fault is told as a yes, or as a difference
   pub no_fault_equal : (fault : Option (Part × ℕ)) → Judges fault lines verdict.Yes → Says (judged_with text lines None) result → Says (judged_with text lines fault) result
-  no_fault_equal None is said = said
-  no_fault_equal (Some (part, place)) is said = absurd cc
+  no_fault_equal None is answered = answered
+  no_fault_equal (Some (part, place)) is answered = absurd cc
 
   pub no_fault_differs : (fault : Option (Part × ℕ)) → Judges fault lines verdict.TrueButDiffers → Says (judged_with text lines None) result
       → Says (judged_with text lines fault) result
-  no_fault_differs None is said = said
-  no_fault_differs (Some (part, place)) is said = absurd cc
+  no_fault_differs None is answered = answered
+  no_fault_differs (Some (part, place)) is answered = absurd cc
 
   never_true : (b : Bool) (part : Part) (place : ℕ) → verdict.Refuted part place ≡ (if b then verdict.Yes else verdict.TrueButDiffers) → ⊥
   never_true true part place is = cc
@@ -30,8 +30,8 @@ module _ (text : List ℕ) (lines : List CompareLine) (result : Result Answer St
 
   pub fault : (found : Option (Part × ℕ)) (part : Part) (place : ℕ) → Judges found lines (verdict.Refuted part place)
       → Says (answers Refuted (refuted_line part place)) result → Says (judged_with text lines found) result
-  fault None part place is said = absurd (never_true (all_equal lines) part place is)
-  fault (Some (first, at)) part place is said =
+  fault None part place is answered = absurd (never_true (all_equal lines) part place is)
+  fault (Some (first, at)) part place is answered =
       let part_is : part ≡ first = cc in
       let place_is : place ≡ at = cc in
-      subst (λ p. Says (answers Refuted (refuted_line p at)) result) part_is (subst (λ n. Says (answers Refuted (refuted_line part n)) result) place_is said)
+      subst (λ p. Says (answers Refuted (refuted_line p at)) result) part_is (subst (λ n. Says (answers Refuted (refuted_line part n)) result) place_is answered)

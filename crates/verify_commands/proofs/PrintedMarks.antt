@@ -29,9 +29,9 @@ use Rattle.audit_chain.proofs.OriginLemmas.Marked.{content-held, held, mark-held
 use Rattle.verify_commands.specs.Provenance.{believed_text, marked_line, marked_text, met_text, origin_text, mark_words_of}
 
 -- what stands after an equal front
-cancel : (front x y : List ℕ) → front ++ x ≡ front ++ y → x ≡ y
+cancel : (prefix x y : List ℕ) → prefix ++ x ≡ prefix ++ y → x ≡ y
 cancel [] x y is = is
-cancel (byte ∷ front) x y is = cancel front x y (ap rest is) where
+cancel (byte ∷ prefix) x y is = cancel prefix x y (ap rest is) where
   rest : List ℕ → List ℕ
   rest [] = []
   rest (b ∷ bs) = bs
@@ -99,25 +99,26 @@ module _ (recipe : RecipeContents) (report other : Report) (mine : (name : List 
       (All-cons (SameMark recipe report other) name names first.0 rest.0, rest.1)
 
   -- what stands from each kind of line on
-  abbrev rest_of : Report → List ℕ → List ℕ
-  rest_of r name = believed_text recipe r name ++ met_text recipe r name
+  abbrev rest_of : List (List ℕ) → Report → List ℕ → List ℕ
+  rest_of i r name = believed_text recipe i r name ++ met_text recipe r name
 
-  abbrev from_layout : Report → List ℕ → List ℕ
-  from_layout r name = marked_text recipe r (codes "layout") (layouts recipe name) ++ rest_of r name
+  abbrev from_layout : List (List ℕ) → Report → List ℕ → List ℕ
+  from_layout i r name = marked_text recipe r (codes "layout") (layouts recipe name) ++ rest_of i r name
 
-  abbrev from_program : Report → List ℕ → List ℕ
-  from_program r name = marked_text recipe r (codes "program") (programs recipe name) ++ from_layout r name
+  abbrev from_program : List (List ℕ) → Report → List ℕ → List ℕ
+  from_program i r name = marked_text recipe r (codes "program") (programs recipe name) ++ from_layout i r name
 
-  pub peel-text : (name : List ℕ) → origin_text recipe report name ≡ origin_text recipe other name → SameMarks recipe report other name
+  pub peel-text : (inputs others : List (List ℕ)) (name : List ℕ) → origin_text recipe inputs report name ≡ origin_text recipe others other name
+      → SameMarks recipe report other name
   unfolding origin_text
-  peel-text name printed =
-      let parts : (r : Report) → origin_text recipe r name ≡ marked_text recipe r (codes "text") (texts recipe name) ++ from_program r name =
-      λ r. one-by-one (marked_text recipe r (codes "text") (texts recipe name)) (marked_text recipe r (codes "program") (programs recipe name))
-      (marked_text recipe r (codes "layout") (layouts recipe name)) (rest_of r name) in
-      let is = sym (parts report) ∙ printed ∙ parts other in
-      let one = peel-lines (codes "text") (texts recipe name) (from_program report name) (from_program other name) is in
-      let two = peel-lines (codes "program") (programs recipe name) (from_layout report name) (from_layout other name) one.1 in
-      let three = peel-lines (codes "layout") (layouts recipe name) (rest_of report name) (rest_of other name) two.1 in
+  peel-text inputs others name printed =
+      let parts : (i : List (List ℕ)) (r : Report) → origin_text recipe i r name ≡ marked_text recipe r (codes "text") (texts recipe name) ++ from_program i r name =
+      λ i r. one-by-one (marked_text recipe r (codes "text") (texts recipe name)) (marked_text recipe r (codes "program") (programs recipe name))
+      (marked_text recipe r (codes "layout") (layouts recipe name)) (rest_of i r name) in
+      let is = sym (parts inputs report) ∙ printed ∙ parts others other in
+      let one = peel-lines (codes "text") (texts recipe name) (from_program inputs report name) (from_program others other name) is in
+      let two = peel-lines (codes "program") (programs recipe name) (from_layout inputs report name) (from_layout others other name) one.1 in
+      let three = peel-lines (codes "layout") (layouts recipe name) (rest_of inputs report name) (rest_of others other name) two.1 in
       record { read = one.0; run = two.0; laid = three.0 }
 
 -- what is held is short, so that its mark is one
@@ -135,6 +136,6 @@ has-mark recipe inputs report ok given is name =
 
 pub printed-marks : (recipe : RecipeContents) (inputs others : List (List ℕ)) (report other : Report) → IsRecipe recipe → IsInputs recipe inputs → IsInputs recipe others
     → bench recipe inputs ≡ Completes report → bench recipe others ≡ Completes other → (name : List ℕ)
-    → origin_text recipe report name ≡ origin_text recipe other name → SameMarks recipe report other name
+    → origin_text recipe inputs report name ≡ origin_text recipe others other name → SameMarks recipe report other name
 printed-marks recipe inputs others report other ok one two is was name printed =
-    peel-text recipe report other (has-mark recipe inputs report ok one is) (has-mark recipe others other ok two was) name printed
+    peel-text recipe report other (has-mark recipe inputs report ok one is) (has-mark recipe others other ok two was) inputs others name printed

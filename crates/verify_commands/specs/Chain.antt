@@ -2,6 +2,7 @@
 -- docs/reference/command-line.md and docs/reference/chain.md say the same for people.
 use Rattle.std.specs.Prelude.{ℕ, ◌+◌, ◌-◌, ◌==◌, Bool, Option, None, Some, List, [], ◌∷◌, ◌++◌, length, sum_by, if◌then◌else◌}
 use Rattle.std.specs.List.{before_first, after_first}
+use Rattle.ddc_base.specs.Limits.{most_audits, most_inputs}
 use Rattle.report.specs.declared.types.CompareLine.{CompareLine}
 use Rattle.audit_rules.specs.Bench.{all_equal}
 use Rattle.verifier.specs.declared.part.Part.{Part}
@@ -38,41 +39,41 @@ unfoldable pub needs_two_files : Pair → (Unit {0} → Plan) → Plan
 needs_two_files pair next = if is_one_file pair.recipe pair.report then usage else next tt
 
 -- Continues where the report has no fault and all its comparisons are equal. Otherwise answers with the comparisons, or with the first
--- false part, after `front`
+-- false part, after `prefix`
 unfoldable pub needs_true : List ℕ → List CompareLine → Option (Part × ℕ) → (Unit {0} → Plan) → Plan
-needs_true front lines None next = if all_equal lines then next tt else answers Differs (front ++ compared_lines lines)
-needs_true front lines (Some (part, place)) next = answers Refuted (front ++ refuted_line part place)
+needs_true prefix lines None next = if all_equal lines then next tt else answers Differs (prefix ++ compared_lines lines)
+needs_true prefix lines (Some (part, place)) next = answers Refuted (prefix ++ refuted_line part place)
 
--- As `verify`: loads the recipe, checks that the report is not an input, loads the report and the inputs, of at most `room` bytes together,
+-- As `verify`: loads the recipe, checks that the report is not an input, loads the report and the inputs, of at most `budget` bytes together,
 -- and judges the report
 unfoldable pub needs_audit : ℕ → ℕ → Pair → (Link → Plan) → Plan
-needs_audit number room pair next =
+needs_audit number budget pair next =
     needs_two_files pair (λ _.
-    needs_recipe_after (audit_line number) pair.recipe (λ said.
-    needs_apart said pair.report (λ _.
+    needs_recipe_after (audit_line number) pair.recipe (λ parsed.
+    needs_apart parsed pair.report (λ _.
     needs_report_after (audit_line number) pair.report (λ made.
-    needs_inputs_within room said (λ inputs.
-    needs_true (audit_line number) made.compare (first_fault said inputs made) (λ _. next (record { recipe = said; inputs = inputs })))))))
+    needs_inputs_within budget parsed (λ inputs.
+    needs_true (audit_line number) made.compare (first_fault parsed inputs made) (λ _. next (record { recipe = parsed; inputs = inputs })))))))
 
 -- ---- all of them
 
 -- the number of bytes that are left for the inputs of later audits
-abbrev pub room_after : ℕ → List (List ℕ) → ℕ
-room_after room inputs = room - sum_by length inputs
+abbrev pub budget_after : ℕ → List (List ℕ) → ℕ
+budget_after budget inputs = budget - sum_by length inputs
 
 -- verifies the audits of these lines, after those that are verified
 abbrev pub chained : List Link → ℕ → List Pair → Plan
-chained links room [] = answers Yes (chain_text links)
-chained links room (pair ∷ pairs) = needs_audit (length links + 1) room pair (λ link. chained (links ++ link ∷ []) (room_after room link.inputs) pairs)
+chained links budget [] = answers Yes (chain_text links)
+chained links budget (pair ∷ pairs) = needs_audit (length links + 1) budget pair (λ link. chained (links ++ link ∷ []) (budget_after budget link.inputs) pairs)
 
 -- there must be a line; the inputs of all audits have at most 1,073,741,824 bytes together
 unfoldable pub chained_lines : List Pair → Plan
 chained_lines [] = answers ListRefused (list_line 1)
-chained_lines (pair ∷ pairs) = chained [] 1_073_741_824 (pair ∷ pairs)
+chained_lines (pair ∷ pairs) = chained [] most_inputs (pair ∷ pairs)
 
 -- loads the list, of at most 64 lines, and verifies its audits in order
 unfoldable pub chain_files : List ℕ → Plan
-chain_files list = needs_list pair_of 64 list chained_lines
+chain_files list = needs_list pair_of most_audits list chained_lines
 
 -- the plan for the words after `chain`
 abbrev pub chain_plan : List (List ℕ) → Plan

@@ -1,5 +1,5 @@
 -- What `provenance RECIPE REPORT` prints of a true report: the recipe's digest, and for each compared stage its comparison and the
--- dependencies of its artefact, by name, length and digest. The text is a function of the recipe and the report alone.
+-- dependencies of its artefact, by name, length and digest. The text is a function of the recipe, its inputs and the report.
 -- docs/reference/provenance.md says the same for people.
 use Rattle.std.specs.Prelude.{ℕ, Option, Some, None, List, [], ◌∷◌, ◌++◌, bytes_eq, codes, decimal, flat_map, if◌then◌else◌}
 use Rattle.std.specs.List.{list_any}
@@ -21,7 +21,8 @@ use Rattle.audit_chain.specs.declared.origin.meeting.Meeting.TheVariants.{Read, 
 use Rattle.audit_chain.specs.Provenance.{audited_met, mark_named, names_source, programs, same_artefacts}
 use Rattle.audit_chain.specs.Rests.Basis.{layouts, lines, own_layout, ran, texts}
 use Rattle.verify_commands.specs.Rests.{names_text}
-use Rattle.verify_commands.specs.Texts.{assumption_line, headline}
+use Rattle.audit_chain.specs.Settled.{is_settled_line}
+use Rattle.verify_commands.specs.Texts.{assumption_line, headline, holds_line}
 
 -- a length and a digest; a true report has both for every name
 abbrev pub mark_words_of : Option Mark → List (List ℕ)
@@ -70,13 +71,17 @@ settling_text recipe report name =
     ++ marked_text recipe report (codes "program") (programs recipe name)
     ++ marked_text recipe report (codes "layout") (layouts recipe name)
 
+-- an assumption that lengths and digests settle holds; any other is printed as an assumption
+unfoldable pub settled_line : RecipeContents → List (List ℕ) → Report → Assumption → List ℕ
+settled_line recipe inputs report assumed = if is_settled_line recipe inputs report assumed then holds_line assumed else assumption_line assumed
+
 -- the compared stage itself, if its check leaves its layout free; the unchecked stages; the assumptions about programs; and the files of
 -- the sources that these assumptions name
-abbrev pub believed_text : RecipeContents → Report → List ℕ → List ℕ
-believed_text recipe report name =
+abbrev pub believed_text : RecipeContents → List (List ℕ) → Report → List ℕ → List ℕ
+believed_text recipe inputs report name =
     names_text (codes "layout") (own_layout recipe name)
     ++ flat_map (run_line recipe report name) (ran recipe name)
-    ++ flat_map assumption_line (lines recipe name)
+    ++ flat_map (settled_line recipe inputs report) (lines recipe name)
     ++ flat_map (source_text recipe report (lines recipe name)) recipe.sources
 
 -- where the audited binary itself is among the dependencies: as an input, or as an earlier artefact
@@ -87,17 +92,17 @@ met_text recipe report name =
     ++ names_text (codes "same read") (same_artefacts recipe report Read name)
     ++ names_text (codes "same run") (same_artefacts recipe report Run name)
 
-unfoldable pub origin_text : RecipeContents → Report → List ℕ → List ℕ
-origin_text recipe report name = settling_text recipe report name ++ (believed_text recipe report name ++ met_text recipe report name)
+unfoldable pub origin_text : RecipeContents → List (List ℕ) → Report → List ℕ → List ℕ
+origin_text recipe inputs report name = settling_text recipe report name ++ (believed_text recipe inputs report name ++ met_text recipe report name)
 
 -- the lines of a compared stage
-unfoldable pub block_text : RecipeContents → Report → CompareLine → List ℕ
-block_text recipe report compare =
-    compared_by recipe report compare.stage compare.binary compare.result ++ origin_text recipe report compare.stage
+unfoldable pub block_text : RecipeContents → List (List ℕ) → Report → CompareLine → List ℕ
+block_text recipe inputs report compare =
+    compared_by recipe report compare.stage compare.binary compare.result ++ origin_text recipe inputs report compare.stage
 
 -- the line of the recipe's file, by its SHA-256 digest
 unfoldable pub recipe_digest_line : RecipeContents → List ℕ
 recipe_digest_line recipe = line (codes "recipe" ∷ encode_lower recipe.digest.0 ∷ [])
 
-abbrev pub provenance_text : RecipeContents → Report → List ℕ
-provenance_text recipe report = headline report.compare ++ recipe_digest_line recipe ++ flat_map (block_text recipe report) report.compare
+abbrev pub provenance_text : RecipeContents → List (List ℕ) → Report → List ℕ
+provenance_text recipe inputs report = headline report.compare ++ recipe_digest_line recipe ++ flat_map (block_text recipe inputs report) report.compare

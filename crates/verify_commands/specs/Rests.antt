@@ -34,7 +34,7 @@ rested recipe word = or_usage (stage_named recipe.stages word) (λ (stage : Stag
 
 -- loads the recipe and nothing else
 unfoldable pub rests_files : List ℕ → List ℕ → Plan
-rests_files recipe stage = needs_recipe recipe (λ said. rested said stage)
+rests_files recipe stage = needs_recipe recipe (λ parsed. rested parsed stage)
 
 -- the plan for the words after `rests`: RECIPE is a file name, and STAGE has no zero byte
 abbrev pub rests_plan : List (List ℕ) → Plan

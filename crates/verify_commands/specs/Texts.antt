@@ -28,6 +28,11 @@ unfoldable pub assumption_line : Assumption → List ℕ
 assumption_line (Implements made source) = line (codes "assumes" ∷ codes "implements" ∷ made ∷ source ∷ [])
 assumption_line (Compiles source stage becomes) = line (codes "assumes" ∷ codes "compiles" ∷ source ∷ stage ∷ becomes ∷ [])
 
+-- an assumption that holds
+unfoldable pub holds_line : Assumption → List ℕ
+holds_line (Implements made source) = line (codes "holds" ∷ codes "implements" ∷ made ∷ source ∷ [])
+holds_line (Compiles source stage becomes) = line (codes "holds" ∷ codes "compiles" ∷ source ∷ stage ∷ becomes ∷ [])
+
 -- a route: its compared stage, and then exactly the lines of the assumptions for that stage
 unfoldable pub route_line : List ℕ → List ℕ
 route_line stage = line (codes "route" ∷ stage ∷ [])

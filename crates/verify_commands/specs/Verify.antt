@@ -18,9 +18,9 @@ use Rattle.verify_commands.specs.Provenance.{provenance_text}
 use Rattle.verify_commands.specs.Texts.{refuted_line, true_text}
 
 -- the text for a report without a fault: its comparisons with the assumptions, or with the dependencies of each artefact
-abbrev pub explained : Explanation → RecipeContents → Report → List ℕ
-explained Assumptions recipe report = true_text recipe report.compare
-explained Provenance recipe report = provenance_text recipe report
+abbrev pub explained : Explanation → RecipeContents → List (List ℕ) → Report → List ℕ
+explained Assumptions recipe inputs report = true_text recipe report.compare
+explained Provenance recipe inputs report = provenance_text recipe inputs report
 
 -- a report without a fault is true and is answered with this text; for any other report the answer has the first false part
 abbrev pub judged_with : List ℕ → List CompareLine → Option (Part × ℕ) → Plan
@@ -28,16 +28,16 @@ judged_with text lines None = answers (compared_status lines) text
 judged_with text lines (Some (part, place)) = answers Refuted (refuted_line part place)
 
 abbrev pub judged_by : Explanation → RecipeContents → List (List ℕ) → Report → Plan
-judged_by explanation recipe inputs report = judged_with (explained explanation recipe report) report.compare (first_fault recipe inputs report)
+judged_by explanation recipe inputs report = judged_with (explained explanation recipe inputs report) report.compare (first_fault recipe inputs report)
 
 -- loads the recipe, checks that the report is not an input, loads the report and the inputs, and judges the report
 unfoldable pub judge_files : Explanation → List ℕ → List ℕ → Plan
 judge_files explanation recipe report =
-    needs_recipe recipe (λ said.
-    needs_apart said report (λ _.
+    needs_recipe recipe (λ parsed.
+    needs_apart parsed report (λ _.
     needs_report report (λ made.
-    needs_inputs said (λ inputs.
-    judged_by explanation said inputs made))))
+    needs_inputs parsed (λ inputs.
+    judged_by explanation parsed inputs made))))
 
 -- the plan for the words after `verify`, and after `provenance`
 abbrev pub judge_plan : Explanation → List (List ℕ) → Plan

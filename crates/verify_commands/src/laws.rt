@@ -25,7 +25,7 @@ pub fn what_is_printed_settles_it()
     ensures { (recipe : RecipeContents) (inputs others : List (List ℕ)) (report other : Report) (name : List ℕ) (stage : Stage)
         → IsRecipe recipe → IsInputs recipe inputs → IsInputs recipe others
         → bench recipe inputs ≡ Completes report → bench recipe others ≡ Completes other
-        → stage_named recipe.stages name ≡ Some stage → origin_text recipe report name ≡ origin_text recipe other name
+        → stage_named recipe.stages name ≡ Some stage → origin_text recipe inputs report name ≡ origin_text recipe others other name
         → IsSameArtefact recipe inputs others stage ⊎ Collision }
 {
     the_marks_settle_it();

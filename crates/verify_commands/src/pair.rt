@@ -46,7 +46,7 @@ fn cut_at_blank(line: &[u8]) -> (&[u8], &[u8])
 
 /// The index of the first blank; `None` where there is no blank.
 fn blank_at(line: &[u8]) -> Option<usize>
-    ensures place { result ≡ position (λ byte. byte == 32) line.now }
+    ensures index { result ≡ position (λ byte. byte == 32) line.now }
     ensures within { IfSome result (λ at. at < length line.now) }
 {
     line.iter().position(|byte| *byte == b' ')

@@ -8,12 +8,12 @@ ghost use Rattle.report.specs.Lines.{mark_words};
 ghost use Rattle.std.specs.List.{list_any};
 ghost use Rattle.std.specs.Prelude.{◌≡◌, ◌++◌, [], ◌∷◌, IfOk, OnOk, codes, decimal, flat_map};
 ghost use Rattle.verify_commands.specs.Inside.FoundTexts.{found_believed, found_met, found_settling};
-ghost use Rattle.verify_commands.specs.Provenance.{block_text, compared_by, source_file_line, file_word, marked_line, marked_text, name_line, origin_text, provenance_text, recipe_digest_line, run_line, source_text, mark_words_of};
-ghost use Rattle.verify_commands.specs.Texts.{headline};
+ghost use Rattle.verify_commands.specs.Provenance.{block_text, compared_by, source_file_line, file_word, marked_line, marked_text, name_line, origin_text, provenance_text, recipe_digest_line, run_line, settled_line, source_text, mark_words_of};
+ghost use Rattle.verify_commands.specs.Texts.{headline, holds_line};
 
 use crate::rests::{put_name, put_names};
-use crate::texts::{put_assumptions, put_word};
-use audit_chain::origin::{Origin, Reported, mark_named, names_source, origin_of};
+use crate::texts::{assumed, put_pair, put_word};
+use audit_chain::origin::{Origin, Replayed, is_settled_line, mark_named, names_source, origin_of};
 use audit_chain::rests::{Basis, basis_of};
 use audit_rules::all_equal;
 use ddc_base::{Bytes, Name, OutOfMemory, put_decimal, put_hex};
@@ -24,17 +24,13 @@ use wheeler::Assumption;
 
 /// The text for a true report: a yes where all comparisons say equal, the recipe's digest, and the block of each compared stage.
 #[tactic(auto, using(crate::proofs::Written::written))]
-pub(crate) fn accepted(
-    alloc: Global,
-    recipe: &Recipe,
-    report: &Report,
-) -> Result<Bytes, OutOfMemory>
-    ensures { IfOk result (λ text. text ≡ provenance_text recipe.now report.now) }
+pub(crate) fn accepted(alloc: Global, audit: &Replayed<'_>) -> Result<Bytes, OutOfMemory>
+    ensures { IfOk result (λ text. text ≡ provenance_text audit.now.recipe.now audit.now.inputs.now audit.now.report.now) }
 {
     let mut text = Bytes::new(alloc);
-    put_headline(&mut text, report.compare.as_slice())?;
-    put_recipe(&mut text, recipe)?;
-    put_blocks(alloc, &mut text, recipe, report, report.compare.as_slice())?;
+    put_headline(&mut text, audit.report.compare.as_slice())?;
+    put_recipe(&mut text, audit.recipe)?;
+    put_blocks(alloc, &mut text, audit, audit.report.compare.as_slice())?;
     Ok(text)
 }
 
@@ -64,14 +60,13 @@ fn put_recipe(text: &mut Bytes, recipe: &Recipe) -> Result<(), OutOfMemory>
 fn put_blocks(
     alloc: Global,
     text: &mut Bytes,
-    recipe: &Recipe,
-    report: &Report,
+    audit: &Replayed<'_>,
     lines: &[CompareLine],
 ) -> Result<(), OutOfMemory>
-    ensures { OnOk result (text.new ≡ text.old ++ flat_map (block_text recipe.now report.now) lines.now) }
+    ensures { OnOk result (text.new ≡ text.old ++ flat_map (block_text audit.now.recipe.now audit.now.inputs.now audit.now.report.now) lines.now) }
 {
     for line in lines {
-        put_block(alloc, text, recipe, report, line)?;
+        put_block(alloc, text, audit, line)?;
     }
     Ok(())
 }
@@ -81,14 +76,13 @@ fn put_blocks(
 fn put_block(
     alloc: Global,
     text: &mut Bytes,
-    recipe: &Recipe,
-    report: &Report,
+    audit: &Replayed<'_>,
     line: &CompareLine,
 ) -> Result<(), OutOfMemory>
-    ensures { OnOk result (text.new ≡ text.old ++ block_text recipe.now report.now line.now) }
+    ensures { OnOk result (text.new ≡ text.old ++ block_text audit.now.recipe.now audit.now.inputs.now audit.now.report.now line.now) }
 {
-    put_compared(text, recipe, report, line)?;
-    let origin = origin_text(alloc, recipe, report, &line.stage)?;
+    put_compared(text, audit.recipe, audit.report, line)?;
+    let origin = origin_text(alloc, audit, &line.stage)?;
     text.extend(origin.as_slice())
 }
 
@@ -180,49 +174,43 @@ fn put_mark(text: &mut Bytes, mark: &Mark) -> Result<(), OutOfMemory>
 }
 
 /// The dependencies of the artefact of the stage of a name.
-fn origin_text(
-    alloc: Global,
-    recipe: &Recipe,
-    report: &Report,
-    name: &Name,
-) -> Result<Bytes, OutOfMemory>
-    ensures { IfOk result (λ text. text ≡ origin_text recipe.now report.now name.now) }
+fn origin_text(alloc: Global, audit: &Replayed<'_>, name: &Name) -> Result<Bytes, OutOfMemory>
+    ensures { IfOk result (λ text. text ≡ origin_text audit.now.recipe.now audit.now.inputs.now audit.now.report.now name.now) }
 {
-    let basis = basis_of(alloc, recipe, name)?;
-    with_origin(alloc, recipe, report, name, &basis)
+    let basis = basis_of(alloc, audit.recipe, name)?;
+    with_origin(alloc, audit, name, &basis)
 }
 
 /// The same, with the basis, which its caller drops.
 #[tactic(auto, unfolding(crate::specs::Provenance::origin_text))]
 fn with_origin(
     alloc: Global,
-    recipe: &Recipe,
-    report: &Report,
+    audit: &Replayed<'_>,
     name: &Name,
     basis: &Basis,
 ) -> Result<Bytes, OutOfMemory>
-    requires texts { basis.now.texts ≡ texts recipe.now name.now }
-    requires layouts { basis.now.layouts ≡ layouts recipe.now name.now }
-    requires own_layout { basis.now.own_layout ≡ own_layout recipe.now name.now }
-    requires ran { basis.now.ran ≡ ran recipe.now name.now }
-    requires lines { basis.now.lines ≡ lines recipe.now name.now }
-    ensures { IfOk result (λ text. text ≡ origin_text recipe.now report.now name.now) }
+    requires texts { basis.now.texts ≡ texts audit.now.recipe.now name.now }
+    requires layouts { basis.now.layouts ≡ layouts audit.now.recipe.now name.now }
+    requires own_layout { basis.now.own_layout ≡ own_layout audit.now.recipe.now name.now }
+    requires ran { basis.now.ran ≡ ran audit.now.recipe.now name.now }
+    requires lines { basis.now.lines ≡ lines audit.now.recipe.now name.now }
+    ensures { IfOk result (λ text. text ≡ origin_text audit.now.recipe.now audit.now.inputs.now audit.now.report.now name.now) }
 {
-    let origin = origin_of(alloc, recipe, report, name)?;
-    written(alloc, &Reported { recipe, report }, name, basis, &origin)
+    let origin = origin_of(alloc, audit.recipe, audit.report, name)?;
+    written(alloc, audit, name, basis, &origin)
 }
 
 /// The text of what was found.
 #[tactic(auto, using(crate::proofs::Written::written))]
 fn written(
     alloc: Global,
-    audit: &Reported<'_>,
+    audit: &Replayed<'_>,
     own: &Name,
     basis: &Basis,
     origin: &Origin,
 ) -> Result<Bytes, OutOfMemory>
     ensures { IfOk result (λ text. text ≡ found_settling audit.now.recipe.now audit.now.report.now basis.now origin.now
-        ++ (found_believed audit.now.recipe.now audit.now.report.now own.now basis.now ++ found_met origin.now)) }
+        ++ (found_believed audit.now.recipe.now audit.now.inputs.now audit.now.report.now own.now basis.now ++ found_met origin.now)) }
 {
     let mut text = Bytes::new(alloc);
     put_settling(&mut text, audit.recipe, audit.report, basis, origin)?;
@@ -247,20 +235,20 @@ fn put_settling(
     put_marked(text, recipe, report, b"layout", basis.layouts.as_slice())
 }
 
-/// Adds the free layout of the stage itself, the runs, and what is assumed of programs.
+/// Adds the free layout of the stage itself, the runs, and what is assumed or holds of programs.
 #[tactic(auto, using(crate::proofs::Written::written))]
 fn put_believed(
     alloc: Global,
     text: &mut Bytes,
-    audit: &Reported<'_>,
+    audit: &Replayed<'_>,
     own: &Name,
     basis: &Basis,
 ) -> Result<(), OutOfMemory>
-    ensures { OnOk result (text.new ≡ text.old ++ found_believed audit.now.recipe.now audit.now.report.now own.now basis.now) }
+    ensures { OnOk result (text.new ≡ text.old ++ found_believed audit.now.recipe.now audit.now.inputs.now audit.now.report.now own.now basis.now) }
 {
     put_names(text, b"layout", basis.own_layout.as_slice())?;
     put_runs(text, audit.recipe, audit.report, own, basis.ran.as_slice())?;
-    put_assumptions(alloc, text, basis.lines.as_slice())?;
+    put_settled(alloc, text, audit, basis.lines.as_slice())?;
     put_sources(
         text,
         audit.recipe,
@@ -268,6 +256,81 @@ fn put_believed(
         basis.lines.as_slice(),
         audit.recipe.sources().as_slice(),
     )
+}
+
+/// Adds a line for each assumption: whether it holds by lengths and digests, or is assumed.
+fn put_settled(
+    alloc: Global,
+    text: &mut Bytes,
+    audit: &Replayed<'_>,
+    lines: &[Assumption],
+) -> Result<(), OutOfMemory>
+    ensures { OnOk result (text.new ≡ text.old ++ flat_map (settled_line audit.now.recipe.now audit.now.inputs.now audit.now.report.now) lines.now) }
+{
+    for line in lines {
+        put_line(alloc, text, audit, line)?;
+    }
+    Ok(())
+}
+
+/// Adds the line of an assumption.
+#[tactic(auto, unfolding(crate::specs::Provenance::settled_line))]
+fn put_line(
+    alloc: Global,
+    text: &mut Bytes,
+    audit: &Replayed<'_>,
+    line: &Assumption,
+) -> Result<(), OutOfMemory>
+    ensures { OnOk result (text.new ≡ text.old ++ settled_line audit.now.recipe.now audit.now.inputs.now audit.now.report.now line.now) }
+{
+    if is_settled_line(alloc, audit, line)? {
+        let line = held(alloc, line)?;
+        text.extend(line.as_slice())
+    } else {
+        let line = assumed(alloc, line)?;
+        text.extend(line.as_slice())
+    }
+}
+
+/// An assumption that holds.
+#[tactic(auto, unfolding(crate::specs::Texts::holds_line))]
+fn held(alloc: Global, line: &Assumption) -> Result<Bytes, OutOfMemory>
+    ensures { IfOk result (λ text. text ≡ holds_line line.now) }
+{
+    match line {
+        Assumption::Implements { made, source } => held_implements(alloc, made, source),
+        Assumption::Compiles {
+            source,
+            stage,
+            becomes,
+        } => held_compiles(alloc, source, stage, becomes),
+    }
+}
+
+/// A program is one of its source.
+#[tactic(auto, using(crate::proofs::Written::written))]
+fn held_implements(alloc: Global, made: &Name, source: &Name) -> Result<Bytes, OutOfMemory>
+    ensures { IfOk result (λ text. text ≡ line (codes "holds" ∷ codes "implements" ∷ made.now ∷ source.now ∷ [])) }
+{
+    let mut text = Bytes::from_slice(alloc, b"holds implements ")?;
+    put_pair(&mut text, made, source)?;
+    Ok(text)
+}
+
+/// A source compiles another source in a stage.
+#[tactic(auto, using(crate::proofs::Written::written))]
+fn held_compiles(
+    alloc: Global,
+    source: &Name,
+    stage: &Name,
+    becomes: &Name,
+) -> Result<Bytes, OutOfMemory>
+    ensures { IfOk result (λ text. text ≡ line (codes "holds" ∷ codes "compiles" ∷ source.now ∷ stage.now ∷ becomes.now ∷ [])) }
+{
+    let mut text = Bytes::from_slice(alloc, b"holds compiles ")?;
+    put_word(&mut text, source)?;
+    put_pair(&mut text, stage, becomes)?;
+    Ok(text)
 }
 
 /// Adds where the audited binary itself is met.

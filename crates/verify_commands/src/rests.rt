@@ -8,7 +8,7 @@ ghost use Rattle.command_plan.specs.Plan.{answers};
 ghost use Rattle.command_plan.specs.Steps.{Says};
 ghost use Rattle.wheeler.specs.AllContents.{stage_named};
 ghost use Rattle.verify_commands.specs.Inside.BasisTexts.{basis_text};
-ghost use Rattle.verify_commands.specs.Rests.{names_text, rested, rests_files, rests_plan, rests_text};
+ghost use Rattle.verify_commands.specs.Rests.{names_text, rests_files, rests_plan, rests_text};
 
 use crate::texts::put_assumptions;
 use audit_chain::rests::{Basis, basis_of};
@@ -36,7 +36,7 @@ pub fn perform<S: Shelf>(alloc: Global, shelf: &mut S, words: &[&str]) -> Result
     rests(alloc, shelf, &recipe, stage)
 }
 
-/// Runs `rests` on a recipe's file and a stage's name.
+/// Loads a recipe, and prints the dependencies of the stage of a name.
 fn rests<S: Shelf>(
     alloc: Global,
     shelf: &mut S,
@@ -46,16 +46,8 @@ fn rests<S: Shelf>(
     ensures { Performs (rests_files recipe.now stage.now) (S.state shelf.old) (S.state shelf.new) result }
 {
     let recipe = fetch_recipe(alloc, shelf, recipe)?;
-    on_recipe(alloc, &recipe, stage)
-}
-
-/// Prints the dependencies of a recipe's stage. The recipe is borrowed, so that the caller frees it.
-#[tactic(auto, unfolding(crate::specs::Rests::rested))]
-fn on_recipe(alloc: Global, recipe: &Recipe, stage: &str) -> Result<Answer, Stop>
-    ensures { Says (rested recipe.now stage.now) result }
-{
-    match stage_named(recipe, stage) {
-        Some(stage) => answer(alloc, recipe, &stage.name),
+    match stage_named(&recipe, stage) {
+        Some(stage) => answer(alloc, &recipe, &stage.name),
         None => usage(alloc),
     }
 }

@@ -100,15 +100,15 @@ fn route(alloc: Global, recipe: &Recipe, stage: &Name) -> Result<Bytes, OutOfMem
 fn assumptions_of(alloc: Global, recipe: &Recipe, name: &Name) -> Result<Assumptions, OutOfMemory>
     ensures { IfOk result (λ lines. lines ≡ assumed_named recipe.now name.now) }
 {
-    match place_of(recipe, name) {
+    match stage_index(recipe, name) {
         Some(index) => assumptions_for(alloc, recipe, index as u32 + 1),
         None => Ok(Assumptions::new(alloc)),
     }
 }
 
 /// The index of the stage of a name, from 0; `None` where no stage has the name.
-fn place_of(recipe: &Recipe, name: &Name) -> Option<usize>
-    ensures place { result ≡ stage_at recipe.now.stages name.now }
+fn stage_index(recipe: &Recipe, name: &Name) -> Option<usize>
+    ensures index { result ≡ stage_at recipe.now.stages name.now }
     ensures bound { IfSome result (λ index. index < length recipe.now.stages) }
     ensures few { length recipe.now.stages ≤ 256 }
 {
@@ -135,7 +135,7 @@ pub(crate) fn put_assumptions(
 
 /// The line of an assumption about a program.
 #[tactic(auto, unfolding(crate::specs::Texts::assumption_line))]
-fn assumed(alloc: Global, assumption: &Assumption) -> Result<Bytes, OutOfMemory>
+pub(crate) fn assumed(alloc: Global, assumption: &Assumption) -> Result<Bytes, OutOfMemory>
     ensures { IfOk result (λ text. text ≡ assumption_line assumption.now) }
 {
     match assumption {

@@ -38,9 +38,9 @@ All-filter_map P f [] all = All-nil _
 All-filter_map P f (x ∷ xs) all =
     All-cons (λ x. IfSome (f x) P) x xs (head-holds P (f x) (filter_map f xs) all) (All-filter_map P f xs (rest-holds P (f x) (filter_map f xs) all))
 
-pub All-front : {X : Type 0} (P : X → Type 0) (xs ys : List X) → All P (xs ++ ys) → All P xs
-All-front P [] ys all = All-nil P
-All-front P (x ∷ xs) ys all = All-cons P x xs (All-head P x (xs ++ ys) all) (All-front P xs ys (All-tail P x (xs ++ ys) all))
+pub All-prefix : {X : Type 0} (P : X → Type 0) (xs ys : List X) → All P (xs ++ ys) → All P xs
+All-prefix P [] ys all = All-nil P
+All-prefix P (x ∷ xs) ys all = All-cons P x xs (All-head P x (xs ++ ys) all) (All-prefix P xs ys (All-tail P x (xs ++ ys) all))
 
 pub All-back : {X : Type 0} (P : X → Type 0) (xs ys : List X) → All P (xs ++ ys) → All P ys
 All-back P [] ys all = all
@@ -83,7 +83,7 @@ module _ (prescribes : Prescribes) (compiles : Compiles) (laws : Laws prescribes
       let holds = Holds prescribes compiles recipe all in
       let ones = filter_map (input_assumption trusted recipe) recipe.inputs in
       let others = filter_map (stage_assumption trusted recipe) recipe.stages in
-      let given = All-filter_map holds (input_assumption trusted recipe) recipe.inputs (All-front holds ones others lines) in
+      let given = All-filter_map holds (input_assumption trusted recipe) recipe.inputs (All-prefix holds ones others lines) in
       let made = All-filter_map holds (stage_assumption trusted recipe) recipe.stages (All-back holds ones others lines) in
       let found = by-stages recipe (λ (s : Stage). (earlier : List Stage) × (rest : List Stage) × (recipe.stages ≡ earlier ++ s ∷ rest)) [] recipe.stages refl (λ earlier stage rest split. (earlier, rest, split)) in
       let facts : All (Facts prescribes compiles trusted recipe all) recipe.stages =

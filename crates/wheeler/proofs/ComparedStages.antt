@@ -10,7 +10,7 @@ use Rattle.recipe.specs.Lookups.{source_of, stage_at}
 use Rattle.wheeler.specs.Follows.{HasCompared}
 use Rattle.wheeler.proofs.Argument.{by-stages}
 use Rattle.wheeler.proofs.Directions.{found}
-use Rattle.wheeler.proofs.Naming.{no-place, stage-placed}
+use Rattle.wheeler.proofs.Naming.{no-position, stage-placed}
 use Rattle.wheeler.proofs.Sound.{some_of}
 
 module _ {X : Type 0} (test : X → Bool) where
@@ -22,13 +22,13 @@ module _ {X : Type 0} (test : X → Bool) where
     by false is later = later is
 
   -- where a search has a place, it finds
-  place-found : (xs : List X) → IsSome (position test xs) → (x : X) × (find test xs ≡ Some x)
-  place-found xs some = by (list_any test xs) refl where
+  position-found : (xs : List X) → IsSome (position test xs) → (x : X) × (find test xs ≡ Some x)
+  position-found xs some = by (list_any test xs) refl where
     by : (b : Bool) → list_any test xs ≡ b → (x : X) × (find test xs ≡ Some x)
     by true is = any-found xs is
     by false is =
-        let place = some_of (position test xs) some in
-        let both : None ≡ Some place.0 = sym (no-place test xs is) ∙ place.1 in
+        let count_is = some_of (position test xs) some in
+        let both : None ≡ Some count_is.0 = sym (no-position test xs is) ∙ count_is.1 in
         absurd cc
 
 has-stage : (recipe : RecipeContents) → IsRecipe recipe → (name : List ℕ) → IsSome (stage_at recipe.stages name) → HasCompared recipe name
@@ -36,7 +36,7 @@ has-stage recipe ok name there =
     let test : Stage → Bool = λ s. bytes_eq s.name name in
     let Argued : Stage → Type 0 = λ s. s.check ≡ None → IsSome (source_of recipe s.program) in
     let argued : All Argued recipe.stages = by-stages recipe Argued [] recipe.stages refl (λ earlier stage rest split. (stage-placed recipe earlier stage rest ok split).kept.argued) in
-    let one = place-found test recipe.stages there in
+    let one = position-found test recipe.stages there in
     record {
       stage = one.0;
       compared = one.1;

@@ -78,8 +78,8 @@ module _ (prescribes : Prescribes) (compiles : Compiles) (laws : Laws prescribes
   follows : RouteHolds prescribes compiles recipe inputs name → (stage : Stage) → IsComparedStage recipe name stage → FollowsBy prescribes recipe all stage stage.check
   unfolding route_named
   follows lines stage at =
-      let place = found-at (λ (s : Stage). bytes_eq s.name name) recipe.stages stage at in
-      suffices prescribes compiles laws recipe inputs report ok r place.0 stage place.1
+      let at_index = found-at (λ (s : Stage). bytes_eq s.name name) recipe.stages stage at in
+      suffices prescribes compiles laws recipe inputs report ok r at_index.0 stage at_index.1
       (subst (λ names. All (Holds prescribes compiles recipe all) (trust_lines (is_on names) recipe)) (ap (route_by recipe) at) lines)
 
   -- the stage of the name: what holds of all stages holds of it

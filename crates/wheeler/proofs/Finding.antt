@@ -21,7 +21,7 @@ use Rattle.recipe.proofs.MoreStages.{content_more}
 use Rattle.audit_rules.specs.declared.answer.Finished.{Finished}
 use Rattle.audit_rules.specs.Contents.{Contents, box_of, bytes_named, check_of, content, defined, source_check, text_check, text_of, with_stage_file}
 use Rattle.audit_rules.specs.Stages.{contents}
-use Rattle.wheeler.proofs.Naming.{place-low, take-front}
+use Rattle.wheeler.proofs.Naming.{position-low, take-prefix}
 
 pub each-all : {A : Type 0} (P : A → Type 0) (xs : List A) → Each P xs → All P xs
 each-all P xs each k d less = each k (get_or xs k d) (slice_get-get_or xs k d less)
@@ -30,15 +30,15 @@ each-all P xs each k d less = each k (get_or xs k d) (slice_get-get_or xs k d le
 artefact-low : (inputs : List InputTable) (earlier : List Stage) (name : List ℕ) (index : ℕ) → content_named inputs earlier name ≡ Some (Artefact index) → index < length earlier
 unfolding content_named
 artefact-low inputs earlier name index is = by_input (input_at inputs name) is where
-  place_of : Option Content → ℕ
-  place_of (Some (Artefact k)) = k
-  place_of _ = 0
+  stage_number : Option Content → ℕ
+  stage_number (Some (Artefact k)) = k
+  stage_number _ = 0
 
   by_stage : (o : Option ℕ) → stage_at earlier name ≡ o → option_map Artefact o ≡ Some (Artefact index) → index < length earlier
   by_stage None at is = absurd cc
   by_stage (Some k) at is =
-      let same : k ≡ index = ap place_of is in
-      let low = place-low (λ (s : Stage). bytes_eq s.name name) earlier k at in
+      let same : k ≡ index = ap stage_number is in
+      let low = position-low (λ (s : Stage). bytes_eq s.name name) earlier k at in
       omega (arith, same, low)
 
   by_input : (o : Option ℕ) → option_or (option_map Input o) (option_map Artefact (stage_at earlier name)) ≡ Some (Artefact index) → index < length earlier
@@ -60,22 +60,22 @@ module _ (recipe : RecipeContents) (earlier rest : List Stage) (inputs : List (L
   pub same-content : (name : List ℕ) → IsMade recipe earlier name → content recipe all name ≡ content recipe so_far name
   unfolding content
   same-content name there =
-      ap (bytes_named all) at ∙ by_place (content_named recipe.inputs earlier name) refl ∙ sym (ap (bytes_named so_far) at) where
-        front : take (length earlier) recipe.stages ≡ earlier
-        front = ap (take (length earlier)) split.stages ∙ take-front earlier rest
+      ap (bytes_named all) at ∙ by_index (content_named recipe.inputs earlier name) refl ∙ sym (ap (bytes_named so_far) at) where
+        prefix : take (length earlier) recipe.stages ≡ earlier
+        prefix = ap (take (length earlier)) split.stages ∙ take-prefix earlier rest
 
         at : content_named recipe.inputs recipe.stages name ≡ content_named recipe.inputs earlier name
         at =
-            content_more recipe.inputs recipe.stages (length earlier) name (subst (λ s. IsSome (content_named recipe.inputs s name)) (sym front) there)
-            ∙ ap (λ s. content_named recipe.inputs s name) front
+            content_more recipe.inputs recipe.stages (length earlier) name (subst (λ s. IsSome (content_named recipe.inputs s name)) (sym prefix) there)
+            ∙ ap (λ s. content_named recipe.inputs s name) prefix
 
         made : Finished → List ℕ
         made = λ f. f.made
 
-        by_place : (o : Option Content) → content_named recipe.inputs earlier name ≡ o → bytes_named all o ≡ bytes_named so_far o
-        by_place None is = refl
-        by_place (Some (Input k)) is = refl
-        by_place (Some (Artefact k)) is =
+        by_index : (o : Option Content) → content_named recipe.inputs earlier name ≡ o → bytes_named all o ≡ bytes_named so_far o
+        by_index None is = refl
+        by_index (Some (Input k)) is = refl
+        by_index (Some (Artefact k)) is =
             let low = artefact-low recipe.inputs earlier name k is in
             let count = length-map done made in
             let same = split.count in

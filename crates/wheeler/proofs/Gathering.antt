@@ -46,10 +46,10 @@ own-content : (recipe : RecipeContents) (earlier : List Stage) (inputs : List (L
 unfolding content
 own-content recipe earlier inputs done more stage f placed count =
     let made : Finished → List ℕ = λ g. g.made in
-    let place : length earlier ≡ length (map made done) = sym count ∙ sym (length-map done made) in
+    let count_is : length earlier ≡ length (map made done) = sym count ∙ sym (length-map done made) in
     ap (bytes_named (contents inputs (done ++ f ∷ more))) placed.content
     ∙ ap (λ l. get_or l (length earlier) []) (map-append made done (f ∷ more))
-    ∙ ap (λ n. get_or (map made done ++ f.made ∷ map made more) n []) place
+    ∙ ap (λ n. get_or (map made done ++ f.made ∷ map made more) n []) count_is
     ∙ get_or-append_seam (map made done) f.made (map made more) []
 
 same_report : (a b : Report) → Completes a ≡ Completes b → a ≡ b

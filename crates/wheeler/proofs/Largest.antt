@@ -3,8 +3,8 @@ use Rattle.std.proofs.Common.{◌≡◌, ℕ, Option, None, Some, List, [], ◌�
 use Rattle.std.specs.Prelude.{IfSome}
 use Rattle.std.specs.List.{AllZip}
 use Rattle.std.specs.FinMap as map
-use Rattle.mem_files.specs.Outputs.{OutputPlace, out}
-use Rattle.mem_files.specs.Outputs.OutputPlace.{FirstStream}
+use Rattle.mem_files.specs.Outputs.{OutputLocation, out}
+use Rattle.mem_files.specs.Outputs.OutputLocation.{FirstStream}
 use Rattle.mem_files.specs.World.{World}
 use Rattle.guest_run.specs.Program.{ProgramRun}
 use Rattle.guest_run.specs.Setting.{IsBox, Setting}
@@ -31,7 +31,7 @@ use Rattle.wheeler.proofs.RouteLines.{routes-hold}
 -- what a source prescribes where it compiles another one implements that one
 abbrev pub Carries : Prescribes → Compiles → Type 0
 Carries prescribes compiles =
-    (source other : SourceText) (box : Setting) (output : OutputPlace) (program : List ℕ)
+    (source other : SourceText) (box : Setting) (output : OutputLocation) (program : List ℕ)
     → prescribes source box output program → compiles source box output other → Implements prescribes program other
 
 -- ---- two relations that prescribe the same, the former of which compiles no more
@@ -124,7 +124,7 @@ same-itself prescribes source box output content = ((λ is. is), (λ is. is))
 
 -- ---- where a program implements a source, and a run of it leaves a content
 
-pub what-was-made : (prescribes : Prescribes) → IsFixed prescribes → (source other : SourceText) (box : Setting) (output : OutputPlace) (program made : List ℕ)
+pub what-was-made : (prescribes : Prescribes) → IsFixed prescribes → (source other : SourceText) (box : Setting) (output : OutputLocation) (program made : List ℕ)
     (step : ℕ) (world : World) → IsBox box → Implements prescribes program source → ProgramRun program box step 0 world → out world output ≡ Some made
     → (AllImplement prescribes source box output other → Implements prescribes made other)
     × (Implements prescribes made other → AllImplement prescribes source box output other)
@@ -136,7 +136,7 @@ what-was-made prescribes fixed source other box output program made step world v
     )
 
 pub not-everything : (prescribes : Prescribes) → IsFixed prescribes
-    → ((source : SourceText) (box : Setting) (output : OutputPlace) (content : List ℕ) → prescribes source box output content) → ⊥
+    → ((source : SourceText) (box : Setting) (output : OutputLocation) (content : List ℕ) → prescribes source box output content) → ⊥
 not-everything prescribes fixed all =
     let source : SourceText = record { lang = Other; base = 0; files = [] } in
     let box : Setting = record { args = []; env = []; files = map.empty; heap = 0 } in

@@ -140,7 +140,7 @@ route-closed recipe ok name = by (stage_named recipe.stages name) (found-at (λ 
   where
     by : (o : Option Stage) → ((x : Stage) → o ≡ Some x → (index : ℕ) × (slice_get recipe.stages index ≡ Some x)) → IsClosed (is_on (route_by recipe o)) recipe
     by None at = λ k d less unchecked on. absurd cc
-    by (Some stage) at = let place = at stage refl in from-closed recipe ok place.0 stage place.1 stage.check refl
+    by (Some stage) at = let at_index = at stage refl in from-closed recipe ok at_index.0 stage at_index.1 stage.check refl
 
 all-closed : (recipe : RecipeContents) → IsClosed (is_trusted recipe) recipe
 all-closed recipe k d less was _ = needed-each recipe k d less was

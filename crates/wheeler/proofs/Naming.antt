@@ -20,9 +20,9 @@ use Rattle.wheeler.specs.AllContents.{stage_named}
 
 -- ---- a list that is split at an element
 
-pub take-front : {A : Type 0} (xs ys : List A) → take (length xs) (xs ++ ys) ≡ xs
-take-front [] ys = refl
-take-front (x ∷ xs) ys = ap (λ l. x ∷ l) (take-front xs ys)
+pub take-prefix : {A : Type 0} (xs ys : List A) → take (length xs) (xs ++ ys) ≡ xs
+take-prefix [] ys = refl
+take-prefix (x ∷ xs) ys = ap (λ l. x ∷ l) (take-prefix xs ys)
 
 pub get-split : {A : Type 0} (xs : List A) (x : A) (ys : List A) → slice_get (xs ++ x ∷ ys) (length xs) ≡ Some x
 get-split [] x ys = refl
@@ -37,8 +37,8 @@ module _ {A : Type 0} (p : A → Bool) where
     by_test true none later = absurd cc
     by_test false none later = omega (arith, later none)
 
-  pub no-place : (xs : List A) → list_any p xs ≡ false → position p xs ≡ None
-  no-place xs none =
+  pub no-position : (xs : List A) → list_any p xs ≡ false → position p xs ≡ None
+  no-position xs none =
       let at = none-position xs none in
       ap (λ b. cond b (Some (position_or_len p xs)) None) (le-ltb (position_or_len p xs) (length xs) (omega (arith, at)))
 
@@ -50,8 +50,8 @@ module _ {A : Type 0} (p : A → Bool) where
     by_test true none later = absurd cc
     by_test false none later = omega (arith, later none)
 
-  pub place-split : (xs : List A) (x : A) (ys : List A) → list_any p xs ≡ false → p x ≡ true → position p (xs ++ x ∷ ys) ≡ Some (length xs)
-  place-split xs x ys none is =
+  pub position-split : (xs : List A) (x : A) (ys : List A) → list_any p xs ≡ false → p x ≡ true → position p (xs ++ x ∷ ys) ≡ Some (length xs)
+  position-split xs x ys none is =
       let at = split-position xs x ys none is in
       let many = length-append xs (x ∷ ys) in
       ap (λ b. cond b (Some (position_or_len p (xs ++ x ∷ ys))) None) (lt-ltb (position_or_len p (xs ++ x ∷ ys)) (length (xs ++ x ∷ ys)) (omega (arith, at, many)))
@@ -66,9 +66,9 @@ module _ {A : Type 0} (p : A → Bool) where
     by_test false none later = later none
 
 -- a place that is found
-pub place-low : {A : Type 0} (p : A → Bool) (xs : List A) (index : ℕ) → position p xs ≡ Some index → index < length xs
-place-low p [] index at = absurd cc
-place-low p (x ∷ xs) index at = (position-Some p (x ∷ xs) index x at).0
+pub position-low : {A : Type 0} (p : A → Bool) (xs : List A) (index : ℕ) → position p xs ≡ Some index → index < length xs
+position-low p [] index at = absurd cc
+position-low p (x ∷ xs) index at = (position-Some p (x ∷ xs) index x at).0
 
 named-at : {A : Type 0} (name_of : A → List ℕ) (P : List ℕ → Type 0) (xs : List A) (name : List ℕ) (index : ℕ)
     → All (λ x. P (name_of x)) xs → position (λ x. bytes_eq (name_of x) name) xs ≡ Some index → P name
@@ -92,17 +92,17 @@ made-holds P inputs earlier name given made there = by_input (input_at inputs na
 
 -- ---- a recipe that is split at a stage
 
-all-before : (P : List ℕ → Type 0) (front : List (List ℕ)) (name : List ℕ) (rest : List (List ℕ)) → AllByRecursion P (front ++ name ∷ rest) → P name
+all-before : (P : List ℕ → Type 0) (prefix : List (List ℕ)) (name : List ℕ) (rest : List (List ℕ)) → AllByRecursion P (prefix ++ name ∷ rest) → P name
 all-before P [] name rest all = all.0
-all-before P (x ∷ front) name rest all = all-before P front name rest all.1
+all-before P (x ∷ prefix) name rest all = all-before P prefix name rest all.1
 
-distinct-front : (front : List (List ℕ)) (name : List ℕ) (rest : List (List ℕ)) → IsDistinct bytes_eq (front ++ name ∷ rest)
-    → list_any (λ x. bytes_eq x name) front ≡ false
+distinct-prefix : (prefix : List (List ℕ)) (name : List ℕ) (rest : List (List ℕ)) → IsDistinct bytes_eq (prefix ++ name ∷ rest)
+    → list_any (λ x. bytes_eq x name) prefix ≡ false
 unfolding IsDistinct
-distinct-front [] name rest distinct = refl
-distinct-front (x ∷ front) name rest distinct =
-    or_from (bytes_eq x name) (list_any (λ y. bytes_eq y name) front) (all-before (λ y. bytes_eq x y ≡ false) front name rest distinct.0)
-    (distinct-front front name rest distinct.1)
+distinct-prefix [] name rest distinct = refl
+distinct-prefix (x ∷ prefix) name rest distinct =
+    or_from (bytes_eq x name) (list_any (λ y. bytes_eq y name) prefix) (all-before (λ y. bytes_eq x y ≡ false) prefix name rest distinct.0)
+    (distinct-prefix prefix name rest distinct.1)
 
 pub record IsPlaced (recipe : RecipeContents) (earlier : List Stage) (stage : Stage) : Type 0 where
   pub content : content_named recipe.inputs recipe.stages stage.name ≡ Some (content.Stage (length earlier))
@@ -117,12 +117,12 @@ stage-placed recipe earlier stage rest ok split =
     let name : Stage → List ℕ = λ s. s.name in
     let input_names : List (List ℕ) = map (λ (i : Input). i.name) recipe.inputs in
     let source_names : List (List ℕ) = map (λ (s : Source). s.name) recipe.sources in
-    let front : List (List ℕ) = input_names ++ source_names in
-    let names : all_names recipe ≡ (front ++ map name earlier) ++ stage.name ∷ map name rest =
-    ap (λ s. front ++ map name s) split ∙ ap (λ l. front ++ l) (map-append name earlier (stage ∷ rest))
-    ∙ sym (append_assoc front (map name earlier) (stage.name ∷ map name rest)) in
-    let none = distinct-front (front ++ map name earlier) stage.name (map name rest) (subst (IsDistinct bytes_eq) names ok.names) in
-    let parts = or_parts (list_any test front) (list_any test (map name earlier)) (sym (list_any-append test front (map name earlier)) ∙ none) in
+    let prefix : List (List ℕ) = input_names ++ source_names in
+    let names : all_names recipe ≡ (prefix ++ map name earlier) ++ stage.name ∷ map name rest =
+    ap (λ s. prefix ++ map name s) split ∙ ap (λ l. prefix ++ l) (map-append name earlier (stage ∷ rest))
+    ∙ sym (append_assoc prefix (map name earlier) (stage.name ∷ map name rest)) in
+    let none = distinct-prefix (prefix ++ map name earlier) stage.name (map name rest) (subst (IsDistinct bytes_eq) names ok.names) in
+    let parts = or_parts (list_any test prefix) (list_any test (map name earlier)) (sym (list_any-append test prefix (map name earlier)) ∙ none) in
     let tables = or_parts (list_any test input_names) (list_any test source_names) (sym (list_any-append test input_names source_names) ∙ parts.0) in
     let no_input = sym (any_map (λ (i : Input). i.name) stage.name recipe.inputs) ∙ tables.0 in
     let no_earlier = sym (any_map name stage.name earlier) ∙ parts.1 in
@@ -130,9 +130,9 @@ stage-placed recipe earlier stage rest ok split =
     let mine : Stage → Bool = λ s. bytes_eq s.name stage.name in
     record {
       content = ap₂ (λ i s. option_or (option_map content.Input i) (option_map content.Stage s))
-          (no-place (λ (i : Input). bytes_eq i.name stage.name) recipe.inputs no_input)
-          (ap (position mine) split ∙ place-split mine earlier stage rest no_earlier own);
+          (no-position (λ (i : Input). bytes_eq i.name stage.name) recipe.inputs no_input)
+          (ap (position mine) split ∙ position-split mine earlier stage rest no_earlier own);
       found = ap (find mine) split ∙ find-split mine earlier stage rest no_earlier own;
-      kept = subst (λ e. IsStage recipe e stage) (ap (take (length earlier)) split ∙ take-front earlier (stage ∷ rest))
+      kept = subst (λ e. IsStage recipe e stage) (ap (take (length earlier)) split ∙ take-prefix earlier (stage ∷ rest))
           (ok.stages (length earlier) stage (ap (λ s. slice_get s (length earlier)) split ∙ get-split earlier stage rest));
     }

@@ -6,7 +6,7 @@ use Rattle.hex_langs.specs.declared.items.reader.HexRefusal.{HexRefusal}
 use Rattle.hex_langs.specs.Link.Link.{link_of}
 use Rattle.hex_langs.specs.Link.Values.{linked}
 use Rattle.m1_lang.specs.declared.refusal.M1Refusal.{M1Refusal}
-use Rattle.mem_files.specs.Outputs.{OutputPlace}
+use Rattle.mem_files.specs.Outputs.{OutputLocation}
 use Rattle.guest_run.specs.Setting.{Setting}
 use Rattle.guest_run.proofs.Programs.{one-run}
 use Rattle.recipe.specs.declared.parts.SourceLanguage.{SourceLanguage}
@@ -23,19 +23,19 @@ use Rattle.wheeler.specs.Meaning.{Prescribes}
 use Rattle.wheeler.specs.Values.{binary_of, bytes_of_value}
 use Rattle.wheeler.specs.WithMachineCode.{MachineCodeOr, machine_code_or_by}
 
-pub makes-program : (program_of : SourceText → Option (List ℕ)) (source other : SourceText) (box : Setting) (output : OutputPlace) (made : List ℕ)
+pub makes-program : (program_of : SourceText → Option (List ℕ)) (source other : SourceText) (box : Setting) (output : OutputLocation) (made : List ℕ)
     → program_of other ≡ Some made → ProgramLeaves program_of source box output made → AllImplement (ProgramLeaves program_of) source box output other
 makes-program program_of source other box output made is leaves program prescribed =
     own-program program_of other program (is ∙ ap Some (fixed-program program_of one-run source box output made program leaves prescribed))
 
-pub as-given : (others : Prescribes) (source : SourceText) → binary_of source ≡ None → (box : Setting) (output : OutputPlace) (content : List ℕ)
+pub as-given : (others : Prescribes) (source : SourceText) → binary_of source ≡ None → (box : Setting) (output : OutputLocation) (content : List ℕ)
     → (MachineCodeOr others source box output content → others source box output content) × (others source box output content → MachineCodeOr others source box output content)
 as-given others source none box output content = (
   (λ is. subst (λ (o : Option (List ℕ)). machine_code_or_by o others source box output content) none is),
   (λ is. subst (λ (o : Option (List ℕ)). machine_code_or_by o others source box output content) (sym none) is),
 )
 
-pub keeps-assembly : (source : SourceText) (box : Setting) (output : OutputPlace) (content : List ℕ)
+pub keeps-assembly : (source : SourceText) (box : Setting) (output : OutputLocation) (content : List ℕ)
     → ValueLeaves source box output content → MacroLeaves source box output content
 keeps-assembly source box output content is = record {
   program = is.program;

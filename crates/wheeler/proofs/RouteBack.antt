@@ -52,14 +52,14 @@ module _ (recipe : RecipeContents) (ok : IsRecipe recipe) where
   route-more low zero name fits below =
       let same : 0 ≡ low = omega (arith, fits) in
       ap (λ k. route_from recipe.stages k name) same
-  route-more low (suc n) name fits below = by_place (cases_lt n low) (route-more low n name)
+  route-more low (suc n) name fits below = by_index (cases_lt n low) (route-more low n name)
     where
-      by_place : (n < low) ⊎ (low ≤ n) → (low ≤ n → IsBelow low (meant recipe ok name) → route_from recipe.stages n name ≡ route_from recipe.stages low name)
+      by_index : (n < low) ⊎ (low ≤ n) → (low ≤ n → IsBelow low (meant recipe ok name) → route_from recipe.stages n name ≡ route_from recipe.stages low name)
           → route_from recipe.stages (suc n) name ≡ route_from recipe.stages low name
-      by_place (inl under) later =
+      by_index (inl under) later =
           let same : suc n ≡ low = omega (arith, under, fits) in
           ap (λ k. route_from recipe.stages k name) same
-      by_place (inr over) later =
+      by_index (inr over) later =
           skipped low n name (route_from recipe.stages n name) (λ program. route_from recipe.stages n program) over below ∙ later over below
 
   -- a program and the programs after it
@@ -72,9 +72,9 @@ module _ (recipe : RecipeContents) (ok : IsRecipe recipe) where
       by : (o : Option Stage) → stage_named recipe.stages name ≡ o → o ≡ None
       by None is = refl
       by (Some s) is =
-          let place = found-at (λ (x : Stage). bytes_eq x.name name) recipe.stages s is in
+          let at_index = found-at (λ (x : Stage). bytes_eq x.name name) recipe.stages s is in
           let named = (found (λ (x : Stage). bytes_eq x.name name) (λ _. Unit {0}) recipe.stages s (λ _ _ _. tt) is).1 in
-          let under : place.0 < 0 = subst (IsBelow 0) (meant-by place.0 s name place.1 named) below in
+          let under : at_index.0 < 0 = subst (IsBelow 0) (meant-by at_index.0 s name at_index.1 named) below in
           absurd (omega (arith, under))
 
   whole : (n : ℕ) (name : List ℕ) → IsBelow n (meant recipe ok name) → route_from recipe.stages n name ≡ name ∷ route_named recipe name
@@ -110,9 +110,9 @@ pub goes-back : (recipe : RecipeContents) (name : List ℕ) (stage : Stage) → 
     → route_named recipe name ≡ unless_checked stage.check (stage.program ∷ route_named recipe stage.program)
 unfolding route_named
 goes-back recipe name stage ok at =
-    let place = found-at (λ (s : Stage). bytes_eq s.name name) recipe.stages stage at in
-    let under : place.0 < length recipe.stages = within recipe.stages place.0 stage place.1 in
-    let below = more-below place.0 (length recipe.stages) (meant recipe ok stage.program) (omega (arith, under)) (program-below recipe ok place.0 stage place.1) in
+    let at_index = found-at (λ (s : Stage). bytes_eq s.name name) recipe.stages stage at in
+    let under : at_index.0 < length recipe.stages = within recipe.stages at_index.0 stage at_index.1 in
+    let below = more-below at_index.0 (length recipe.stages) (meant recipe ok stage.program) (omega (arith, under)) (program-below recipe ok at_index.0 stage at_index.1) in
     ap (route_by recipe) at ∙ ap (unless_checked stage.check) (whole recipe ok (length recipe.stages) stage.program below)
 
 pub no-stage : (recipe : RecipeContents) (name : List ℕ) → stage_named recipe.stages name ≡ None → route_named recipe name ≡ []
@@ -127,15 +127,15 @@ of-number recipe number stage ok at = ap (route_by recipe) at ∙ sym (ap (route
 -- ---- by the place of a name
 
 module _ {A : Type 0} (test : A → Bool) (xs : List A) where
-  at-place : (index : ℕ) → position test xs ≡ Some index → find test xs ≡ slice_get xs index
-  at-place index at = by (nat_lt (position_or_len test xs) (length xs)) at
+  at-position : (index : ℕ) → position test xs ≡ Some index → find test xs ≡ slice_get xs index
+  at-position index at = by (nat_lt (position_or_len test xs) (length xs)) at
     where
       by : (b : Bool) → cond b (Some (position_or_len test xs)) None ≡ Some index → find test xs ≡ slice_get xs index
       by true is = find_at test xs ∙ ap (slice_get xs) (same_Some (position_or_len test xs) index is)
       by false is = absurd cc
 
-  no-place-found : position test xs ≡ None → find test xs ≡ None
-  no-place-found at = by (nat_lt (position_or_len test xs) (length xs)) refl at
+  no-position-found : position test xs ≡ None → find test xs ≡ None
+  no-position-found at = by (nat_lt (position_or_len test xs) (length xs)) refl at
     where
       by : (b : Bool) → nat_lt (position_or_len test xs) (length xs) ≡ b → cond b (Some (position_or_len test xs)) None ≡ None → find test xs ≡ None
       by true less is = absurd cc
@@ -145,9 +145,9 @@ module _ {A : Type 0} (test : A → Bool) (xs : List A) where
 pub assumed-at : (recipe : RecipeContents) (name : List ℕ) (index : ℕ) → stage_at recipe.stages name ≡ Some index → assumed_named recipe name ≡ assumed_for recipe (index + 1)
 unfolding route route_named
 assumed-at recipe name index at =
-    let place : index ≡ (index + 1) - 1 = omega arith in
+    let at_index : index ≡ (index + 1) - 1 = omega arith in
     ap (λ o. trust_lines (is_on (route_by recipe o)) recipe)
-    (at-place (λ (s : Stage). bytes_eq s.name name) recipe.stages index at ∙ ap (slice_get recipe.stages) place)
+    (at-position (λ (s : Stage). bytes_eq s.name name) recipe.stages index at ∙ ap (slice_get recipe.stages) at_index)
 
 -- a name that is no stage's has none
 none-trusted : (recipe : RecipeContents) → trust_lines (is_on []) recipe ≡ []
@@ -165,5 +165,5 @@ none-trusted recipe = ap₂ (λ a b. a ++ b) (inputs recipe.inputs) (stages reci
 pub assumed-nowhere : (recipe : RecipeContents) (name : List ℕ) → stage_at recipe.stages name ≡ None → assumed_named recipe name ≡ []
 unfolding route_named
 assumed-nowhere recipe name at =
-    ap (λ o. trust_lines (is_on (route_by recipe o)) recipe) (no-place-found (λ (s : Stage). bytes_eq s.name name) recipe.stages at)
+    ap (λ o. trust_lines (is_on (route_by recipe o)) recipe) (no-position-found (λ (s : Stage). bytes_eq s.name name) recipe.stages at)
     ∙ none-trusted recipe

@@ -14,7 +14,7 @@ use Rattle.recipe.specs.declared.parts.Stage.{Stage}
 use Rattle.recipe.specs.Kept.{IsRecipe}
 use Rattle.recipe.specs.Lookups.{content_named, input_at, stage_at}
 use Rattle.recipe.proofs.MoreStages.{content_more}
-use Rattle.wheeler.proofs.Naming.{place-low, stage-placed}
+use Rattle.wheeler.proofs.Naming.{position-low, stage-placed}
 use Rattle.wheeler.specs.Routes.{unless_checked, made_at, route_from, is_on}
 
 -- ---- elements by their index
@@ -100,7 +100,7 @@ found-below n inputs stages name few is = by_input (input_at inputs name) is
   where
     by_stage : (o : Option ℕ) → stage_at stages name ≡ o → IsSome (option_map content.Stage o) → IsBelow n (option_map content.Stage o)
     by_stage None at is = absurd cc
-    by_stage (Some k) at is = omega (arith, few, place-low (λ (s : Stage). bytes_eq s.name name) stages k at)
+    by_stage (Some k) at is = omega (arith, few, position-low (λ (s : Stage). bytes_eq s.name name) stages k at)
 
     by_input : (o : Option ℕ) → IsSome (option_or (option_map content.Input o) (option_map content.Stage (stage_at stages name)))
         → IsBelow n (option_or (option_map content.Input o) (option_map content.Stage (stage_at stages name)))
@@ -114,10 +114,10 @@ unfolding content_named
 stage-has inputs stages name k x is at = by_input (input_at inputs name) is
   where
     by_stage : (o : Option ℕ) → stage_at stages name ≡ o → option_map content.Stage o ≡ Some (content.Stage k) → bytes_eq x.name name ≡ true
-    by_stage None place is = absurd cc
-    by_stage (Some j) place is =
+    by_stage None at_index is = absurd cc
+    by_stage (Some j) at_index is =
         let same : j ≡ k = cc in
-        let passes = (position-Some (λ (s : Stage). bytes_eq s.name name) stages j x place).1 in
+        let passes = (position-Some (λ (s : Stage). bytes_eq s.name name) stages j x at_index).1 in
         let here : get_or stages j x ≡ x = ap (λ i. get_or stages i x) same ∙ element stages k x x at in
         ap (λ (s : Stage). bytes_eq s.name name) (sym here) ∙ passes
 

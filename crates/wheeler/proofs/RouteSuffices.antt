@@ -124,8 +124,8 @@ on-by recipe (Some x) name at on = by_check x.check refl on
     by_check : (o : Option (List ℕ)) → x.check ≡ o → is_on (unless_checked o (route_from recipe.stages (length recipe.stages) x.program)) name ≡ true → is_trusted recipe name ≡ true
     by_check (Some check) was here = absurd cc
     by_check None was here =
-        let place = at x refl in
-        on-from recipe (length recipe.stages) x.program (trusts recipe place.0 x place.1 was) name here
+        let at_index = at x refl in
+        on-from recipe (length recipe.stages) x.program (trusts recipe at_index.0 x at_index.1 was) name here
 
 pub on-trusted : (recipe : RecipeContents) (number : ℕ) (name : List ℕ) → is_on (route recipe number) name ≡ true → is_trusted recipe name ≡ true
 unfolding route

@@ -1,7 +1,7 @@
 -- Lines that a comparison of bytes settles hold.
 use Rattle.std.proofs.Common.{◌≡◌, ℕ, Option, None, Some, List, refl, sym, subst, All}
 use Rattle.std.specs.Prelude.{IfSome, bytes_eq, slice_get}
-use Rattle.mem_files.specs.Outputs.{OutputPlace}
+use Rattle.mem_files.specs.Outputs.{OutputLocation}
 use Rattle.guest_run.specs.Setting.{Setting}
 use Rattle.recipe.specs.declared.contents.RecipeContents.{RecipeContents}
 use Rattle.recipe.specs.declared.parts.Stage.{Stage}
@@ -54,9 +54,9 @@ module _ (prescribes : Prescribes) (fixed : IsFixed prescribes) (knows : KnowsMa
             → IfSome o (λ (s : Stage). AllImplement prescribes (text_named recipe all source) (box_of recipe all s) (output_of s.output) (text_named recipe all becomes))
         by None at own = tt
         by (Some stage) at own =
-            let place = at stage refl in
-            compiles-holds source becomes stage are (at-index rules.IsStage recipe.stages place.0 stage (rules.rules recipe ok).stages place.1)
-            (at-index (λ (s : Stage). Ran recipe all s (content recipe all s.name)) recipe.stages place.0 stage ran place.1) own
+            let at_index = at stage refl in
+            compiles-holds source becomes stage are (at-index rules.IsStage recipe.stages at_index.0 stage (rules.rules recipe ok).stages at_index.1)
+            (at-index (λ (s : Stage). Ran recipe all s (content recipe all s.name)) recipe.stages at_index.0 stage ran at_index.1) own
 
 pub settled-holds : (prescribes : Prescribes) → IsFixed prescribes → KnowsMacroCode prescribes → (recipe : RecipeContents) (inputs : List (List ℕ)) (report : Report)
     → IsRecipe recipe → IsInputs recipe inputs → bench recipe inputs ≡ Completes report → (l : Assumption) → IsSettledLine recipe (all_contents recipe inputs) l
@@ -68,14 +68,14 @@ settled-holds prescribes fixed knows recipe inputs report ok given is l own =
 -- ---- M1 beside other languages
 
 pub as-macro : (others : Prescribes) (source : SourceText) (program : List ℕ) → program_of_text source ≡ Some program
-    → (box : Setting) (output : OutputPlace) (content : List ℕ)
+    → (box : Setting) (output : OutputLocation) (content : List ℕ)
     → (MacroCodeOr others source box output content → MacroLeaves source box output content) × (MacroLeaves source box output content → MacroCodeOr others source box output content)
 as-macro others source program some box output content = (
   (λ is. subst (λ (o : Option (List ℕ)). macro_code_or_by o others source box output content) some is),
   (λ is. subst (λ (o : Option (List ℕ)). macro_code_or_by o others source box output content) (sym some) is),
 )
 
-pub as-given-beside : (others : Prescribes) (source : SourceText) → program_of_text source ≡ None → (box : Setting) (output : OutputPlace) (content : List ℕ)
+pub as-given-beside : (others : Prescribes) (source : SourceText) → program_of_text source ≡ None → (box : Setting) (output : OutputLocation) (content : List ℕ)
     → (MacroCodeOr others source box output content → others source box output content) × (others source box output content → MacroCodeOr others source box output content)
 as-given-beside others source none box output content = (
   (λ is. subst (λ (o : Option (List ℕ)). macro_code_or_by o others source box output content) none is),

@@ -2,7 +2,7 @@
 use Rattle.std.proofs.Common.{◌≡◌, ℕ, Bool, true, false, cond, Option, None, Some, List, refl, ap, ap₂, ◌∙◌, subst}
 use Rattle.std.specs.Prelude.{IfSome, IsSome, bytes_eq}
 use Rattle.std.proofs.lemmas.Slice.Eq.{bytes_eq-Decides}
-use Rattle.mem_files.specs.Outputs.{OutputPlace}
+use Rattle.mem_files.specs.Outputs.{OutputLocation}
 use Rattle.guest_run.specs.Setting.{IsBox, Setting}
 use Rattle.recipe.specs.declared.contents.RecipeContents.{RecipeContents}
 use Rattle.recipe.specs.declared.parts.Input.{Input}
@@ -21,9 +21,9 @@ use Rattle.wheeler.proofs.Values.{checked-value}
 
 -- the laws of a meaning
 pub record Laws (prescribes : Prescribes) (compiles : Compiles) : Type 0 where
-  pub fixed : (source : SourceText) (box : Setting) (output : OutputPlace) (one other : List ℕ)
+  pub fixed : (source : SourceText) (box : Setting) (output : OutputLocation) (one other : List ℕ)
       → prescribes source box output one → prescribes source box output other → one ≡ other
-  pub carry : (source other : SourceText) (box : Setting) (output : OutputPlace) (program : List ℕ)
+  pub carry : (source other : SourceText) (box : Setting) (output : OutputLocation) (program : List ℕ)
       → prescribes source box output program → compiles source box output other → Implements prescribes program other
   pub literal : (source : SourceText) (program : List ℕ) → binary_of source ≡ Some program → Implements prescribes program source
 

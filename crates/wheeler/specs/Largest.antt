@@ -1,6 +1,6 @@
 -- The largest relation between sources that the law `carry` allows. docs/reference/argument.md says the same for people.
 use Rattle.std.specs.Prelude.{ℕ, List}
-use Rattle.mem_files.specs.Outputs.{OutputPlace}
+use Rattle.mem_files.specs.Outputs.{OutputLocation}
 use Rattle.guest_run.specs.Setting.{Setting}
 use Rattle.audit_rules.specs.Contents.{SourceText}
 use Rattle.wheeler.specs.Meaning.{Compiles, Implements, Prescribes}
@@ -11,10 +11,10 @@ AllImplement prescribes source box output other = (program : List ℕ) → presc
 
 -- the former relation compiles no more than the latter
 abbrev pub CompilesNoMore : Compiles → Compiles → Type 0
-CompilesNoMore less more = (source other : SourceText) (box : Setting) (output : OutputPlace) → less source box output other → more source box output other
+CompilesNoMore less more = (source other : SourceText) (box : Setting) (output : OutputLocation) → less source box output other → more source box output other
 
 -- the two relations prescribe the same
 abbrev pub PrescribesSame : Prescribes → Prescribes → Type 0
 PrescribesSame one two =
-    (source : SourceText) (box : Setting) (output : OutputPlace) (content : List ℕ)
+    (source : SourceText) (box : Setting) (output : OutputLocation) (content : List ℕ)
     → (one source box output content → two source box output content) × (two source box output content → one source box output content)

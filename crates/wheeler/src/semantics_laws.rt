@@ -1,7 +1,7 @@
 //! Laws of deterministic semantics. Each law is the contract of a function that does nothing.
 
 ghost use Rattle.std.specs.Prelude.{◌≡◌, ℕ, List, None, Some};
-ghost use Rattle.mem_files.specs.Outputs.{OutputPlace, out};
+ghost use Rattle.mem_files.specs.Outputs.{OutputLocation, out};
 ghost use Rattle.mem_files.specs.World.{World};
 ghost use Rattle.ddc_base.specs.declared.languages.Language.TheVariants.{M1};
 ghost use Rattle.guest_run.specs.Program.{ProgramRun};
@@ -101,11 +101,11 @@ pub fn the_bench_concludes_in_m1()
 /// With the largest relation, an assumption `compiles` about a stage whose program implements its source says exactly that the artefact
 /// implements the other source. If the source prescribes nothing, it says nothing.
 pub fn a_line_says_what_was_made<S: Semantics>()
-    ensures made { (source other : SourceText) (box : Setting) (output : OutputPlace) (program made : List ℕ) (step : ℕ) (world : World)
+    ensures made { (source other : SourceText) (box : Setting) (output : OutputLocation) (program made : List ℕ) (step : ℕ) (world : World)
         → IsBox box → Implements S.prescribes program source → ProgramRun program box step 0 world → out world output ≡ Some made
         → (AllImplement S.prescribes source box output other → Implements S.prescribes made other)
         × (Implements S.prescribes made other → AllImplement S.prescribes source box output other) }
-    ensures nothing { (source other : SourceText) (box : Setting) (output : OutputPlace)
+    ensures nothing { (source other : SourceText) (box : Setting) (output : OutputLocation)
         → ((content : List ℕ) → S.prescribes source box output content → ⊥) → AllImplement S.prescribes source box output other }
 {}
 
@@ -124,12 +124,12 @@ pub fn lines_are_of_programs<S: Semantics>()
 
 /// No meaning prescribes everything.
 pub fn no_meaning_prescribes_everything<M: Meaning>()
-    ensures { ((source : SourceText) (box : Setting) (output : OutputPlace) (content : List ℕ) → M.prescribes source box output content) → ⊥ }
+    ensures { ((source : SourceText) (box : Setting) (output : OutputLocation) (content : List ℕ) → M.prescribes source box output content) → ⊥ }
 {}
 
 /// A semantics of other languages prescribes what was given, for every source without a value in hex0, hex1 or hex2.
 pub fn others_as_given<L: OtherLanguages>()
-    ensures { (source : SourceText) → binary_of source ≡ None → (box : Setting) (output : OutputPlace) (content : List ℕ)
+    ensures { (source : SourceText) → binary_of source ≡ None → (box : Setting) (output : OutputLocation) (content : List ℕ)
         → (MachineCodeOr L.prescribes source box output content → L.prescribes source box output content)
         × (L.prescribes source box output content → MachineCodeOr L.prescribes source box output content) }
 {}
@@ -141,7 +141,7 @@ pub fn the_program_implements()
 
 /// A source compiles another one if the run of its program leaves the other's program.
 pub fn what_makes_the_program_compiles()
-    ensures { (source other : SourceText) (box : Setting) (output : OutputPlace) (made : List ℕ)
+    ensures { (source other : SourceText) (box : Setting) (output : OutputLocation) (made : List ℕ)
         → program_of_text other ≡ Some made → MacroLeaves source box output made
         → ⟦<Deterministic<MacroAssembly> as Meaning>⟧.compiles source box output other }
 {}
@@ -158,7 +158,7 @@ pub fn lines_on_own_programs_hold()
 
 /// What `Assembly` prescribes, `MacroAssembly` prescribes too.
 pub fn macro_assembly_keeps_assembly()
-    ensures { (source : SourceText) (box : Setting) (output : OutputPlace) (content : List ℕ)
+    ensures { (source : SourceText) (box : Setting) (output : OutputLocation) (content : List ℕ)
         → ValueLeaves source box output content → MacroLeaves source box output content }
 {}
 
@@ -172,10 +172,10 @@ pub fn items_link_to_the_program()
 /// hex1, hex2 or M1, and what was given for every other source.
 pub fn macro_code_and_others_as_given<L: OtherLanguages>()
     ensures macro_code { (source : SourceText) (program : List ℕ) → program_of_text source ≡ Some program
-        → (box : Setting) (output : OutputPlace) (content : List ℕ)
+        → (box : Setting) (output : OutputLocation) (content : List ℕ)
         → (MacroCodeOr L.prescribes source box output content → MacroLeaves source box output content)
         × (MacroLeaves source box output content → MacroCodeOr L.prescribes source box output content) }
-    ensures others { (source : SourceText) → program_of_text source ≡ None → (box : Setting) (output : OutputPlace) (content : List ℕ)
+    ensures others { (source : SourceText) → program_of_text source ≡ None → (box : Setting) (output : OutputLocation) (content : List ℕ)
         → (MacroCodeOr L.prescribes source box output content → L.prescribes source box output content)
         × (L.prescribes source box output content → MacroCodeOr L.prescribes source box output content) }
 {}

@@ -28,7 +28,7 @@ use Rattle.audit_rules.specs.Contents.{Contents, bytes_named, content}
 use Rattle.audit_rules.specs.Stages.{contents, stage_result}
 use Rattle.audit_rules.specs.Valid.{IsInputs}
 use Rattle.wheeler.specs.AllContents.{all_contents, done_from, stage_named, with_result}
-use Rattle.wheeler.proofs.Naming.{place-low}
+use Rattle.wheeler.proofs.Naming.{position-low}
 use Rattle.wheeler.proofs.RouteClosed.{there}
 use Rattle.audit_chain.specs.Provenance.{Collision, SameMark, SameMarks, content_mark, mark_named, run_input_name, programs}
 use Rattle.audit_chain.specs.Rests.Agree.{Agree, AgreeOnPrograms, IsSame, IsSameArtefact}
@@ -145,7 +145,7 @@ held-made recipe inputs report name given is made = by_input (input_at recipe.in
   by_stage : (o : Option ℕ) → stage_at recipe.stages name ≡ o → IsSome (option_map Artefact o) → Goal (option_map Artefact o)
   by_stage None at made = absurd cc
   by_stage (Some k) at made =
-      let low = place-low (λ (s : Stage). bytes_eq s.name name) recipe.stages k at in
+      let low = position-low (λ (s : Stage). bytes_eq s.name name) recipe.stages k at in
       let lengths = length-map (done_from recipe inputs [] recipe.stages) (λ (f : Finished). f.made) in
       (get_or all.artefacts k [], there all.artefacts k [] (omega (arith, low, lengths, r.count)))
 
@@ -153,7 +153,7 @@ held-made recipe inputs report name given is made = by_input (input_at recipe.in
       → Goal (option_or (option_map Given o) (option_map Artefact (stage_at recipe.stages name)))
   by_input None at made = by_stage (stage_at recipe.stages name) refl made
   by_input (Some k) at made =
-      let low = place-low (λ (i : Input). bytes_eq i.name name) recipe.inputs k at in
+      let low = position-low (λ (i : Input). bytes_eq i.name name) recipe.inputs k at in
       let counted = given.count in
       (get_or inputs k [], there inputs k [] (omega (arith, low, counted)))
 

@@ -21,7 +21,7 @@ use Rattle.recipe.specs.Kept.{IsRecipe, IsStage, IsMade, IsCheck}
 use Rattle.recipe.specs.Lookups.{content_named, input_at, source_named, source_of, stage_at}
 use Rattle.recipe.proofs.MoreStages.{content_more}
 use Rattle.wheeler.proofs.Finding.{each-all}
-use Rattle.wheeler.proofs.Naming.{place-low}
+use Rattle.wheeler.proofs.Naming.{position-low}
 use Rattle.wheeler.proofs.RouteClosed.{own-stage, same_element, within}
 use Rattle.audit_chain.specs.declared.rests.basis_part.BasisPart.{BasisPart}
 use Rattle.audit_chain.specs.declared.rests.basis_part.BasisPart.TheVariants.{Reads, Links, Runs}
@@ -60,15 +60,15 @@ files-parts P Other files reads links = All-map P Reads files reads
 pub artefact-low : (inputs : List Input) (earlier : List Stage) (name : List ℕ) (index : ℕ) → content_named inputs earlier name ≡ Some (content.Stage index) → index < length earlier
 unfolding content_named
 artefact-low inputs earlier name index is = by_input (input_at inputs name) is where
-  place_of : Option Content → ℕ
-  place_of (Some (content.Stage k)) = k
-  place_of _ = 0
+  input_index : Option Content → ℕ
+  input_index (Some (content.Stage k)) = k
+  input_index _ = 0
 
   by_stage : (o : Option ℕ) → stage_at earlier name ≡ o → option_map content.Stage o ≡ Some (content.Stage index) → index < length earlier
   by_stage None at is = absurd cc
   by_stage (Some k) at is =
-      let same : k ≡ index = ap place_of is in
-      let low = place-low (λ (s : Stage). bytes_eq s.name name) earlier k at in
+      let same : k ≡ index = ap input_index is in
+      let low = position-low (λ (s : Stage). bytes_eq s.name name) earlier k at in
       omega (arith, same, low)
 
   by_input : (o : Option ℕ) → option_or (option_map content.Input o) (option_map content.Stage (stage_at earlier name)) ≡ Some (content.Stage index) → index < length earlier
@@ -201,9 +201,9 @@ module _ (recipe : RecipeContents) (ok : IsRecipe recipe) where
       more : All Argued (parts_of recipe x)
       more = parts-argued (take n recipe.stages) x (ok.stages n x at)
 
-      both : (front : List BasisPart) → All Argued front → All Argued (front ++ parts_of recipe x)
+      both : (prefix : List BasisPart) → All Argued prefix → All Argued (prefix ++ parts_of recipe x)
       both [] these = more
-      both (p ∷ front) these = All-cons Argued p (front ++ parts_of recipe x) (All-head Argued p front these) (both front (All-tail Argued p front these))
+      both (p ∷ prefix) these = All-cons Argued p (prefix ++ parts_of recipe x) (All-head Argued p prefix these) (both prefix (All-tail Argued p prefix these))
     by_test x at false = all
 
     by_get : (o : Option Stage) → slice_get recipe.stages n ≡ o → All Argued (with_stage recipe parts o)

@@ -114,11 +114,11 @@ module _ (recipe : RecipeContents) (all other : Contents) where
       let mine = checked-value recipe all stage check found (content recipe all stage.name) was is one.right in
       let theirs = checked-value recipe other stage check found (content recipe other stage.name) was is two.right in
       let name = found-is check found source at is in
-      let front : binary_of (text_named recipe all found) ≡ binary_of (text_of recipe all source) =
+      let prefix : binary_of (text_named recipe all found) ≡ binary_of (text_of recipe all source) =
       ap (λ n. binary_of (text_named recipe all n)) (sym name) ∙ ap binary_of (text-is all check source at) in
       let back : binary_of (text_named recipe other found) ≡ binary_of (text_of recipe other source) =
       ap (λ n. binary_of (text_named recipe other n)) (sym name) ∙ ap binary_of (text-is other check source at) in
-      same_Some (content recipe all stage.name) (content recipe other stage.name) (sym mine ∙ front ∙ same-value source same ∙ sym back ∙ theirs)
+      same_Some (content recipe all stage.name) (content recipe other stage.name) (sym mine ∙ prefix ∙ same-value source same ∙ sym back ∙ theirs)
 
   -- ---- a stage that is checked in M1
 

@@ -172,9 +172,9 @@ module _ (recipe : RecipeContents) (ok : IsRecipe recipe) (name : List ℕ) wher
 
   -- ---- no line: no input is run
 
-  front-empty : {A : Type 0} (xs ys : List A) → xs ++ ys ≡ [] → xs ≡ []
-  front-empty [] ys is = refl
-  front-empty (x ∷ xs) ys is = absurd cc
+  prefix-empty : {A : Type 0} (xs ys : List A) → xs ++ ys ≡ [] → xs ≡ []
+  prefix-empty [] ys is = refl
+  prefix-empty (x ∷ xs) ys is = absurd cc
 
   pub none-left : {X A : Type 0} (f : X → Option A) (xs : List X) → filter_map f xs ≡ [] → All (λ x. f x ≡ None) xs
   none-left f [] is = All-nil _
@@ -193,8 +193,8 @@ module _ (recipe : RecipeContents) (ok : IsRecipe recipe) (name : List ℕ) wher
   no-line inputs others none k d less run =
       let input = get_or recipe.inputs k d in
       let trusted : List ℕ → Bool = runs_meet W in
-      let front = front-empty (filter_map (input_assumption trusted recipe) recipe.inputs) (filter_map (stage_assumption trusted recipe) recipe.stages) none in
-      let here = none-left (input_assumption trusted recipe) recipe.inputs front k d less in
+      let prefix = prefix-empty (filter_map (input_assumption trusted recipe) recipe.inputs) (filter_map (stage_assumption trusted recipe) recipe.stages) none in
+      let here = none-left (input_assumption trusted recipe) recipe.inputs prefix k d less in
       let source = some_of (source_of recipe input.name) (run-argued recipe ok name input.name run) in
       let both : None ≡ implements_line input.name (Some source.0) = sym here ∙ input-line trusted input run ∙ ap (implements_line input.name) source.1 in
       absurd cc

@@ -16,6 +16,13 @@ ghost use Rattle.audit_rules.specs.Bench.{bench};
 ghost use Rattle.audit_rules.specs.Contents.{content};
 ghost use Rattle.audit_rules.specs.Valid.{IsInputs};
 ghost use Rattle.audit_rules.specs.declared.answer.AuditAnswer.TheVariants.{Completes};
+ghost use Rattle.audit_chain.specs.Settled.{is_settled_line};
+ghost use Rattle.wheeler.specs.Assumptions.{Holds};
+ghost use Rattle.wheeler.specs.Largest.{AllImplement};
+ghost use Rattle.wheeler.specs.Settled.{KnowsMacroCode};
+ghost use Rattle.wheeler.specs.declared.assumption.Assumption.{Assumption};
+
+use wheeler::Semantics;
 
 /// In a true report the length and digest of each name are those of the bytes that the name stands for.
 pub fn marks_are_of_the_contents()
@@ -55,3 +62,13 @@ pub fn an_untold_binary_is_not_met()
         → (met : List ℕ) → IsMade recipe recipe.stages met → meets (walk recipe name) met ≡ true → met ≢ name
         → content recipe (all_contents recipe inputs) met ≢ content recipe (all_contents recipe inputs) recipe.compare.binary }
 {}
+
+/// An assumption that lengths and digests settle holds under each semantics in which the programs of sources in M1 implement them. Otherwise two
+/// different contents with one length and one digest are at hand.
+pub fn settled_lines_hold<S: Semantics>()
+    ensures { KnowsMacroCode S.prescribes → (recipe : RecipeContents) (inputs : List (List ℕ)) (report : Report) → IsRecipe recipe → IsInputs recipe inputs
+        → bench recipe inputs ≡ Completes report → (line : Assumption) → is_settled_line recipe inputs report line ≡ true
+        → Holds S.prescribes (AllImplement S.prescribes) recipe (all_contents recipe inputs) line ⊎ Collision }
+{
+    wheeler::semantics_laws::settled_lines_hold::<S>();
+}

@@ -1,9 +1,14 @@
 -- The words of the audit commands, each set of them as one value.
 use Rattle.std.specs.Prelude.{ℕ, Option, None, Some, List, [], ◌∷◌}
-use Rattle.command_plan.specs.Words.{as_four_files, as_steps, as_three_files, as_two_files}
+use Rattle.command_plan.specs.Words.{as_file_name, as_four_files, as_steps, as_three_files, as_two_files}
 use Rattle.audit_commands.specs.declared.words.ReportWords.{ReportWords}
 use Rattle.audit_commands.specs.declared.words.PieceWords.{PieceWords}
 use Rattle.audit_commands.specs.declared.words.RelativeWords.{RelativeWords}
+
+-- the word `REPORT`
+abbrev pub report_word : List (List ℕ) → Option (List ℕ)
+report_word (report ∷ []) = as_file_name report
+report_word _ = None
 
 -- the words `RECIPE REPORT`
 abbrev pub report_of : Option (List ℕ × List ℕ) → Option ReportWords

@@ -1,5 +1,6 @@
 -- No source comes to want of memory.
 use Rattle.std.proofs.Common.{◌≢◌, ℕ, ◌+◌, Bool, true, false, if◌then◌else◌, nat_lt, Option, None, Some, Result, Ok, Err, List, [], ◌∷◌, ◌++◌, length, is_some, not, subst}
+use Rattle.ddc_base.specs.Limits.{most_items, most_source}
 use Rattle.hex_langs.specs.declared.items.item.Item.{Item}
 use Rattle.hex_langs.specs.declared.items.item.Kind.{Kind}
 use Rattle.hex_langs.specs.declared.items.reader.HexRefusal.{HexRefusal}
@@ -105,13 +106,13 @@ items-not : (dialect : Dialect) (source : List ℕ) → NotHex (items_of dialect
 unfolding items_of
 items-not dialect source =
     let all = formed None (reading dialect 0 0 source) in
-    choice-not (nat_lt 67108864 (length source)) (limited_items all)
-    (choice-not (nat_lt 33554432 (length all.items)) (answer all.items all.end) (answer-not all.items all.end (formed-not None (reading dialect 0 0 source))))
+    choice-not (nat_lt most_source (length source)) (limited_items all)
+    (choice-not (nat_lt most_items (length all.items)) (answer all.items all.end) (answer-not all.items all.end (formed-not None (reading dialect 0 0 source))))
 
-onto-not : (front : List ℕ) (r : Result (List ℕ) HexRefusal) → NotHex r → NotHex (onto front r)
-onto-not front (Ok bytes) fine = tt
-onto-not front (Err hex.OutOfMemory) fine = fine
-onto-not front (Err _) fine = tt
+onto-not : (prefix : List ℕ) (r : Result (List ℕ) HexRefusal) → NotHex r → NotHex (onto prefix r)
+onto-not prefix (Ok bytes) fine = tt
+onto-not prefix (Err hex.OutOfMemory) fine = fine
+onto-not prefix (Err _) fine = tt
 
 put-not : (r : Result (List ℕ) Miss) (index : ℕ) (later : Result (List ℕ) HexRefusal) → NotHex later → NotHex (appended r index later)
 put-not (Ok bytes) index later fine = onto-not bytes later fine
@@ -194,7 +195,7 @@ in-not words = open-not (open_quote words) (definitions [] (parts (word_list wor
 by-not : (r : Result Defined M1Refusal) (words : List Word) → NotM1 r → NotM1 (expansion_by r words)
 by-not (Ok defined) words fine =
     let all = formed None (words_reading (value_in defined) words) in
-    m1-choice (nat_lt 33554432 (length all.items)) (items_unless_refused all.items all.end) (m1-answer all.items all.end (formed-not None (words_reading (value_in defined) words)))
+    m1-choice (nat_lt most_items (length all.items)) (items_unless_refused all.items all.end) (m1-answer all.items all.end (formed-not None (words_reading (value_in defined) words)))
 by-not (Err m1.OutOfMemory) words fine = fine
 by-not (Err _) words fine = tt
 
@@ -202,5 +203,5 @@ pub expansions-never : (source : List ℕ) → expansion_of source ≢ Err m1.Ou
 unfolding expansion_of
 expansions-never source is =
     subst NotM1 is
-    (m1-choice (nat_lt 67108864 (length source)) (expansion_by (definitions_in (words_of source)) (plain_words (parts (word_list (words_of source)))))
+    (m1-choice (nat_lt most_source (length source)) (expansion_by (definitions_in (words_of source)) (plain_words (parts (word_list (words_of source)))))
     (by-not (definitions_in (words_of source)) (plain_words (parts (word_list (words_of source)))) (in-not (words_of source))))

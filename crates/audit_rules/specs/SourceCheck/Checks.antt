@@ -72,7 +72,7 @@ first_other_item (x ∷ xs) (y ∷ ys) = if same_item x y then option_map suc (f
 -- nothing is wrong, or the first difference is here
 abbrev pub differs : Option ℕ → Option CheckCause
 differs None = None
-differs (Some place) = Some (cause.Differs place)
+differs (Some offset) = Some (cause.Differs offset)
 
 -- what is wrong with the items of an artefact's text, compared with these
 abbrev pub items_against : List Item → Result (List Item) HexRefusal → Option CheckCause

@@ -3,7 +3,7 @@ use Rattle.std.proofs.Common.{◌≡◌, ◌≢◌, ℕ, Bool, List, Result, Ok,
 use Rattle.checkpoints.proofs.Decisions.{by_case, chosen, is_test, passed}
 use Rattle.recipe.specs.declared.contents.RecipeContents.{RecipeContents}
 use Rattle.save_format.specs.DeltaText.DeltaText.{DeltaText, parsed_delta}
-use Rattle.save_format.specs.DeltaText.Front.{is_of_other_base}
+use Rattle.save_format.specs.DeltaText.Header.{is_of_other_base}
 use Rattle.audit_rules.specs.Positions.{Position}
 use Rattle.audit_run.specs.Save.Inside.Tests as test
 use Rattle.audit_run.specs.Save.Judged.{judged}
@@ -24,14 +24,14 @@ module _ (recipe : RecipeContents) (inputs : List (List ℕ)) (base text : List 
   abbrev named : Position → Bool
   named b = is_of_other_base (base_digest (save_of recipe inputs b)) text
 
-  says : (b : Position) → Resumes recipe inputs base (Ok b) → ¬ (NamesAnotherBase (save_of recipe inputs b) text) → (said : Result DeltaText ℕ)
-      → parsed_delta (save_of recipe inputs b) text ≡ said → IsAnswer (position_relative recipe (save_of recipe inputs b) said)
+  says : (b : Position) → Resumes recipe inputs base (Ok b) → ¬ (NamesAnotherBase (save_of recipe inputs b) text) → (parsed : Result DeltaText ℕ)
+      → parsed_delta (save_of recipe inputs b) text ≡ parsed → IsAnswer (position_relative recipe (save_of recipe inputs b) parsed)
   says b r own (Err offset) is = ((b, r, (own, is)), λ e. cc)
   says b r own (Ok delta) is =
-      let said = save_relative (save_of recipe inputs b) delta in
-      by_case IsAnswer (test.is_saved_position recipe said) (saves.is_saved_position recipe said) _ _ (λ position. ((b, r, (own, delta, is, position, refl)), λ e. cc)) (λ not. ((b, r, (own, delta, is, not)), λ e. cc))
+      let parsed = save_relative (save_of recipe inputs b) delta in
+      by_case IsAnswer (test.is_saved_position recipe parsed) (saves.is_saved_position recipe parsed) _ _ (λ position. ((b, r, (own, delta, is, position, refl)), λ e. cc)) (λ not. ((b, r, (own, delta, is, not)), λ e. cc))
 
-  judges : (said : Result Position SaveRefusal) → Resumes recipe inputs base said → said ≢ Err save.OutOfMemory → IsAnswer (after_base recipe inputs text said)
+  judges : (parsed : Result Position SaveRefusal) → Resumes recipe inputs base parsed → parsed ≢ Err save.OutOfMemory → IsAnswer (after_base recipe inputs text parsed)
   judges (Err refusal) r settled = ((r, λ same. settled (ap Err same)), λ e. cc)
   judges (Ok b) r settled =
       by_case IsAnswer (named b) (is_test (named b)) _ _ (λ other. ((b, r, other), λ e. cc)) (λ own. says b r own (parsed_delta (save_of recipe inputs b) text) refl)

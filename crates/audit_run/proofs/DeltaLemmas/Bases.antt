@@ -7,7 +7,7 @@ use Rattle.save_format.specs.declared.byte_fields.form.TextForm.TheVariants.{Sec
 use Rattle.save_format.specs.declared.parts.StagePart.{StagePart}
 use Rattle.save_format.specs.SaveText.{SaveText, save_magic}
 use Rattle.save_format.specs.Seen.{stage_view}
-use Rattle.save_format.specs.Spelled.{IsShortStage, IsStageText, IsTextOfSave, old_text_of_save, save_text_in, text_of_save}
+use Rattle.save_format.specs.Encoded.{IsShortStage, IsStageText, IsTextOfSave, old_text_of_save, save_text_in, text_of_save}
 use Rattle.save_format.proofs.Written.{is_short}
 
 -- an old text begins with another magic

@@ -1,6 +1,7 @@
 -- The delta of every position is short.
 use Rattle.std.proofs.Common.{ℕ, zero, suc, ◌<◌, List, [], ◌∷◌, length, map, drop, arith, length-append}
 use Rattle.std.specs.List.{flat_map}
+use Rattle.ddc_base.specs.Limits.{most_save}
 use Rattle.checkpoints.specs.Checkpoint.{state_of}
 use Rattle.checkpoints.proofs.PatchLengths.{patches_short}
 use Rattle.checkpoints.proofs.TextLengths.{HasAtMost, counted, itself, joined, number32}
@@ -8,10 +9,10 @@ use Rattle.recipe.specs.declared.contents.RecipeContents.{RecipeContents}
 use Rattle.recipe.specs.Kept.{IsRecipe}
 use Rattle.report.proofs.Marks.{is_digest}
 use Rattle.save_format.specs.SaveText.{StageText}
-use Rattle.save_format.specs.Spelled.{digest_text, stage_text, text_of_save}
+use Rattle.save_format.specs.Encoded.{digest_text, stage_text, text_of_save}
 use Rattle.save_format.specs.DeltaText.DeltaText.{delta_magic}
 use Rattle.save_format.specs.DeltaText.Stages.{kept_stages}
-use Rattle.save_format.specs.PatchText.Spelled.{text_of_patch}
+use Rattle.save_format.specs.PatchText.Encoded.{text_of_patch}
 use Rattle.audit_rules.specs.Positions.{Position}
 use Rattle.audit_rules.specs.Valid.{IsInputs, IsPosition}
 use Rattle.audit_run.specs.Save.Saves.{save_of, stage_of}
@@ -33,7 +34,7 @@ patch_most recipe inputs b p is given base position =
     record { long = patches_short b.at p.at base.2.valid (has_text recipe inputs b is given base).state.steps position.2.valid (has_text recipe inputs p is given position).state.steps }
 
 pub short : (recipe : RecipeContents) (inputs : List (List ℕ)) (b p : Position) → IsRecipe recipe → IsInputs recipe inputs → IsPosition recipe b → IsPosition recipe p
-    → length (delta_text_of recipe inputs b p) < 4_294_967_296
+    → length (delta_text_of recipe inputs b p) < most_save
 unfolding delta_text_of
 short recipe inputs b p is given base position =
     let kept = kept_stages (map stage_of b.done) (map stage_of p.done) in

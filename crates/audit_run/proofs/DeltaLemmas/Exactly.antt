@@ -12,15 +12,15 @@ use Rattle.checkpoints.specs.Checkpoint.{state_of}
 use Rattle.checkpoints.proofs.PatchCounts.{counted_text, few_of, has_patch, range_few}
 use Rattle.checkpoints.proofs.SameText.{same_text}
 use Rattle.save_format.specs.SaveText.{StageText}
-use Rattle.save_format.specs.Spelled.{IsSavedDigest, digest_text, text_of_save}
-use Rattle.save_format.specs.StateText.Spelled.{IsStateText}
-use Rattle.save_format.specs.DeltaText.DeltaText.{DeltaText, IsDelta, delta_front_at, delta_magic, parsed_delta, text_of_delta}
-use Rattle.save_format.specs.DeltaText.Front.{is_of_other_base, is_other_digest}
+use Rattle.save_format.specs.Encoded.{IsSavedDigest, digest_text, text_of_save}
+use Rattle.save_format.specs.StateText.Encoded.{IsStateText}
+use Rattle.save_format.specs.DeltaText.DeltaText.{DeltaText, IsDelta, delta_header_at, delta_magic, parsed_delta, text_of_delta}
+use Rattle.save_format.specs.DeltaText.Header.{is_of_other_base, is_other_digest}
 use Rattle.save_format.specs.DeltaText.Stages.{equal_stages, kept_stages, stages_relative_text}
-use Rattle.save_format.specs.PatchText.Spelled.{text_of_patch}
+use Rattle.save_format.specs.PatchText.Encoded.{text_of_patch}
 use Rattle.save_format.specs.SaveText.{SaveText}
-use Rattle.save_format.proofs.ByteFieldsLemmas.Spells.{AreBytes, Nothing, Spells, spells, spells_begun, then}
-use Rattle.save_format.proofs.Texts.{spells_digest}
+use Rattle.save_format.proofs.ByteFieldsLemmas.Encodes.{AreBytes, Nothing, Encodes, encodes, encodes_begun, then}
+use Rattle.save_format.proofs.Texts.{encodes_digest}
 use Rattle.save_format.proofs.DeltaTextLemmas.Texts.{parsed_again, parsed_takes}
 use Rattle.audit_rules.specs.Positions.{Position}
 use Rattle.audit_rules.specs.Valid.{IsInputs, IsPosition}
@@ -35,7 +35,7 @@ use Rattle.audit_run.specs.declared.save.reading.SaveRefusal.TheVariants as save
 use Rattle.audit_run.proofs.DeltaLemmas.Answered as delta
 use Rattle.audit_run.proofs.SaveLemmas.Answered as answer
 use Rattle.audit_run.proofs.SaveLemmas.Exactly as saves
-use Rattle.audit_run.proofs.SaveLemmas.PositionSaid.{all_of}
+use Rattle.audit_run.proofs.SaveLemmas.PositionParsed.{all_of}
 use Rattle.audit_run.proofs.SaveLemmas.Written.{has_text}
 
 -- ---- a base
@@ -62,12 +62,12 @@ same_base recipe inputs text is given b c first second =
 
 -- ---- the base that a delta names
 
-spells_front : Spells delta_front_at (λ digest. delta_magic ++ digest_text digest) IsSavedDigest
-unfolding delta_front_at
-spells_front =
-    spells (
-    then {G = IsSavedDigest} {K = Nothing} (λ (digest : Digest). tt) (spells_begun delta_magic refl) (λ begun f.
-    spells spells_digest (λ digest g. refl) (λ digest g. ((tt, refl), g)) (λ digest g. g.1)))
+encodes_header : Encodes delta_header_at (λ digest. delta_magic ++ digest_text digest) IsSavedDigest
+unfolding delta_header_at
+encodes_header =
+    encodes (
+    then {G = IsSavedDigest} {K = Nothing} (λ (digest : Digest). tt) (encodes_begun delta_magic refl) (λ begun f.
+    encodes encodes_digest (λ digest g. refl) (λ digest g. ((tt, refl), g)) (λ digest g. g.1)))
     (λ digest f. refl) (λ digest f. f.1.1) (λ digest f. (tt, (tt, f)))
 
 -- whether a delta names another base turns on its digest alone
@@ -75,7 +75,7 @@ named : (base : SaveText) (delta : DeltaText) (digest : Digest) (text : List ℕ
     → is_of_other_base digest text ≡ not (bytes_eq delta.base.0 digest.0)
 named base delta digest text is e =
     ap (is_of_other_base digest) e
-    ∙ ap (is_other_digest digest) (spells_front.again delta.base (stages_relative_text base.stages delta.stages ++ text_of_patch base.state delta.state) is)
+    ∙ ap (is_other_digest digest) (encodes_header.again delta.base (stages_relative_text base.stages delta.stages ++ text_of_patch base.state delta.state) is)
 
 same_named : (base : SaveText) (delta : DeltaText) (digest : Digest) (text : List ℕ) → IsSavedDigest delta.base → text ≡ text_of_delta base delta
     → ¬ (is_of_other_base digest text ≡ true) → delta.base ≡ digest
@@ -101,18 +101,18 @@ pub has_delta : (recipe : RecipeContents) (inputs : List (List ℕ)) (b p : Posi
     → IsDelta (save_of recipe inputs b) (delta_of recipe inputs b p)
 has_delta recipe inputs b p is given base position =
     let known = has_text recipe inputs b is given base in
-    let said = has_text recipe inputs p is given position in
-    let few = said.stages.0 in
+    let parsed = has_text recipe inputs p is given position in
+    let few = parsed.stages.0 in
     let base_stages = map stage_of b.done in
     let stages = map stage_of p.done in
     record {
       digest = record { full = (is_digest (text_of_save (save_of recipe inputs b))).count };
       stages = record {
-        all = all_of 0 stages said.stages.1;
+        all = all_of 0 stages parsed.stages.1;
         kept = omega (arith, few, few_kept base_stages stages);
         few = omega (arith, few, length-drop (kept_stages base_stages stages) stages);
       };
-      state = has_patch (state_of b.at) p.at known.state (few_of b.at) said.state;
+      state = has_patch (state_of b.at) p.at known.state (few_of b.at) parsed.state;
     }
 
 -- ---- each answer
@@ -123,9 +123,9 @@ is_position recipe inputs base text (Ok p) valid (b, r, (own, delta, formed, pos
 is_position recipe inputs base text (Err refusal) valid resumes = tt
 
 -- what was read is what its delta says
-said_again : (recipe : RecipeContents) (inputs : List (List ℕ)) (b p : Position) (delta : DeltaText) → delta.base ≡ base_digest (save_of recipe inputs b) → IsStateText delta.state
+delta_again : (recipe : RecipeContents) (inputs : List (List ℕ)) (b p : Position) (delta : DeltaText) → delta.base ≡ base_digest (save_of recipe inputs b) → IsStateText delta.state
     → IsSavedPosition recipe (save_relative (save_of recipe inputs b) delta) → p ≡ position_of (save_relative (save_of recipe inputs b) delta) → delta_of recipe inputs b p ≡ delta
-said_again recipe inputs b p delta digest text (stage, stages, position) found =
+delta_again recipe inputs b p delta digest text (stage, stages, position) found =
     let stages_are : map stage_of p.done ≡ delta.stages = ap (λ (q : Position). map stage_of q.done) found ∙ saves.same_stages delta.stages in
     let state_is : state_of p.at ≡ delta.state = ap (λ (q : Position). state_of q.at) found ∙ same_text delta.state text position.range in
     λ i. record { base = sym digest i; stages = stages_are i; state = state_is i }
@@ -136,10 +136,10 @@ unfolding delta_text_of
 is_found recipe inputs base text (Ok p) is given base_fits fits positions (b, r, (own, delta, formed, position, found)) =
     let known = save_of recipe inputs b in
     let at = positions b r in
-    let spelt = parsed_takes known text delta (has_text recipe inputs b is given at) fits formed in
-    let digest = same_named known delta (base_digest known) text spelt.0.digest spelt.1 own in
-    let whole : IsStateText delta.state = counted_text known.state delta.state spelt.0.state (range_few known.state delta.state spelt.0.state position.2.range) in
-    (b, (at, saves.is_found recipe inputs base (Ok b) base_fits r), spelt.1 ∙ ap (text_of_delta known) (sym (said_again recipe inputs b p delta digest whole position found)))
+    let encoding = parsed_takes known text delta (has_text recipe inputs b is given at) fits formed in
+    let digest = same_named known delta (base_digest known) text encoding.0.digest encoding.1 own in
+    let whole : IsStateText delta.state = counted_text known.state delta.state encoding.0.state (range_few known.state delta.state encoding.0.state position.2.range) in
+    (b, (at, saves.is_found recipe inputs base (Ok b) base_fits r), encoding.1 ∙ ap (text_of_delta known) (sym (delta_again recipe inputs b p delta digest whole position found)))
 is_found recipe inputs base text (Err refusal) is given base_fits fits positions resumes = tt
 
 -- the delta of a position against its base
@@ -150,8 +150,8 @@ module _ (recipe : RecipeContents) (inputs : List (List ℕ)) (text : List ℕ) 
   unfolding delta_text_of
   formed_so = parsed_again (save_of recipe inputs b) (delta_of recipe inputs b p) text (has_text recipe inputs b is given base) (has_delta recipe inputs b p is given base position) e
 
-  said_so : (delta : DeltaText) → parsed_delta (save_of recipe inputs b) text ≡ Ok delta → delta ≡ delta_of recipe inputs b p
-  said_so delta formed = let both : ◌≡◌ {A = Result DeltaText ℕ} (Ok delta) (Ok (delta_of recipe inputs b p)) = sym formed ∙ formed_so in cc
+  only_delta : (delta : DeltaText) → parsed_delta (save_of recipe inputs b) text ≡ Ok delta → delta ≡ delta_of recipe inputs b p
+  only_delta delta formed = let both : ◌≡◌ {A = Result DeltaText ℕ} (Ok delta) (Ok (delta_of recipe inputs b p)) = sym formed ∙ formed_so in cc
 
   not_another : ¬ (NamesAnotherBase (save_of recipe inputs b) text)
   unfolding delta_text_of
@@ -163,14 +163,14 @@ module _ (recipe : RecipeContents) (inputs : List (List ℕ)) (text : List ℕ) 
 
   goes : (result : Result Position DeltaRefusal) → GoesOnRelative recipe (save_of recipe inputs b) text result → IsResumedRelativeAs p result
   goes (Ok found) (own, delta, formed, saved, same) =
-      same ∙ ap (λ (d : DeltaText). position_of (save_relative (save_of recipe inputs b) d)) (said_so delta formed) ∙ saves.same_position recipe inputs p position.2.valid
+      same ∙ ap (λ (d : DeltaText). position_of (save_relative (save_of recipe inputs b) d)) (only_delta delta formed) ∙ saves.same_position recipe inputs p position.2.valid
   goes (Err OutOfMemory) from = tt
   goes (Err OtherBase) other = not_another other
   goes (Err (Form offset)) (own, formed) =
       let both : ◌≡◌ {A = Result DeltaText ℕ} (Err offset) (Ok (delta_of recipe inputs b p)) = sym formed ∙ formed_so in
       cc
   goes (Err State) (own, delta, formed, none) =
-      none (subst (λ (d : DeltaText). IsSavedPosition recipe (save_relative (save_of recipe inputs b) d)) (sym (said_so delta formed)) (saves.saves_a_position recipe inputs p position))
+      none (subst (λ (d : DeltaText). IsSavedPosition recipe (save_relative (save_of recipe inputs b) d)) (sym (only_delta delta formed)) (saves.saves_a_position recipe inputs p position))
   goes (Err (Base refusal)) from = absurd from
 
 module _ (recipe : RecipeContents) (inputs : List (List ℕ)) (base text : List ℕ) (is : kept.IsRecipe recipe) (given : IsInputs recipe inputs) (b p : Position) (at : IsBaseAt recipe inputs b base)

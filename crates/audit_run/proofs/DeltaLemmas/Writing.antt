@@ -4,6 +4,7 @@ use Rattle.std.specs.Prelude.{IfOk, OnOk}
 use Rattle.std.specs.Int.{w32}
 use Rattle.std.proofs.lemmas.List.Elements.{All-drop}
 use Rattle.ddc_base.specs.declared.byte_list.OutOfMemory.{OutOfMemory}
+use Rattle.ddc_base.specs.Limits.{page_number_end}
 use Rattle.guest_run.specs.State.{GuestState}
 use Rattle.recipe.specs.declared.contents.RecipeContents.{RecipeContents}
 use Rattle.recipe.specs.Kept.{IsRecipe}
@@ -13,33 +14,33 @@ use Rattle.save_format.specs.ByteFields.Spelling.{list_text, number_text}
 use Rattle.save_format.specs.declared.parts.StagePart.{StagePart}
 use Rattle.save_format.specs.SaveText.{SaveText, parsed_save}
 use Rattle.save_format.specs.Seen.{stage_view}
-use Rattle.save_format.specs.Spelled.{IsShortStage, stage_text, text_of_save}
+use Rattle.save_format.specs.Encoded.{IsShortStage, stage_text, text_of_save}
 use Rattle.save_format.specs.DeltaText.DeltaText.{text_of_delta}
 use Rattle.save_format.specs.DeltaText.Stages.{kept_stages, stages_relative_text}
 use Rattle.audit_rules.specs.declared.answer.Finished.{Finished}
 use Rattle.audit_rules.specs.Positions.{Position, On, at}
 use Rattle.audit_rules.specs.Valid.{IsInputs, IsPosition}
 use Rattle.audit_rules.proofs.Rules.{rules}
-use Rattle.audit_run.specs.Inside.Parts.{IsStandingAfter, seen}
+use Rattle.audit_run.specs.Inside.Parts.{IsPhaseAfter, seen}
 use Rattle.audit_run.specs.Seen.{AuditState}
-use Rattle.audit_run.specs.declared.standing.AuditStanding.{AuditStanding}
-use Rattle.audit_run.specs.declared.standing.AuditStanding.TheVariants.{Running}
+use Rattle.audit_run.specs.declared.phase.AuditPhase.{AuditPhase}
+use Rattle.audit_run.specs.declared.phase.AuditPhase.TheVariants.{Running}
 use Rattle.audit_run.specs.Save.Saves.{save_of, stage_of}
 use Rattle.audit_run.specs.Delta.Deltas.{IsBaseAt, base_digest, delta_text_of}
 use Rattle.audit_run.proofs.SaveLemmas.Exactly.{formed_of}
 use Rattle.audit_run.proofs.SaveLemmas.Written.{few_done}
 
-module _ (recipe : RecipeContents) (inputs : List (List ℕ)) (base : List ℕ) (is : IsRecipe recipe) (given : IsInputs recipe inputs) (b : Position) (said : IsBaseAt recipe inputs b base) where
+module _ (recipe : RecipeContents) (inputs : List (List ℕ)) (base : List ℕ) (is : IsRecipe recipe) (given : IsInputs recipe inputs) (b : Position) (parsed : IsBaseAt recipe inputs b base) where
   pub is_read : IsOk (parsed_save base)
-  is_read = rw (formed_of recipe inputs base b is given said.0 said.1) refl
+  is_read = rw (formed_of recipe inputs base b is given parsed.0 parsed.1) refl
 
   pub known_at : (known : SaveText) → parsed_save base ≡ Ok known → known ≡ save_of recipe inputs b
   known_at known read =
-      let both : ◌≡◌ {A = Result SaveText ℕ} (Ok known) (Ok (save_of recipe inputs b)) = sym read ∙ formed_of recipe inputs base b is given said.0 said.1 in
+      let both : ◌≡◌ {A = Result SaveText ℕ} (Ok known) (Ok (save_of recipe inputs b)) = sym read ∙ formed_of recipe inputs base b is given parsed.0 parsed.1 in
       cc
 
-  pub few_pages : (known : SaveText) → parsed_save base ≡ Ok known → length known.state.pages ≤ 2 ^ 26
-  few_pages known read = subst (λ (save : SaveText). length save.state.pages ≤ 2 ^ 26) (sym (known_at known read)) (few_of b.at)
+  pub few_pages : (known : SaveText) → parsed_save base ≡ Ok known → length known.state.pages ≤ page_number_end
+  few_pages known read = subst (λ (save : SaveText). length save.state.pages ≤ page_number_end) (sym (known_at known read)) (few_of b.at)
 
   pub delta_is : (known : SaveText) (p : Position) (text : List ℕ) → parsed_save base ≡ Ok known
       → text ≡ text_of_delta known (record { base = base_digest known; stages = map stage_of p.done; state = state_of p.at }) → text ≡ delta_text_of recipe inputs b p
@@ -54,17 +55,17 @@ pub deltas_are : (recipe : RecipeContents) (inputs : List (List ℕ)) (base : Li
     → parsed_save base ≡ Ok known
     → IfOk result (λ text. text ≡ text_of_delta known (record { base = base_digest known; stages = map stage_of p.done; state = state_of p.at }))
     → IfOk result (λ text. (b : Position) → IsBaseAt recipe inputs b base → text ≡ delta_text_of recipe inputs b p)
-deltas_are recipe inputs base known p (Ok text) is given said e = λ b base_is. delta_is recipe inputs base is given b base_is known p text said e
-deltas_are recipe inputs base known p (Err error) is given said e = tt
+deltas_are recipe inputs base known p (Ok text) is given parsed e = λ b base_is. delta_is recipe inputs base is given b base_is known p text parsed e
+deltas_are recipe inputs base known p (Err error) is given parsed e = tt
 
 -- what an audit saves is a base at its position
-pub base_saved : (audit : AuditState) (recipe : RecipeContents) (inputs given : List (List ℕ)) (done so_far : List Finished) (where_it_is : AuditStanding) (guest : GuestState) (result : Result (List ℕ) OutOfMemory)
-    → audit ≡ record { recipe = recipe; inputs = inputs; stands = seen done where_it_is } → where_it_is ≡ Running guest → IsStandingAfter recipe done where_it_is → given ≡ inputs → so_far ≡ done
+pub base_saved : (audit : AuditState) (recipe : RecipeContents) (inputs given : List (List ℕ)) (done so_far : List Finished) (where_it_is : AuditPhase) (guest : GuestState) (result : Result (List ℕ) OutOfMemory)
+    → audit ≡ record { recipe = recipe; inputs = inputs; current = seen done where_it_is } → where_it_is ≡ Running guest → IsPhaseAfter recipe done where_it_is → given ≡ inputs → so_far ≡ done
     → IfOk result (λ text. text ≡ text_of_save (save_of recipe given (at so_far guest)))
-    → IfOk result (λ text. (p : Position) × (audit.stands ≡ Some (On p)) × IsBaseAt audit.recipe audit.inputs p text)
+    → IfOk result (λ text. (p : Position) × (audit.current ≡ Some (On p)) × IsBaseAt audit.recipe audit.inputs p text)
 base_saved audit recipe inputs given done so_far where_it_is guest (Ok text) view is stood given_is done_is e =
-    subst (λ (a : AuditState). (p : Position) × (a.stands ≡ Some (On p)) × IsBaseAt a.recipe a.inputs p text) (sym view)
-    (at done guest, ap (seen done) is, (subst (IsStandingAfter recipe done) is stood, inl (e ∙ (λ i. text_of_save (save_of recipe (given_is i) (at (done_is i) guest))))))
+    subst (λ (a : AuditState). (p : Position) × (a.current ≡ Some (On p)) × IsBaseAt a.recipe a.inputs p text) (sym view)
+    (at done guest, ap (seen done) is, (subst (IsPhaseAfter recipe done) is stood, inl (e ∙ (λ i. text_of_save (save_of recipe (given_is i) (at (done_is i) guest))))))
 base_saved audit recipe inputs given done so_far where_it_is guest (Err error) view is stood given_is done_is e = tt
 
 -- ---- stages

@@ -8,6 +8,7 @@ use Rattle.std.proofs.lemmas.Slice.Eq.{bytes_eq-Decides}
 use Rattle.checkpoints.proofs.Decisions.{are_all, both, by_case, chosen, is_at_most, is_test, passed}
 use Rattle.checkpoints.proofs.Decided.{are_bytes, is_content, is_in_range, is_joined}
 use Rattle.ddc_base.specs.declared.digests.Digest.{Digest}
+use Rattle.ddc_base.specs.Limits.{most_artefacts, most_names}
 use Rattle.mem_files.specs.Names.{is_stripped_name}
 use Rattle.recipe.specs.declared.contents.RecipeContents.{RecipeContents}
 use Rattle.recipe.specs.declared.parts.Output.{Output}
@@ -73,7 +74,7 @@ is_finished stage f =
     (both (is_small_mark f.stream1)
     (both (is_small_mark f.stream2)
     (both (are_all is_left_line f.left)
-    (both (is_at_most (length f.left) 4_096) (both (is_test (ascend f.left)) (both (is_content f.made) (has_mark stage.output f)))))))))
+    (both (is_at_most (length f.left) most_names) (both (is_test (ascend f.left)) (both (is_content f.made) (has_mark stage.output f)))))))))
 
 are_finished : (stages : List Stage) (done : List Finished) → Decides (test.are_finished stages done) (AreFinished stages done)
 are_finished stages [] = (λ t. tt, λ h. refl)
@@ -83,7 +84,7 @@ are_finished (stage ∷ stages) (f ∷ done) = both (is_finished stage f) (are_f
 are_done : (recipe : RecipeContents) (done : List Finished) → Decides (test.are_done recipe done) (AreDone recipe done)
 unfolding test.are_done
 are_done recipe done =
-    Decides-like _ (λ h. assumption) (λ h. assumption) (both (are_finished recipe.stages done) (is_at_most (artefact_bytes done) 1_073_741_824))
+    Decides-like _ (λ h. assumption) (λ h. assumption) (both (are_finished recipe.stages done) (is_at_most (artefact_bytes done) most_artefacts))
 
 -- saves
 
@@ -110,7 +111,7 @@ module _ (recipe : RecipeContents) (inputs : List (List ℕ)) (text : List ℕ) 
   abbrev IsAnswer : Result Position SaveRefusal → Type 0
   IsAnswer result = Resumes recipe inputs text result × (result ≢ Err OutOfMemory)
 
-  judges : (said : Result SaveText ℕ) → parsed_save text ≡ said → IsAnswer (judged_as recipe inputs said)
+  judges : (parsed : Result SaveText ℕ) → parsed_save text ≡ parsed → IsAnswer (judged_as recipe inputs parsed)
   judges (Err offset) is = (is, λ e. cc)
   judges (Ok save) is =
       by_case IsAnswer (test.is_of recipe inputs save) (is_of recipe inputs save) _ _

@@ -5,7 +5,7 @@ use Rattle.std.proofs.lemmas.List.{length-map, take_all}
 use Rattle.ddc_base.specs.declared.digests.Digest.{Digest}
 use Rattle.save_format.specs.ByteFields.Reader.{Read}
 use Rattle.save_format.specs.SaveText.{SaveText, digest_at, origin_at, parsed_save, save_at}
-use Rattle.save_format.proofs.ByteFieldsLemmas.Spells.{all_taken}
+use Rattle.save_format.proofs.ByteFieldsLemmas.Encodes.{all_taken}
 use Rattle.save_format.proofs.Origins.{OriginOf, as_many, digests_at, none_at, one_at, origin_there, wrong_at}
 use Rattle.save_format.proofs.StateTextLemmas.Mapped.{same_rest, same_value}
 use Rattle.audit_run.specs.Save.Saves.{IsOf, digest_of}
@@ -48,7 +48,7 @@ module _ (text cursor : List ℕ) (whole : cursor ≡ text) (save : SaveText) (f
 
   module _ (recipe : Digest) (count : ℕ) (following : List ℕ) (read : origin_at cursor ≡ Ok ((recipe, count), following)) where
     both : ◌≡◌ {A = Read (Digest × ℕ)} (Ok ((save.recipe, there.count), there.following)) (Ok ((recipe, count), following))
-    both = sym there.said ∙ read
+    both = sym there.parsed ∙ read
 
     pub its_recipe : save.recipe ≡ recipe
     its_recipe = ap (λ (o : Digest × ℕ). o.0) (same_value (save.recipe, there.count) (recipe, count) there.following following both)
@@ -61,23 +61,23 @@ module _ (text cursor : List ℕ) (whole : cursor ≡ text) (save : SaveText) (f
         subst (λ (n : ℕ). digests_at n following ≡ Ok (save.inputs, there.after)) its_count
         (subst (λ (l : List ℕ). digests_at there.count l ≡ Ok (save.inputs, there.after)) (same_rest (save.recipe, there.count) (recipe, count) there.following following both) there.inputs)
 
-    pub other_count : (said : RecipeContents) (inputs : List (List ℕ)) → count ≢ length inputs → IsTrue false ↔ IsOf said inputs save
-    other_count said inputs other = (
+    pub other_count : (parsed : RecipeContents) (inputs : List (List ℕ)) → count ≢ length inputs → IsTrue false ↔ IsOf parsed inputs save
+    other_count parsed inputs other = (
       λ t. cc,
       λ of. absurd (other (sym (as_many count following there.after save.inputs its_inputs) ∙ ap length of.same_inputs ∙ length-map inputs digest_of)),
     )
 
-    pub other_recipe : (said : RecipeContents) (inputs : List (List ℕ)) → recipe ≢ said.digest → IsTrue false ↔ IsOf said inputs save
-    other_recipe said inputs other = (λ t. cc, λ of. absurd (other (sym its_recipe ∙ of.same_recipe)))
+    pub other_recipe : (parsed : RecipeContents) (inputs : List (List ℕ)) → recipe ≢ parsed.digest → IsTrue false ↔ IsOf parsed inputs save
+    other_recipe parsed inputs other = (λ t. cc, λ of. absurd (other (sym its_recipe ∙ of.same_recipe)))
 
-    pub same_count : (said : RecipeContents) (inputs : List (List ℕ)) (same : Bool) → recipe ≡ said.digest → count ≡ length inputs → Tells inputs same following → IsTrue same ↔ IsOf said inputs save
-    same_count said inputs same is many tells =
+    pub same_count : (parsed : RecipeContents) (inputs : List (List ℕ)) (same : Bool) → recipe ≡ parsed.digest → count ≡ length inputs → Tells inputs same following → IsTrue same ↔ IsOf parsed inputs save
+    same_count parsed inputs same is many tells =
         let told = tells save.inputs there.after (subst (λ (n : ℕ). digests_at n following ≡ Ok (save.inputs, there.after)) many its_inputs) in
         (λ t. record { same_recipe = its_recipe ∙ is; same_inputs = told.0 t }, λ of. told.1 of.same_inputs)
 
-  pub no_front : (at : ℕ) → origin_at cursor ≡ Err at → (same : Bool) (said : RecipeContents) (inputs : List (List ℕ)) → IsTrue same ↔ IsOf said inputs save
-  no_front at wrong same said inputs =
-      let none : ◌≡◌ {A = Read (Digest × ℕ)} (Err at) (Ok ((save.recipe, there.count), there.following)) = sym wrong ∙ there.said in
+  pub no_header : (at : ℕ) → origin_at cursor ≡ Err at → (same : Bool) (parsed : RecipeContents) (inputs : List (List ℕ)) → IsTrue same ↔ IsOf parsed inputs save
+  no_header at wrong same parsed inputs =
+      let none : ◌≡◌ {A = Read (Digest × ℕ)} (Err at) (Ok ((save.recipe, there.count), there.following)) = sym wrong ∙ there.parsed in
       absurd cc
 
 -- a text of the form says some save

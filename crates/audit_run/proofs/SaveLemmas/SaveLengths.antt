@@ -4,6 +4,7 @@ use Rattle.std.specs.List.{flat_map}
 use Rattle.std.proofs.lemmas.List.{length-map}
 use Rattle.std.proofs.lemmas.List.Folds.{flat_map-map}
 use Rattle.std.proofs.lemmas.List.Elements.{All-cons, All-map, All-nil}
+use Rattle.ddc_base.specs.Limits.{most_save}
 use Rattle.checkpoints.specs.Checkpoint.{state_of}
 use Rattle.checkpoints.proofs.FileTurns.{short_name}
 use Rattle.checkpoints.proofs.StateLengths as state
@@ -17,8 +18,8 @@ use Rattle.report.proofs.Marks.{is_digest}
 use Rattle.save_format.specs.declared.byte_fields.form.TextForm.{TextForm}
 use Rattle.save_format.specs.declared.byte_fields.form.TextForm.TheVariants.{First, Second}
 use Rattle.save_format.specs.SaveText.{save_magic}
-use Rattle.save_format.specs.Spelled.{IsTextOfSave, digest_text, left_text, mark_text, save_text_in, stage_text, text_of_save}
-use Rattle.save_format.specs.StateText.Spelled as state_text
+use Rattle.save_format.specs.Encoded.{IsTextOfSave, digest_text, left_text, mark_text, save_text_in, stage_text, text_of_save}
+use Rattle.save_format.specs.StateText.Encoded as state_text
 use Rattle.audit_rules.specs.declared.answer.Finished.{Finished}
 use Rattle.audit_rules.specs.Positions.{Position}
 use Rattle.audit_rules.specs.Stages.{artefact_bytes}
@@ -72,16 +73,16 @@ save_most form recipe inputs p is given (stage, stages, ok) =
     let digest = rules.digest.count in
     let few_inputs = rules.few_inputs in
     let count = given.count in
-    let said : HasAtMost 32 (digest_text recipe.digest) = record { long = omega arith } in
+    let parsed : HasAtMost 32 (digest_text recipe.digest) = record { long = omega arith } in
     let given_inputs = alike digest_text 32 (map digest_of inputs) (All-map (λ digest. HasAtMost 32 (digest_text digest)) digest_of inputs (λ k d less. input_most _)) in
     let done = done_most recipe p is (stage, stages, ok) in
     let at : HasAtMost 1_892_769_097 (state_text.state_text_in form (state_of p.at)) = record { long = state.short form p.at ok.valid } in
-    within (joined (itself (save_magic form)) (joined said (joined (counted digest_text (map digest_of inputs) given_inputs) (joined (counted stage_text (map stage_of p.done) done) at))))
+    within (joined (itself (save_magic form)) (joined parsed (joined (counted digest_text (map digest_of inputs) given_inputs) (joined (counted stage_text (map stage_of p.done) done) at))))
     (omega (arith, magic_long form, length-map inputs digest_of))
 
-pub short : (recipe : RecipeContents) (inputs : List (List ℕ)) (p : Position) → IsRecipe recipe → IsInputs recipe inputs → IsPosition recipe p → length (text_of_save (save_of recipe inputs p)) < 4_294_967_296
+pub short : (recipe : RecipeContents) (inputs : List (List ℕ)) (p : Position) → IsRecipe recipe → IsInputs recipe inputs → IsPosition recipe p → length (text_of_save (save_of recipe inputs p)) < most_save
 short recipe inputs p is given at = let long = (save_most Second recipe inputs p is given at).long in omega arith
 
-pub texts_short : (recipe : RecipeContents) (inputs : List (List ℕ)) (p : Position) (text : List ℕ) → IsRecipe recipe → IsInputs recipe inputs → IsPosition recipe p → IsTextOfSave (save_of recipe inputs p) text → length text < 4_294_967_296
+pub texts_short : (recipe : RecipeContents) (inputs : List (List ℕ)) (p : Position) (text : List ℕ) → IsRecipe recipe → IsInputs recipe inputs → IsPosition recipe p → IsTextOfSave (save_of recipe inputs p) text → length text < most_save
 texts_short recipe inputs p text is given at (inl new) = rw new (short recipe inputs p is given at)
 texts_short recipe inputs p text is given at (inr old) = let long = (save_most First recipe inputs p is given at).long in rw old.1 (omega arith)

@@ -2,6 +2,7 @@
 use Rattle.std.proofs.Common.{◌≡◌, ℕ, ◌^◌, ◌≤◌, Bool, true, false, ◌&&◌, Option, None, Some, List, [], ◌∷◌, length, map, All, IsTrue, refl, arith, append_assoc}
 use Rattle.std.proofs.lemmas.List.{length-map}
 use Rattle.std.proofs.lemmas.List.Elements.{All-cons, All-head, All-nil, All-tail}
+use Rattle.ddc_base.specs.Limits.{most_steps}
 use Rattle.save_format.specs.ByteFields.Spelling.{InTurn}
 use Rattle.checkpoints.proofs.FileTurns.{short_name}
 use Rattle.checkpoints.proofs.States as states
@@ -13,12 +14,12 @@ use Rattle.report.specs.declared.types.Mark.{Mark}
 use Rattle.report.specs.Reports.{ascend}
 use Rattle.report.proofs.Marks.{is_digest}
 use Rattle.save_format.specs.SaveText.{after_left, comes_after}
-use Rattle.save_format.specs.Spelled.{IsSavedDigest, IsSavedLeft, IsSavedMark, IsShortStage, IsStageText, IsSaveText}
+use Rattle.save_format.specs.Encoded.{IsSavedDigest, IsSavedLeft, IsSavedMark, IsShortStage, IsStageText, IsSaveText}
 use Rattle.save_format.proofs.Written.{is_short}
 use Rattle.audit_rules.specs.declared.answer.Finished.{Finished}
 use Rattle.audit_rules.specs.Positions.{Position}
 use Rattle.audit_rules.specs.Valid.{AreFinished, IsFinished, IsInputs, IsLeftLine, IsPosition, IsSmallMark}
-use Rattle.audit_rules.proofs.Places.{present-is}
+use Rattle.audit_rules.proofs.ValidPositions.{present-is}
 use Rattle.audit_rules.proofs.Rules as rule
 use Rattle.audit_run.specs.Save.Saves.{digest_of, save_of, stage_of}
 
@@ -58,7 +59,7 @@ begun (file ∷ files) = refl
 pub in_order : (f : Finished) (stage : Stage) → IsFinished stage f → InTurn IsSavedLeft after_left None f.left
 in_order f stage is = in_turn None f.left is.each_left is.ascending (begun f.left)
 
-stage_is : (stage : Stage) (f : Finished) → stage.steps ≤ 2 ^ 48 → IsFinished stage f → IsStageText (stage_of f)
+stage_is : (stage : Stage) (f : Finished) → stage.steps ≤ most_steps → IsFinished stage f → IsStageText (stage_of f)
 stage_is stage f few is =
     let steps = is.few_steps in
     let left = is.few_left in
@@ -72,7 +73,7 @@ stage_is stage f few is =
     }
 
 abbrev HasFew : Stage → Type 0
-HasFew stage = stage.steps ≤ 2 ^ 48
+HasFew stage = stage.steps ≤ most_steps
 
 stages_turn : (stages : List Stage) (done : List Finished) (any : ℕ) → All HasFew stages → AreFinished stages done → InTurn (λ (any : ℕ). IsStageText) (λ stage. 0) any (map stage_of done)
 stages_turn stages [] any few are = tt

@@ -9,7 +9,7 @@ joined-push (a ∷ []) file some = sym (append_assoc a (10 ∷ []) file)
 joined-push (a ∷ (b ∷ files)) file some =
     ap (λ rest. a ++ 10 ∷ rest) (joined-push (b ∷ files) file (omega arith))
     ∙ sym (append_assoc a (10 ∷ (joined_files (b ∷ files) ++ 10 ∷ [])) file)
-    ∙ ap (λ front. front ++ file) (sym (append_assoc a (10 ∷ joined_files (b ∷ files)) (10 ∷ [])))
+    ∙ ap (λ prefix. prefix ++ file) (sym (append_assoc a (10 ∷ joined_files (b ∷ files)) (10 ∷ [])))
 
 module _ (content : List ℕ → List ℕ) where
   -- the contents of the first so many names, and one more

@@ -1,6 +1,6 @@
 -- A stage's files are placed, each at its path.
 use Rattle.std.proofs.Common.{◌≡◌, ◌≢◌, ℕ, zero, suc, ◌+◌, ◌<◌, ◌≤◌, ◌==◌, ◌&&◌, Bool, true, false, cond, not, nat_lt, nat_le, IsTrue, if◌then◌else◌, Option, None, Some, is_some, List, [], ◌∷◌, length, map, take, get_or, refl, sym, ap, ◌∙◌, subst, arith, All}
-use Rattle.std.specs.Prelude.{bytes_eq, option_and_then, slice_get, ◌^◌}
+use Rattle.std.specs.Prelude.{bytes_eq, option_and_then, slice_get}
 use Rattle.std.specs.List.{position_or_len}
 use Rattle.std.proofs.lemmas.List.Folds.{find_at}
 use Rattle.recipe.specs.declared.parts.Source.{Source}
@@ -13,7 +13,7 @@ use Rattle.std.proofs.lemmas.Bool.Decides.{nat_tests}
 use Rattle.std.proofs.lemmas.List.Elements.{All-map}
 use Rattle.std.proofs.lemmas.Option.{slice_get-get_or, same_Some, none-some}
 use Rattle.std.proofs.lemmas.Slice.Eq.{bytes_eq-Decides}
-use Rattle.mem_files.specs.Limits.{most_content, most_names}
+use Rattle.ddc_base.specs.Limits.{most_address, most_content, most_names}
 use Rattle.mem_files.specs.Names.{bytes_cmp, begins_with_dot_slash, is_file_name, is_stripped_name, stripped}
 use Rattle.mem_files.specs.Outputs.{IsContent}
 use Rattle.mem_files.proofs.Entries.{name_there}
@@ -111,17 +111,17 @@ fits : (held : FileMap) (path bytes : List ℕ) → is_file_name path ≡ true �
 fits held path bytes name absent small few =
     let key : fin.contains_key held path ≡ false = ap is_some absent in
     let size : nat_lt most_content (length bytes) ≡ false = le-ltb _ _ small in
-    let room : nat_le most_names (fin.len held) ≡ false = grind (arith, nat_tests) in
-    rw (name, key, size, room) refl
+    let budget : nat_le most_names (fin.len held) ≡ false = grind (arith, nat_tests) in
+    rw (name, key, size, budget) refl
 
 -- a source's base
-pub source-based : (recipe : RecipeContents) (source : Source) (name : List ℕ) → kept.IsRecipe recipe → source_named recipe.sources name ≡ Some source → source.base ≤ 2 ^ 37
+pub source-based : (recipe : RecipeContents) (source : Source) (name : List ℕ) → kept.IsRecipe recipe → source_named recipe.sources name ≡ Some source → source.base ≤ most_address
 source-based recipe source name is found =
     (is.sources (position_or_len (λ (s : Source). bytes_eq s.name name) recipe.sources) source (sym (find_at (λ (s : Source). bytes_eq s.name name) recipe.sources) ∙ found)).base
 
-pub check-based : (recipe : RecipeContents) (stage : Stage) (source : Source) → kept.IsRecipe recipe → check_source recipe stage ≡ Some source → source.base ≤ 2 ^ 37
+pub check-based : (recipe : RecipeContents) (stage : Stage) (source : Source) → kept.IsRecipe recipe → check_source recipe stage ≡ Some source → source.base ≤ most_address
 check-based recipe stage source is found = by_name stage.check found where
-  by_name : (o : Option (List ℕ)) → option_and_then (source_named recipe.sources) o ≡ Some source → source.base ≤ 2 ^ 37
+  by_name : (o : Option (List ℕ)) → option_and_then (source_named recipe.sources) o ≡ Some source → source.base ≤ most_address
   by_name None found = absurd (none-some source found)
   by_name (Some name) found = source-based recipe source name is found
 

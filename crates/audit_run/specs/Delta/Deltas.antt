@@ -5,9 +5,9 @@ use Rattle.ddc_base.specs.declared.digests.Digest.{Digest}
 use Rattle.recipe.specs.declared.contents.RecipeContents.{RecipeContents}
 use Rattle.checkpoints.specs.Checkpoint.{state_of}
 use Rattle.save_format.specs.SaveText.{SaveText}
-use Rattle.save_format.specs.Spelled.{IsTextOfSave, text_of_save}
+use Rattle.save_format.specs.Encoded.{IsTextOfSave, text_of_save}
 use Rattle.save_format.specs.DeltaText.DeltaText.{DeltaText, parsed_delta, text_of_delta}
-use Rattle.save_format.specs.DeltaText.Front.{is_of_other_base}
+use Rattle.save_format.specs.DeltaText.Header.{is_of_other_base}
 use Rattle.audit_rules.specs.Positions.{Position}
 use Rattle.audit_rules.specs.Valid.{IsPosition}
 use Rattle.audit_run.specs.Save.Saves.{IsSavedPosition, Resumes, digest_of, position_of, save_of, save_refusal_number, stage_of}

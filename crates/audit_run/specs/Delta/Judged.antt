@@ -3,7 +3,7 @@ use Rattle.std.specs.Prelude.{ℕ, List, Result, Ok, Err, if◌then◌else◌}
 use Rattle.recipe.specs.declared.contents.RecipeContents.{RecipeContents}
 use Rattle.save_format.specs.SaveText.{SaveText}
 use Rattle.save_format.specs.DeltaText.DeltaText.{DeltaText, parsed_delta}
-use Rattle.save_format.specs.DeltaText.Front.{is_of_other_base}
+use Rattle.save_format.specs.DeltaText.Header.{is_of_other_base}
 use Rattle.audit_rules.specs.Positions.{Position}
 use Rattle.audit_run.specs.Save.Inside.Tests.{is_saved_position}
 use Rattle.audit_run.specs.Save.Judged.{judged}

@@ -5,27 +5,27 @@ use Rattle.guest_run.specs.State.{GuestState}
 use Rattle.recipe.specs.declared.contents.RecipeContents.{RecipeContents}
 use Rattle.recipe.specs.declared.parts.Stage.{Stage}
 use Rattle.audit_rules.specs.declared.answer.Finished.{Finished}
-use Rattle.audit_rules.specs.Positions.{Position, Standing, On, Over, at, beginning, stage_closed, forward}
-use Rattle.audit_rules.specs.Valid.{AreDone, IsInputs, IsStanding}
-use Rattle.audit_run.specs.declared.standing.AuditStanding.{AuditStanding}
-use Rattle.audit_run.specs.declared.standing.AuditStanding.TheVariants as audit
-use Rattle.audit_run.specs.declared.standing.EndedGuest.{EndedGuest}
-use Rattle.audit_run.specs.declared.standing.EndedGuest.TheVariants.{Kept, GivenUp}
-use Rattle.audit_run.specs.declared.standing.Moved.{Moved}
-use Rattle.audit_run.specs.declared.standing.Moved.TheVariants as moved
-use Rattle.audit_run.specs.declared.standing.Progress.{Progress}
-use Rattle.audit_run.specs.declared.standing.Progress.TheVariants as progress
-use Rattle.audit_run.specs.Advances.{said_of_answer, StopsAt, Wants}
+use Rattle.audit_rules.specs.Positions.{Position, Phase, On, Over, at, beginning, stage_closed, forward}
+use Rattle.audit_rules.specs.Valid.{AreDone, IsInputs, IsPhase}
+use Rattle.audit_run.specs.declared.phase.AuditPhase.{AuditPhase}
+use Rattle.audit_run.specs.declared.phase.AuditPhase.TheVariants as audit
+use Rattle.audit_run.specs.declared.phase.EndedGuest.{EndedGuest}
+use Rattle.audit_run.specs.declared.phase.EndedGuest.TheVariants.{Kept, GivenUp}
+use Rattle.audit_run.specs.declared.phase.Moved.{Moved}
+use Rattle.audit_run.specs.declared.phase.Moved.TheVariants as moved
+use Rattle.audit_run.specs.declared.phase.Progress.{Progress}
+use Rattle.audit_run.specs.declared.phase.Progress.TheVariants as progress
+use Rattle.audit_run.specs.Advances.{progress_of_answer, StopsAt, Wants}
 
-abbrev pub seen : List Finished → AuditStanding → Option Standing
+abbrev pub seen : List Finished → AuditPhase → Option Phase
 seen done audit.Ready = None
 seen done (audit.Running guest) = Some (On (at done guest))
 seen done (audit.Over answer) = Some (Over answer)
 
-abbrev pub stands : RecipeContents → List (List ℕ) → List Finished → AuditStanding → Standing
-stands recipe inputs done audit.Ready = beginning recipe inputs
-stands recipe inputs done (audit.Running guest) = On (at done guest)
-stands recipe inputs done (audit.Over answer) = Over answer
+abbrev pub current : RecipeContents → List (List ℕ) → List Finished → AuditPhase → Phase
+current recipe inputs done audit.Ready = beginning recipe inputs
+current recipe inputs done (audit.Running guest) = On (at done guest)
+current recipe inputs done (audit.Over answer) = Over answer
 
 -- the stages after the present one
 abbrev pub later : RecipeContents → List Finished → List Stage
@@ -46,39 +46,39 @@ Slices recipe inputs done stages old most (Ok step) new =
 Slices recipe inputs done stages old most (Err error) new = StopsAt recipe inputs (On (at done old)) most (at done new)
 
 -- the invariant of the parts between two calls: before the first advance no stage is done
-abbrev pub IsStandingAfter : RecipeContents → List Finished → AuditStanding → Type 0
-IsStandingAfter recipe done audit.Ready = done ≡ []
-IsStandingAfter recipe done (audit.Running guest) = IsStanding recipe (On (at done guest))
-IsStandingAfter recipe done (audit.Over answer) = IsStanding recipe (Over answer)
+abbrev pub IsPhaseAfter : RecipeContents → List Finished → AuditPhase → Type 0
+IsPhaseAfter recipe done audit.Ready = done ≡ []
+IsPhaseAfter recipe done (audit.Running guest) = IsPhase recipe (On (at done guest))
+IsPhaseAfter recipe done (audit.Over answer) = IsPhase recipe (Over answer)
 
-pub record IsAtRest (recipe : RecipeContents) (inputs : List (List ℕ)) (done : List Finished) (where_it_is : AuditStanding) : Type 0 where
+pub record IsAtRest (recipe : RecipeContents) (inputs : List (List ℕ)) (done : List Finished) (where_it_is : AuditPhase) : Type 0 where
   pub given : IsInputs recipe inputs
-  pub standing : IsStandingAfter recipe done where_it_is
+  pub phase : IsPhaseAfter recipe done where_it_is
 
 -- an audit whose first stage has started, or whose start was refused
-abbrev pub IsStarted : AuditStanding → Type 0
+abbrev pub IsStarted : AuditPhase → Type 0
 IsStarted audit.Ready = ⊥
 IsStarted (audit.Running guest) = Unit {0}
 IsStarted (audit.Over answer) = Unit {0}
 
 -- what becomes of the guest of a finished stage
-abbrev pub KeepsStanding : EndedGuest → AuditStanding → AuditStanding → Type 0
-KeepsStanding Kept old new = new ≡ old
-KeepsStanding GivenUp old new = Unit {0}
+abbrev pub KeepsPhase : EndedGuest → AuditPhase → AuditPhase → Type 0
+KeepsPhase Kept old new = new ≡ old
+KeepsPhase GivenUp old new = Unit {0}
 
 -- an audit that has started ran out of memory at this position
-abbrev pub StopsIn : RecipeContents → List (List ℕ) → Standing → ℕ → Standing → Type 0
+abbrev pub StopsIn : RecipeContents → List (List ℕ) → Phase → ℕ → Phase → Type 0
 StopsIn recipe inputs from most (On p) = StopsAt recipe inputs from most p
 StopsIn recipe inputs from most (Over answer) = ⊥
 
 -- the state after out of memory, after fewer steps than requested: an audit at that position, if guests are kept
-abbrev pub WantsAfter : EndedGuest → RecipeContents → List (List ℕ) → Standing → ℕ → List Finished → AuditStanding → Type 0
+abbrev pub WantsAfter : EndedGuest → RecipeContents → List (List ℕ) → Phase → ℕ → List Finished → AuditPhase → Type 0
 WantsAfter Kept recipe inputs from most done where_it_is =
-    IsStarted where_it_is × IsStandingAfter recipe done where_it_is × StopsIn recipe inputs from most (stands recipe inputs done where_it_is)
+    IsStarted where_it_is × IsPhaseAfter recipe done where_it_is × StopsIn recipe inputs from most (current recipe inputs done where_it_is)
 WantsAfter GivenUp recipe inputs from most done where_it_is = (p : Position) × StopsAt recipe inputs from most p
 
 -- what `advance` returns for an audit that stands here
-abbrev pub SaysOf : AuditStanding → Progress → Type 0
-SaysOf audit.Ready said = ⊥
-SaysOf (audit.Running guest) said = said ≡ progress.Paused
-SaysOf (audit.Over answer) said = said ≡ said_of_answer answer
+abbrev pub SaysOf : AuditPhase → Progress → Type 0
+SaysOf audit.Ready given = ⊥
+SaysOf (audit.Running guest) given = given ≡ progress.Paused
+SaysOf (audit.Over answer) given = given ≡ progress_of_answer answer

@@ -58,22 +58,22 @@ abbrev pub IsSavedPosition : RecipeContents → SaveText → Type 0
 IsSavedPosition recipe save = (stage : Stage) × (stages : List Stage) × IsSavedPositionIn recipe save stage stages
 
 -- reading a save allocates only if making its state does, and the state's steps and heap limit are right for the present stage
-pub record MayStandIn (recipe : RecipeContents) (save : SaveText) (stage : Stage) (stages : List Stage) : Type 0 where
+pub record MayOccurIn (recipe : RecipeContents) (save : SaveText) (stage : Stage) (stages : List Stage) : Type 0 where
   pub left : todo recipe (done_in save) ≡ stage ∷ stages
   pub within : save.state.steps < stage.steps
   pub heap : save.state.heap.limit ≡ stage.heap
   pub state : MayBeMade save.state
 
-abbrev pub MayStand : RecipeContents → SaveText → Type 0
-MayStand recipe save = (stage : Stage) × (stages : List Stage) × MayStandIn recipe save stage stages
+abbrev pub MayOccur : RecipeContents → SaveText → Type 0
+MayOccur recipe save = (stage : Stage) × (stages : List Stage) × MayOccurIn recipe save stage stages
 
 -- the result of reading a save of the recipe
-abbrev pub Stands : RecipeContents → SaveText → Result Position SaveRefusal → Type 0
-Stands recipe save (Ok p) = IsSavedPosition recipe save × (p ≡ position_of save)
-Stands recipe save (Err State) = ¬ (IsSavedPosition recipe save)
-Stands recipe save (Err OutOfMemory) = MayStand recipe save
-Stands recipe save (Err (Form offset)) = ⊥
-Stands recipe save (Err OtherRecipe) = ⊥
+abbrev pub Current : RecipeContents → SaveText → Result Position SaveRefusal → Type 0
+Current recipe save (Ok p) = IsSavedPosition recipe save × (p ≡ position_of save)
+Current recipe save (Err State) = ¬ (IsSavedPosition recipe save)
+Current recipe save (Err OutOfMemory) = MayOccur recipe save
+Current recipe save (Err (Form offset)) = ⊥
+Current recipe save (Err OtherRecipe) = ⊥
 
 -- the result of reading a text. Judged in this order: its form, whether it is of this recipe and these inputs, whether it is a position.
 -- Out of memory occurs only for a well-formed save of this recipe and these inputs that allocates
@@ -82,7 +82,7 @@ Resumes recipe inputs text (Ok p) = (save : SaveText) × (parsed_save text ≡ O
 Resumes recipe inputs text (Err (Form offset)) = parsed_save text ≡ Err offset
 Resumes recipe inputs text (Err OtherRecipe) = (save : SaveText) × (parsed_save text ≡ Ok save) × ¬ (IsOf recipe inputs save)
 Resumes recipe inputs text (Err State) = (save : SaveText) × (parsed_save text ≡ Ok save) × IsOf recipe inputs save × ¬ (IsSavedPosition recipe save)
-Resumes recipe inputs text (Err OutOfMemory) = (save : SaveText) × (parsed_save text ≡ Ok save) × IsOf recipe inputs save × MayStand recipe save
+Resumes recipe inputs text (Err OutOfMemory) = (save : SaveText) × (parsed_save text ≡ Ok save) × IsOf recipe inputs save × MayOccur recipe save
 
 -- the answer to a text: what the rules allow other than out of memory. There is exactly one (`laws::every_text_has_one_answer`)
 pub record SaveAnswer (recipe : RecipeContents) (inputs : List (List ℕ)) (text : List ℕ) : Type 0 where

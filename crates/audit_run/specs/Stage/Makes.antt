@@ -1,5 +1,6 @@
 -- An exit that made an artefact. What follows in the same step allocates.
 use Rattle.std.specs.Prelude.{◌≡◌, ◌≤◌, ◌+◌, ℕ, Some, List, length}
+use Rattle.ddc_base.specs.Limits.{most_artefacts}
 use Rattle.mem_files.specs.Outputs.{out}
 use Rattle.mem_files.specs.World.{World}
 use Rattle.recipe.specs.declared.parts.Stage.{Stage}
@@ -11,4 +12,4 @@ pub record Makes (stage : Stage) (done : List Finished) (status : ℕ) (world : 
   pub good : status ≡ 0
   pub made : List ℕ
   pub there : out world (output_of stage.output) ≡ Some made
-  pub small : artefact_bytes done + length made ≤ 1_073_741_824
+  pub small : artefact_bytes done + length made ≤ most_artefacts

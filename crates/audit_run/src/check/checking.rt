@@ -3,9 +3,10 @@ ghost use Rattle.hex_langs.specs.Items.Reading.{items_of};
 ghost use Rattle.hex_langs.specs.declared.items.token.Dialect.TheVariants as dialect;
 ghost use Rattle.hex_langs.specs.Link.Link.{link_of};
 ghost use Rattle.ddc_base.specs.declared.languages.Language.TheVariants as language;
+ghost use Rattle.ddc_base.specs.Limits.{most_address};
 ghost use Rattle.audit_rules.specs.SourceCheck.Checks.{check as check_of, checked, differs, hex_value, items_against};
 ghost use Rattle.audit_rules.specs.declared.source_check.cause.CheckCause.TheVariants as cause;
-ghost use Rattle.std.specs.Prelude.{◌≡◌, ◌≤◌, ◌^◌, IfOk, Some};
+ghost use Rattle.std.specs.Prelude.{◌≡◌, ◌≤◌, IfOk, Some};
 
 use crate::check::items::first_other_item;
 use audit_rules::source_check::{CheckCause, HexCause, M1Cause};
@@ -28,7 +29,7 @@ pub fn check(
     source: &[u8],
     made: &[u8],
 ) -> Result<Option<CheckCause>, OutOfMemory>
-    requires { base ≤ 2 ^ 37 }
+    requires { base ≤ most_address }
     ensures { IfOk result (λ cause. cause ≡ check_of language base source.now made.now) }
 {
     match language {
@@ -59,7 +60,7 @@ fn check_hex1(
     source: &[u8],
     made: &[u8],
 ) -> Result<Option<CheckCause>, OutOfMemory>
-    requires { base ≤ 2 ^ 37 }
+    requires { base ≤ most_address }
     ensures { IfOk result (λ cause. cause ≡ check_of language.Hex1 base source.now made.now) }
 {
     match items1(alloc, source) {
@@ -75,7 +76,7 @@ fn check_hex2(
     source: &[u8],
     made: &[u8],
 ) -> Result<Option<CheckCause>, OutOfMemory>
-    requires { base ≤ 2 ^ 37 }
+    requires { base ≤ most_address }
     ensures { IfOk result (λ cause. cause ≡ check_of language.Hex2 base source.now made.now) }
 {
     match items2(alloc, source) {
@@ -106,7 +107,7 @@ fn check_linked(
     items: &Items<'_>,
     made: &[u8],
 ) -> Result<Option<CheckCause>, OutOfMemory>
-    requires { base ≤ 2 ^ 37 }
+    requires { base ≤ most_address }
     ensures { IfOk result (λ cause. cause ≡ checked (hex_value (link_of items.now base)) made.now) }
 {
     match link(alloc, items, base) {
@@ -130,12 +131,12 @@ fn check_items(
 }
 
 /// The check's result for the first difference, or for no difference.
-fn differs_at(place: Option<u64>) -> Option<CheckCause>
-    ensures { result ≡ differs place }
+fn differs_at(offset: Option<u64>) -> Option<CheckCause>
+    ensures { result ≡ differs offset }
 {
-    match place {
+    match offset {
         None => None,
-        Some(place) => Some(CheckCause::Differs(place)),
+        Some(offset) => Some(CheckCause::Differs(offset)),
     }
 }
 

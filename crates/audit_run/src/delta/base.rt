@@ -6,7 +6,7 @@ ghost use Rattle.audit_run.specs.Delta.Deltas.{base_digest};
 ghost use Rattle.save_format.specs.ByteFields.Spelling.{list_text};
 ghost use Rattle.save_format.specs.SaveText.{SaveText, parsed_save};
 ghost use Rattle.save_format.specs.Seen.{save_view, stage_view};
-ghost use Rattle.save_format.specs.Spelled.{IsSaveText, IsShortStage, IsTextOfSave, stage_text, text_of_save};
+ghost use Rattle.save_format.specs.Encoded.{IsSaveText, IsShortStage, IsTextOfSave, stage_text, text_of_save};
 
 use ddc_base::digests::Digest;
 use ddc_base::{Bytes, OutOfMemory, digest};
@@ -18,9 +18,9 @@ use std::alloc::Global;
 /// The parts of a well-formed save. Their pages are borrowed from its bytes. Error: out of memory.
 pub(crate) fn known_of(alloc: Global, base: &[u8]) -> Result<Parts<'_>, OutOfMemory>
     requires { IsOk (parsed_save base.now) }
-    ensures said { IfOk result (λ known. parsed_save base.now ≡ Ok (save_view known)) }
+    ensures parsed { IfOk result (λ known. parsed_save base.now ≡ Ok (save_view known)) }
     ensures text { IfOk result (λ known. IsSaveText (save_view known)) }
-    ensures spelled { IfOk result (λ known. IsTextOfSave (save_view known) base.now) }
+    ensures encoded { IfOk result (λ known. IsTextOfSave (save_view known) base.now) }
 {
     match save_format::read(alloc, base) {
         Ok(known) => Ok(known),
@@ -36,7 +36,7 @@ pub(crate) fn digest_of(
     base: &[u8],
 ) -> Result<Digest, OutOfMemory>
     requires text { IsSaveText (save_view known.now) }
-    requires spelled { IsTextOfSave (save_view known.now) base.now }
+    requires encoded { IsTextOfSave (save_view known.now) base.now }
     ensures { IfOk result (λ digest. digest ≡ base_digest (save_view known.now)) }
 {
     if is_second(base) {
@@ -54,7 +54,7 @@ fn is_second(base: &[u8]) -> bool
 }
 
 /// The text of a save in the second form.
-#[tactic(auto, using(crate::proofs::SaveLemmas::Written::written), unfolding(save_format::specs::Spelled::save_text_in))]
+#[tactic(auto, using(crate::proofs::SaveLemmas::Written::written), unfolding(save_format::specs::Encoded::save_text_in))]
 fn second_text(alloc: Global, known: &Parts<'_>) -> Result<Bytes, OutOfMemory>
     requires { IsSaveText (save_view known.now) }
     ensures { IfOk result (λ text. text ≡ text_of_save (save_view known.now)) }

@@ -1,6 +1,7 @@
 //! Laws of deltas. Each law is the contract of a function that does nothing.
 
 ghost use Rattle.audit_run.specs.Delta.Deltas.{DeltaAnswer, HasDelta, ResumesRelative, delta_text_of};
+ghost use Rattle.ddc_base.specs.Limits.{most_save};
 ghost use Rattle.audit_run.specs.Delta.Judged.{judged_relative};
 ghost use Rattle.recipe.specs.Kept.{IsRecipe};
 ghost use Rattle.recipe.specs.declared.contents.RecipeContents.{RecipeContents};
@@ -30,5 +31,5 @@ pub fn positions_have_one_delta()
 /// The delta of every position against every base has fewer than 4,294,967,296 bytes.
 pub fn deltas_are_short()
     ensures { (recipe : RecipeContents) (inputs : List (List ℕ)) (base p : Position) → IsRecipe recipe → IsInputs recipe inputs → IsPosition recipe base
-        → IsPosition recipe p → length (delta_text_of recipe inputs base p) < 4_294_967_296 }
+        → IsPosition recipe p → length (delta_text_of recipe inputs base p) < most_save }
 {}

@@ -7,7 +7,7 @@ ghost use Rattle.audit_run.specs.Save.Saves.{Resumes};
 ghost use Rattle.guest_run.specs.Valid.{IsValid};
 ghost use Rattle.recipe.specs.Kept.{IsRecipe};
 ghost use Rattle.save_format.specs.Seen.{save_view};
-ghost use Rattle.save_format.specs.Spelled.{IsSaveText};
+ghost use Rattle.save_format.specs.Encoded.{IsSaveText};
 ghost use Rattle.audit_rules.specs.Positions.{Position};
 ghost use Rattle.audit_rules.specs.Valid.{IsInputs, IsPosition};
 

@@ -1,13 +1,14 @@
 //! Writing the delta of an audit in a stage.
 
 ghost use Rattle.std.specs.Prelude.{◌≡◌, ◌<◌, ◌≤◌, ◌^◌, ◌++◌, All, IfOk, OnOk, length, map};
+ghost use Rattle.ddc_base.specs.Limits.{page_number_end};
 ghost use Rattle.audit_run.specs.Delta.Deltas.{IsBaseAt, base_digest, delta_text_of};
 ghost use Rattle.audit_run.specs.Save.Saves.{stage_of};
 ghost use Rattle.checkpoints.specs.Checkpoint.{state_of};
 ghost use Rattle.save_format.specs.DeltaText.DeltaText.{text_of_delta};
 ghost use Rattle.save_format.specs.DeltaText.Stages.{equal_stages, kept_stages, stages_relative_text};
 ghost use Rattle.save_format.specs.Seen.{save_view, stage_view};
-ghost use Rattle.save_format.specs.Spelled.{IsSaveText, IsShortStage, IsTextOfSave};
+ghost use Rattle.save_format.specs.Encoded.{IsSaveText, IsShortStage, IsTextOfSave};
 ghost use Rattle.audit_rules.specs.Positions.{Position, at};
 ghost use Rattle.audit_rules.specs.Valid.{IsPosition};
 
@@ -49,8 +50,8 @@ fn relative(
     guest: &Guest<RunRam>,
 ) -> Result<Bytes, OutOfMemory>
     requires text { IsSaveText (save_view known.now) }
-    requires spelled { IsTextOfSave (save_view known.now) base.now }
-    requires pages { length (save_view known.now).state.pages ≤ 2 ^ 26 }
+    requires encoded { IsTextOfSave (save_view known.now) base.now }
+    requires pages { length (save_view known.now).state.pages ≤ page_number_end }
     requires few { length done.now < 2 ^ 32 }
     requires short { All (λ f. IsShortStage (stage_of f)) done.now }
     ensures { IfOk result (λ text. text ≡ text_of_delta (save_view known.now)

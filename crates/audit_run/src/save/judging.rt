@@ -1,19 +1,20 @@
 //! Whether the finished stages of a save are possible. Each is judged alone, by the recipe.
 
 ghost use Rattle.std.specs.Prelude.{◌≡◌, ◌-◌, ◌≤◌, ◌↔◌, All, Contains, IsTrue, None, SomeIff, length};
+ghost use Rattle.ddc_base.specs.Limits.{most_artefacts, most_names};
 ghost use Rattle.save_format.specs.ByteFields.Spelling.{InTurn};
 ghost use Rattle.mem_files.specs.Names.{is_stripped_name};
 ghost use Rattle.mem_files.specs.Outputs.{IsContent};
 ghost use Rattle.mem_files.specs.Sound.{AreBytes};
 ghost use Rattle.report.specs.Reports.{ascend};
 ghost use Rattle.save_format.specs.SaveText.{after_left};
-ghost use Rattle.save_format.specs.Spelled.{IsSavedLeft};
+ghost use Rattle.save_format.specs.Encoded.{IsSavedLeft};
 ghost use Rattle.audit_rules.specs.Stages.{artefact_bytes};
 ghost use Rattle.audit_rules.specs.Valid.{AreDone, AreFinished, HasMark, IsFinished, IsLeftLine, IsSmallMark};
 
 use crate::stage::Done;
-use audit_rules::MAX_ARTEFACTS;
-use mem_files::{MAX_CONTENT, MAX_NAMES, is_stripped_name};
+use ddc_base::limits::{MOST_ARTEFACTS, MOST_CONTENT, MOST_NAMES};
+use mem_files::is_stripped_name;
 use recipe::{Output, Recipe, Stage};
 use report::{LeftLine, Mark};
 
@@ -27,24 +28,24 @@ pub(crate) fn are_done(recipe: &Recipe, done: &[Done]) -> bool
 
 /// Whether all artefacts together have at most 1,073,741,824 bytes.
 fn are_small(done: &[Done]) -> bool
-    ensures { IsTrue result ↔ (artefact_bytes done.now ≤ 1_073_741_824) }
+    ensures { IsTrue result ↔ (artefact_bytes done.now ≤ most_artefacts) }
 {
-    left_after(done, MAX_ARTEFACTS).is_some()
+    remaining_after(done, MOST_ARTEFACTS).is_some()
 }
 
 /// How much of `most` bytes is left after all artefacts; `None` if they have more.
-fn left_after(done: &[Done], most: u64) -> Option<u64>
+fn remaining_after(done: &[Done], most: u64) -> Option<u64>
     ensures { SomeIff result (artefact_bytes done.now ≤ most) (most - artefact_bytes done.now) }
 {
-    let mut left = most;
+    let mut remaining = most;
     for stage in done {
         let size = stage.made().len() as u64;
-        if size > left {
+        if size > remaining {
             return None;
         }
-        left -= size;
+        remaining -= size;
     }
-    Some(left)
+    Some(remaining)
 }
 
 /// Whether the finished stages are the first of these stages, in order.
@@ -106,15 +107,15 @@ fn is_digest(bytes: &[u8]) -> bool
 fn is_content(bytes: &[u8]) -> bool
     ensures { IsTrue result ↔ IsContent bytes.now }
 {
-    bytes.len() as u64 <= MAX_CONTENT
+    bytes.len() as u64 <= MOST_CONTENT
 }
 
 /// Whether a program can have left these files.
 fn are_left(files: &[LeftLine]) -> bool
     requires { InTurn IsSavedLeft after_left None files.now }
-    ensures { IsTrue result ↔ (All IsLeftLine files.now × (length files.now ≤ 4_096) × IsTrue (ascend files.now)) }
+    ensures { IsTrue result ↔ (All IsLeftLine files.now × (length files.now ≤ most_names) × IsTrue (ascend files.now)) }
 {
-    if files.len() > MAX_NAMES {
+    if files.len() > MOST_NAMES {
         return false;
     }
     are_lines(files)

@@ -1,12 +1,13 @@
 //! Laws of saves. Each law is the contract of a function that does nothing.
 
 ghost use Rattle.audit_run.specs.Save.Inside.Tests.{is_of, is_saved_position};
+ghost use Rattle.ddc_base.specs.Limits.{most_save};
 ghost use Rattle.audit_run.specs.Save.Judged.{judged};
 ghost use Rattle.audit_run.specs.Save.Saves.{SaveAnswer, IsOf, IsSavedPosition, Resumes, save_of};
 ghost use Rattle.recipe.specs.Kept.{IsRecipe};
 ghost use Rattle.recipe.specs.declared.contents.RecipeContents.{RecipeContents};
 ghost use Rattle.save_format.specs.SaveText.{SaveText};
-ghost use Rattle.save_format.specs.Spelled.{IsTextOfSave};
+ghost use Rattle.save_format.specs.Encoded.{IsTextOfSave};
 ghost use Rattle.std.specs.Prelude.{◌≡◌, ◌≢◌, ◌<◌, ◌↔◌, ℕ, Err, IsTrue, List, length};
 ghost use Rattle.audit_rules.specs.Positions.{Position};
 ghost use Rattle.audit_rules.specs.Valid.{IsInputs, IsPosition};
@@ -30,5 +31,5 @@ pub fn the_tests_are_the_rules()
 /// The saves of every position have fewer than 4,294,967,296 bytes.
 pub fn saves_are_short()
     ensures { (recipe : RecipeContents) (inputs : List (List ℕ)) (p : Position) (text : List ℕ) → IsRecipe recipe → IsInputs recipe inputs → IsPosition recipe p
-        → IsTextOfSave (save_of recipe inputs p) text → length text < 4_294_967_296 }
+        → IsTextOfSave (save_of recipe inputs p) text → length text < most_save }
 {}

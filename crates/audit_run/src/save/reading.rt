@@ -1,15 +1,15 @@
 //! Reading a position from a save.
 
 ghost use Rattle.std.specs.Prelude.{◌≡◌, ◌↔◌, All, Err, IfOk, IsOk, IsTrue, List, length, map};
-ghost use Rattle.audit_run.specs.Save.Saves.{IsResumedAs, MayStand, Resumes, Stands, digest_of, finished_of, save_of, save_refusal_number};
+ghost use Rattle.audit_run.specs.Save.Saves.{IsResumedAs, MayOccur, Resumes, Current, digest_of, finished_of, save_of, save_refusal_number};
 ghost use Rattle.audit_run.specs.Save.Inside.Seen.{AreDigests};
 ghost use Rattle.guest_run.specs.Valid.{IsValid};
 ghost use Rattle.recipe.specs.Kept.{IsRecipe};
 ghost use Rattle.ddc_base.specs.declared.digests.Digest.{Digest};
-ghost use Rattle.save_format.specs.PatchText.Spelled.{IsPatched};
+ghost use Rattle.save_format.specs.PatchText.Encoded.{IsPatched};
 ghost use Rattle.save_format.specs.SaveText.{SaveText, parsed_save};
-ghost use Rattle.save_format.specs.StateText.Mappable.{IsFrontOf};
-ghost use Rattle.save_format.specs.Spelled.{IsStageText, IsTextOfSave};
+ghost use Rattle.save_format.specs.StateText.Mappable.{IsHeaderOf};
+ghost use Rattle.save_format.specs.Encoded.{IsStageText, IsTextOfSave};
 ghost use Rattle.save_format.specs.Seen.{stage_view};
 ghost use Rattle.save_format.specs.StateText.Seen.{state_view};
 ghost use Rattle.save_format.specs.StateText.StateText.{StateText};
@@ -20,13 +20,13 @@ use crate::save::judging::are_done;
 use crate::save::origin::is_text_of;
 use crate::stage::Done;
 use audit_rules::Finished;
-use checkpoints::{RestoreRefusal, front_in, may_be_made, patched_guest_of};
+use checkpoints::{RestoreRefusal, header_in, may_be_made, patched_guest_of};
 use ddc_base::digests::Digest;
 use ddc_base::{Bytes, OutOfMemory, digest};
 use guest_run::{Guest, RunRam};
 use recipe::Recipe;
-use save_format::state_text::{self, StateFront, TextRefusal};
-use save_format::{InputPart, Parts, StagePart, front_of};
+use save_format::state_text::{self, StateHeader, TextRefusal};
+use save_format::{InputPart, Parts, StagePart, header_of};
 use std::alloc::Global;
 use std::marker::Model;
 
@@ -150,25 +150,25 @@ fn wanting(recipe: &Recipe, inputs: &[Bytes], text: &[u8]) -> SaveRefusal
     if !is_text_of(text, recipe, inputs) {
         return SaveRefusal::OtherRecipe;
     }
-    let front = front_of(text);
-    if may_stand(recipe, front.stages as usize, &front.state) {
+    let header = header_of(text);
+    if may_occur(recipe, header.stages as usize, &header.state) {
         SaveRefusal::OutOfMemory
     } else {
         SaveRefusal::State
     }
 }
 
-/// Whether a save of the recipe with this many finished stages and this state allocates memory. `front` is the state without its pages.
-fn may_stand(recipe: &Recipe, stages: usize, front: &StateFront) -> bool
-    ensures { (save : SaveText) → stages ≡ length save.stages → IsFrontOf front.now save.state → IsTrue result ↔ MayStand recipe.now save }
+/// Whether a save of the recipe with this many finished stages and this state allocates memory. `header` is the state without its pages.
+fn may_occur(recipe: &Recipe, stages: usize, header: &StateHeader) -> bool
+    ensures { (save : SaveText) → stages ≡ length save.stages → IsHeaderOf header.now save.state → IsTrue result ↔ MayOccur recipe.now save }
 {
     let Some(stage) = recipe.stages().as_slice().get(stages) else {
         return false;
     };
-    if front.steps >= stage.steps || front.heap.limit != stage.heap {
+    if header.steps >= stage.steps || header.heap.limit != stage.heap {
         return false;
     }
-    may_be_made(front)
+    may_be_made(header)
 }
 
 /// Whether a save is of the recipe of this digest and of these inputs.
@@ -211,11 +211,11 @@ pub(crate) fn position_of(
 ) -> Result<Resumed, SaveRefusal>
     requires stages { All IsStageText (map stage_view parts.items) }
     requires state { (base : StateText) × IsPatched base (state_view state.now) }
-    ensures stands { (digest : Digest) (inputs : List Digest) → Stands recipe.now (record { recipe = digest; inputs = inputs; stages = map stage_view parts.items; state = state_view state.now }) result }
+    ensures current { (digest : Digest) (inputs : List Digest) → Current recipe.now (record { recipe = digest; inputs = inputs; stages = map stage_view parts.items; state = state_view state.now }) result }
     ensures valid { IfOk result (λ p. IsValid p.at) }
 {
-    let front = front_in(state);
-    if !may_stand(recipe, parts.as_slice().len(), &front) {
+    let header = header_in(state);
+    if !may_occur(recipe, parts.as_slice().len(), &header) {
         return Err(SaveRefusal::State);
     }
     let done = done_of(alloc, parts)?;

@@ -3,7 +3,7 @@
 ghost use Rattle.std.specs.Prelude.{◌≡◌, ◌<◌, ◌^◌, ◌++◌, All, IfOk, OnOk, length, map};
 ghost use Rattle.audit_run.specs.Save.Saves.{digest_of, save_of, stage_of};
 ghost use Rattle.save_format.specs.ByteFields.Spelling.{list_text};
-ghost use Rattle.save_format.specs.Spelled.{IsShortStage, digest_text, stage_text, text_of_save};
+ghost use Rattle.save_format.specs.Encoded.{IsShortStage, digest_text, stage_text, text_of_save};
 ghost use Rattle.audit_rules.specs.Positions.{at};
 ghost use Rattle.audit_rules.specs.Valid.{IsInputs, IsPosition};
 
@@ -17,7 +17,7 @@ use save_format::{MAGIC, put_stage};
 use std::alloc::Global;
 
 /// The save of an audit in a stage, in the second form. Error: out of memory.
-#[tactic(auto, using(crate::proofs::SaveLemmas::Written::written), unfolding(save_format::specs::Spelled::save_text_in))]
+#[tactic(auto, using(crate::proofs::SaveLemmas::Written::written), unfolding(save_format::specs::Encoded::save_text_in))]
 pub fn write(
     alloc: Global,
     recipe: &Recipe,

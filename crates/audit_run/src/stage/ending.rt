@@ -1,6 +1,7 @@
 //! The end of a stage's run.
 
 ghost use Rattle.audit_run.specs.Stage.Makes.{Makes};
+ghost use Rattle.ddc_base.specs.Limits.{most_artefacts};
 ghost use Rattle.audit_run.specs.Stage.Rules.{IsStageOf};
 ghost use Rattle.mem_files.specs.Outputs.{out};
 ghost use Rattle.recipe.specs.Kept as kept;
@@ -12,7 +13,8 @@ use crate::stage::done::Done;
 use crate::stage::left::{Known, left_lines};
 use crate::stage::so_far::SoFar;
 use crate::stage::sources::check_of;
-use audit_rules::{Finished, MAX_ARTEFACTS, RunCause, StageFault};
+use audit_rules::{Finished, RunCause, StageFault};
+use ddc_base::limits::MOST_ARTEFACTS;
 use ddc_base::{Bytes, OutOfMemory};
 use mem_files::Files;
 use recipe::{Output, Stage};
@@ -38,7 +40,7 @@ pub(crate) fn exited(
 ) -> Result<Result<Done, StageFault>, OutOfMemory>
     requires recipe { kept.IsRecipe so_far.now.recipe.now }
     requires stage { IsStageOf so_far.now.recipe.now stage.now }
-    requires small { artefact_bytes so_far.now.done.now ≤ 1_073_741_824 }
+    requires small { artefact_bytes so_far.now.done.now ≤ most_artefacts }
     ensures answer { IfOk result (λ r. r
         ≡ exited_with so_far.now.recipe.now so_far.now.inputs.now so_far.now.done.now stage.now exit.status exit.step files.now) }
     ensures want { OnErr result (Makes stage.now so_far.now.done.now exit.status files.now) }
@@ -50,7 +52,7 @@ pub(crate) fn exited(
     let Some(made) = made_by(stage, files) else {
         return Ok(Err(StageFault::Runs(RunCause::NoOutput, step)));
     };
-    if artefact_bytes(so_far.done) + made.len() as u64 > MAX_ARTEFACTS {
+    if artefact_bytes(so_far.done) + made.len() as u64 > MOST_ARTEFACTS {
         return Ok(Err(StageFault::Runs(RunCause::Crowded, step)));
     }
     match check_of(alloc, so_far, stage, made)? {
@@ -72,7 +74,7 @@ pub fn made_by<'a>(stage: &Stage, files: &'a Files) -> Option<&'a [u8]>
 
 /// The number of bytes of all artefacts so far.
 fn artefact_bytes(done: &[Done]) -> u64
-    requires { artefact_bytes done.now ≤ 1_073_741_824 }
+    requires { artefact_bytes done.now ≤ most_artefacts }
     ensures { result ≡ artefact_bytes done.now }
 {
     let mut total = 0;

@@ -1,6 +1,7 @@
 //! The check of a stage's artefact.
 
-ghost use Rattle.std.specs.Prelude.{◌≡◌, ◌≤◌, ◌^◌, IfOk, map, option_map};
+ghost use Rattle.std.specs.Prelude.{◌≡◌, ◌≤◌, IfOk, map, option_map};
+ghost use Rattle.ddc_base.specs.Limits.{most_address};
 ghost use Rattle.recipe.specs.Kept as kept;
 ghost use Rattle.audit_rules.specs.SourceCheck.Checks.{joined_files};
 ghost use Rattle.audit_rules.specs.Contents.{check_of, check_source, content, defined, text_check, text_of};
@@ -64,7 +65,7 @@ fn check_text(
     language: Language,
     made: &[u8],
 ) -> Result<Option<CheckCause>, OutOfMemory>
-    requires { source.now.base ≤ 2 ^ 37 }
+    requires { source.now.base ≤ most_address }
     ensures { IfOk result (λ cause. cause
         ≡ text_check (text_of so_far.now.recipe.now (contents so_far.now.inputs.now so_far.now.done.now) source.now) (Some language) made.now) }
 {

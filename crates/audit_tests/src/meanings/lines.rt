@@ -1,6 +1,6 @@
 //! The assumptions of each recipe of the tables, as lines.
 
-use crate::meanings::recipes::{CHECKED, FRONT, INPUTS, KEYS, UNCHECKED};
+use crate::meanings::recipes::{CHECKED, INPUTS, KEYS, LEADING, UNCHECKED};
 use crate::meanings::with_stages;
 use ddc_base::{Name, OutOfMemory};
 use recipe::{Recipe, read};
@@ -75,7 +75,7 @@ fn put_recipe(alloc: Global, lines: &mut String, text: &str) -> Result<(), OutOf
 /// The recipe with these stages.
 pub(crate) fn recipe_text(alloc: Global, stages: &str) -> Result<String, OutOfMemory> {
     let stages = stages.replace(alloc, "$", KEYS)?;
-    with_stages(alloc, FRONT, stages.as_str())
+    with_stages(alloc, LEADING, stages.as_str())
 }
 
 /// The lines of a recipe with these stages, or the number of its refusal.

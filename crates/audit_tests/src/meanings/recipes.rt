@@ -1,7 +1,7 @@
 //! Recipes, each with the lines of its assumptions.
 
 /// Inputs and sources of each language. `$` stands for the keys that every stage has alike.
-pub(crate) const FRONT: &str = r#"format = 1
+pub(crate) const LEADING: &str = r#"format = 1
 input = [
     { name = "text", path = "text" },
     { name = "seed", path = "seed", implements = "zero" },

@@ -2,7 +2,7 @@
 
 ghost use Rattle.std.specs.Prelude.{◌≡◌, ℕ, List, None};
 ghost use Rattle.std.proofs.Common.{sym, ◌∙◌};
-ghost use Rattle.mem_files.specs.Outputs.{OutputPlace};
+ghost use Rattle.mem_files.specs.Outputs.{OutputLocation};
 ghost use Rattle.guest_run.specs.Setting.{Setting};
 ghost use Rattle.wheeler.specs.Assembly.{ValueLeaves, ValueLeavesValue};
 ghost use Rattle.wheeler.specs.Largest.{AllImplement, CompilesNoMore};
@@ -31,7 +31,7 @@ fn assembly_is_within()
 
 /// A source without a value prescribes its own text, beside machine code too, and nothing else.
 fn quotes_stay_quotes()
-    ensures { (source : SourceText) → binary_of source ≡ None → (box : Setting) (output : OutputPlace) (content : List ℕ)
+    ensures { (source : SourceText) → binary_of source ≡ None → (box : Setting) (output : OutputLocation) (content : List ℕ)
         → (MachineCodeOr ⟦<Quoting as OtherLanguages>⟧.prescribes source box output content → content ≡ joined_files source.files)
         × (content ≡ joined_files source.files → MachineCodeOr ⟦<Quoting as OtherLanguages>⟧.prescribes source box output content) }
 {

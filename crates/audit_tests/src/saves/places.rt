@@ -15,7 +15,7 @@ const OTHER: Option<SaveRefusal> = Some(SaveRefusal::OtherRecipe);
 const STATE: Option<SaveRefusal> = Some(SaveRefusal::State);
 
 /// The recipe's digest is at 8, the inputs' from 44 on, and how many stages are done at 172.
-static FRONT: &[Row] = &[
+static LEADING: &[Row] = &[
     (&[(0, 1, b"e")], Some(SaveRefusal::Form(0))),
     (&[(8, 1, &[0x11])], OTHER),
     (&[(39, 1, &[0x09])], OTHER),
@@ -163,7 +163,7 @@ fn check_rows(rt: &impl Abort, alloc: Global, text: &[u8], rows: &[Row]) {
 
 fn check_rules(rt: &impl Abort, alloc: Global, text: &[u8]) {
     assert!(rt; text.len() == 9_193);
-    check_rows(rt, alloc, text, FRONT);
+    check_rows(rt, alloc, text, LEADING);
     check_rows(rt, alloc, text, DONE);
     check_rows(rt, alloc, text, PRESENT);
 }

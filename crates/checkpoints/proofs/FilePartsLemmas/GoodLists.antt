@@ -1,5 +1,6 @@
 -- The lists of files that keep their rules keep the rules of lists.
 use Rattle.std.proofs.Common.{◌≡◌, ℕ, ◌+◌, ◌<◌, Bool, true, false, cond, ◌||◌, eqb, eqb-true, eq-eqb, T, IsTrue, List, [], ◌∷◌, length, map, find, sum_by, Option, Some, None, IsSome, is_some, option_map, refl, sym, ap, ◌∙◌, arith}
+use Rattle.ddc_base.specs.Limits.{file_number_end}
 use Rattle.std.specs.Prelude.{All, IfSome}
 use Rattle.std.specs.List.{list_any, AllByRecursion, IsDistinct}
 use Rattle.std.specs.Ordering.{nat_cmp, eq_by_cmp}
@@ -117,7 +118,7 @@ module _ (w : World) (sound : IsSound w) where
         few_names = (let few = sound.within.few_names in omega (arith, len-distinct (named (shown (fin.entries w.files))) distinct, ap fin.len (names_same w sound)));
         good_names = λ k d inside. (sound.within.good_names _ _ (names k d inside), sound.within.name_bytes _ _ (names k d inside));
         distinct = distinct;
-        low_numbers = files_all (λ f. f.number < 5120) (λ e is. sound.within.low_numbers e.0 (ap is_some is));
+        low_numbers = files_all (λ f. f.number < file_number_end) (λ e is. sound.within.low_numbers e.0 (ap is_some is));
         good_files = files_all (λ f. IsContent f.content) (λ e is. record { bytes = sound.within.file_bytes e.0 e.1 is; small = sound.within.small_files e.0 e.1 is });
         good_streams = All-cons IsContent w.stream1 (w.stream2 ∷ []) (record { bytes = sound.within.stream1_bytes; small = sound.within.small_stream1 })
             (All-cons IsContent w.stream2 [] (record { bytes = sound.within.stream2_bytes; small = sound.within.small_stream2 }) (All-nil IsContent));

@@ -10,7 +10,7 @@ use Rattle.std.proofs.lemmas.Map.Text.{is_eq-slice_cmp}
 use Rattle.mem_files.specs.declared.open_file.OpenFile.{OpenFile}
 use Rattle.mem_files.specs.declared.open_file.OpenFile.TheVariants.{Input, Stream1, Stream2, File}
 use Rattle.mem_files.specs.Names.{bytes_cmp}
-use Rattle.mem_files.specs.Limits.{most_content, most_names, most_total}
+use Rattle.ddc_base.specs.Limits.{file_number_end, most_content, most_names, most_total}
 use Rattle.mem_files.specs.Sound.{AreBytes, IsOpenFileAt}
 use Rattle.mem_files.specs.Outputs.{IsContent}
 use Rattle.mem_files.specs.Lists.{ListedFile, FileLists, named, with_name, IsHeldName, is_listed, is_used, AreInRange, AreJoined}
@@ -164,17 +164,17 @@ module _ (lists : FileLists) (parts : AreParts lists) where
   own = have_own_names lists.files
 
   -- the three tests of a file
-  abbrev front_of : ListedFile → Bool
-  front_of f = nat_lt f.number 5120 && is_good_name f.name
+  abbrev header_of : ListedFile → Bool
+  header_of f = nat_lt f.number file_number_end && is_good_name f.name
 
-  file_number : (f : ListedFile) → is_good_file f ≡ true → f.number < 5120
-  file_number f h = less f.number 5120 (first (nat_lt f.number 5120) (is_good_name f.name) (first (front_of f) (nat_le (length f.content) most_content) h))
+  file_number : (f : ListedFile) → is_good_file f ≡ true → f.number < file_number_end
+  file_number f h = less f.number file_number_end (first (nat_lt f.number file_number_end) (is_good_name f.name) (first (header_of f) (nat_le (length f.content) most_content) h))
 
   file_name : (f : ListedFile) → is_good_file f ≡ true → is_good_name f.name ≡ true
-  file_name f h = second (nat_lt f.number 5120) (is_good_name f.name) (first (front_of f) (nat_le (length f.content) most_content) h)
+  file_name f h = second (nat_lt f.number file_number_end) (is_good_name f.name) (first (header_of f) (nat_le (length f.content) most_content) h)
 
   file_content : (f : ListedFile) → is_good_file f ≡ true → length f.content ≤ most_content
-  file_content f h = at_most (length f.content) most_content (second (front_of f) (nat_le (length f.content) most_content) h)
+  file_content f h = at_most (length f.content) most_content (second (header_of f) (nat_le (length f.content) most_content) h)
 
   pub in_range-says : in_range lists ≡ true → AreInRange lists
   unfolding in_range
@@ -190,7 +190,7 @@ module _ (lists : FileLists) (parts : AreParts lists) where
         few_names = at_most (length (named lists.files)) most_names (second (files_good && open_files_good && streams_good) names_few h2);
         good_names = names_all lists.files (with_bytes (λ f. is_good_file f ≡ true) HasBytes (λ f. IfSome f.name IsHeldName) lists.files (λ f good bytes. name_good f.name (file_name f good) bytes.name) files parts.file_bytes);
         distinct = own_names lists.files (second (files_good && open_files_good && streams_good && names_few && all_small) own h);
-        low_numbers = alone (λ f. is_good_file f ≡ true) (λ f. f.number < 5120) lists.files file_number files;
+        low_numbers = alone (λ f. is_good_file f ≡ true) (λ f. f.number < file_number_end) lists.files file_number files;
         good_files = with_bytes (λ f. is_good_file f ≡ true) HasBytes (λ f. IsContent f.content) lists.files (λ f good bytes. record { bytes = bytes.content; small = file_content f good }) files parts.file_bytes;
         good_streams = with_bytes (λ stream. nat_le (length stream) most_content ≡ true) AreBytes IsContent lists.streams (λ stream good bytes. record { bytes = bytes; small = at_most (length stream) most_content good }) streams parts.stream_bytes;
         small_total = at_most (size lists) most_total (second (files_good && open_files_good && streams_good && names_few) all_small h1);
@@ -203,7 +203,7 @@ module _ (lists : FileLists) (parts : AreParts lists) where
   range-passes range =
       let names = all_names lists.files range.good_names in
       let files : All (λ f. is_good_file f ≡ true) lists.files = λ k d inside.
-      both _ _ (both _ _ (lt_true _ 5120 (range.low_numbers k d inside)) (good_name _ (names k d inside))) (le_true _ most_content (range.good_files k d inside).small) in
+      both _ _ (both _ _ (lt_true _ file_number_end (range.low_numbers k d inside)) (good_name _ (names k d inside))) (le_true _ most_content (range.good_files k d inside).small) in
       let open_files : All (λ held. is_good_open_file held ≡ true) lists.open_files = λ k d inside. both _ _ (lt_true _ 1024 (range.low_open_files k d inside)) (right_open_file _ _ (range.good_open_files k d inside)) in
       let streams : All (λ stream. nat_le (length stream) most_content ≡ true) lists.streams = λ k d inside. le_true _ most_content (range.good_streams k d inside).small in
       both (files_good && open_files_good && streams_good && names_few && all_small) own

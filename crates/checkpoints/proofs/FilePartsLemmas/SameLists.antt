@@ -14,7 +14,7 @@ use Rattle.mem_files.specs.Names.{bytes_cmp}
 use Rattle.mem_files.specs.World.{is_named}
 use Rattle.mem_files.specs.Lists.{ListedFile, FileLists, named, with_name, numbered_contents, name_of_file, listed_file, lists_of, world_of, AreOrdered, AreInRange}
 use Rattle.mem_files.proofs.ListRules.{entries_risen, name_held, one_name}
-use Rattle.mem_files.proofs.ListWorlds.{at_place, later}
+use Rattle.mem_files.proofs.ListWorlds.{at_index, later}
 use Rattle.mem_files.proofs.Maps.{any_at, both, find_low, head_above, key_of_any, rest_above}
 use Rattle.mem_files.proofs.Shown.{name-none, name-some}
 
@@ -71,14 +71,14 @@ module _ (lists : FileLists) (order : AreOrdered lists) (range : AreInRange list
   name_at : (k : ℕ) (d : ListedFile) → k < length lists.files → (o : Option (List ℕ)) → (get_or lists.files k d).name ≡ o → name_of_file (world_of lists) (get_or lists.files k d).number ≡ o
   name_at k d inside (Some name) is =
       let f : ListedFile = get_or lists.files k d in
-      let whole = at_place lists.files k d inside in
+      let whole = at_index lists.files k d inside in
       let found : fin.find bytes_cmp name (named lists.files) ≡ Some f.number =
       subst (λ files. fin.find bytes_cmp name (named files) ≡ Some f.number) whole (found_at (take k lists.files) (drop (k + 1) lists.files) f name is (subst Once (sym whole) range.distinct)) in
       name-some (world_of lists) f.number name (any_at nat_list_cmp_total (λ held. eqb held f.number) (world_of lists).names name f.number (looked name ∙ found) (eq-eqb f.number f.number refl))
       (λ other held. one_name lists.files sorted_files other name f.number (sym (looked other) ∙ held) found)
   name_at k d inside None is =
       let f : ListedFile = get_or lists.files k d in
-      let whole = at_place lists.files k d inside in
+      let whole = at_index lists.files k d inside in
       name-none (world_of lists) f.number (elim (is_named (world_of lists) f.number) as (λ b. is_named (world_of lists) f.number ≡ b → b ≡ false) [
         | true ↦ λ held.
             let key = key_of_any nat_list_cmp_total (λ held. eqb held f.number) (world_of lists).names held in

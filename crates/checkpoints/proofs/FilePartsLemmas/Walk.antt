@@ -1,5 +1,6 @@
 -- A walk over numbers by "the least one from another on".
 use Rattle.std.proofs.Common.{◌≡◌, ℕ, ◌+◌, ◌<◌, ◌≤◌, Bool, true, false, cond, T, nat_le, List, [], ◌∷◌, ◌++◌, map, filter, find, Option, Some, None, is_some, IsSome, option_map, refl, sym, ap, subst, ◌∙◌, arith, append_assoc, append-nil}
+use Rattle.ddc_base.specs.Limits.{file_number_end}
 use Rattle.std.specs.Ordering.{eq_by_cmp, nat_cmp}
 use Rattle.std.specs.FinMap as fin
 use Rattle.std.specs.FinMap.Entries.{below_all}
@@ -109,12 +110,12 @@ file_none w n is = at (first_from w.files n) is
 -- a file more
 pub file_listed : (w : World) (n : ℕ) (found : List ListedFile) (shown : ListedFile) → IsSound w → file_from w n ≡ Some shown
     → found ++ map (listed_file w) (left_from n (fin.entries w.files)) ≡ map (listed_file w) (fin.entries w.files)
-    → (n ≤ shown.number) × (shown.number < 5120) × ((found ++ shown ∷ []) ++ map (listed_file w) (left_from (shown.number + 1) (fin.entries w.files)) ≡ map (listed_file w) (fin.entries w.files))
+    → (n ≤ shown.number) × (shown.number < file_number_end) × ((found ++ shown ∷ []) ++ map (listed_file w) (left_from (shown.number + 1) (fin.entries w.files)) ≡ map (listed_file w) (fin.entries w.files))
 file_listed w n found shown sound is so_far =
     let entry = file_found w n shown is in
     let same : entry.0.0 ≡ shown.number = ap (λ (f : ListedFile). f.number) entry.2 in (
       subst (λ k. n ≤ k) same (walk_rises w.files (listed_file w) n entry.0 entry.1),
-      subst (λ k. k < 5120) same (sound.within.low_numbers entry.0.0 (walk_finds w.files (listed_file w) n entry.0 entry.1)),
+      subst (λ k. k < file_number_end) same (sound.within.low_numbers entry.0.0 (walk_finds w.files (listed_file w) n entry.0 entry.1)),
       subst (λ k. (found ++ shown ∷ []) ++ map (listed_file w) (left_from (k + 1) (fin.entries w.files)) ≡ map (listed_file w) (fin.entries w.files)) same
           (walk_goes_on w.files (listed_file w) n entry.0 found shown entry.1 entry.2 so_far),
     )

@@ -4,6 +4,7 @@ use Rattle.std.specs.List.{list_all}
 use Rattle.std.specs.Ordering.{nat_cmp}
 use Rattle.std.specs.FinMap.{get, contains_key, empty, get-empty}
 use Rattle.std.proofs.lemmas.Bool.{cases_eq, cases_lt, eqb-true}
+use Rattle.ddc_base.specs.Limits.{page_number_end}
 use Rattle.paged_mem.specs.Memory.{Memory, IsWhole, bytes_at, with_bytes, zeros}
 use Rattle.paged_mem.specs.Inside.Wholeness.{get-with_bytes, get-with_bytes_below, get-with_bytes_above}
 use Rattle.paged_mem.proofs.Maps.{same_memory, get_in_bytes_at, length_of_bytes_at, maps_by_each}
@@ -154,7 +155,7 @@ filled_in m0 m page (suc count) a from to z full = both (cases_eq (a / 4096) pag
 
 -- what a memory's runs and pages say is that memory
 pub same_again : (m : Memory) → IsWhole m → memory_from (runs_of m) (pages_of m) ≡ m
-same_again m whole = same_memory (memory_from (runs_of m) (pages_of m)) m (λ a. each a (cases_lt (a / 4096) (2 ^ 26)) (contains_key m a) refl)
+same_again m whole = same_memory (memory_from (runs_of m) (pages_of m)) m (λ a. each a (cases_lt (a / 4096) page_number_end) (contains_key m a) refl)
   where
     some : (a : ℕ) → contains_key m a ≡ true → (q : ℕ) → 4096 * (a / 4096) ≤ q → q < 4096 * (a / 4096) + 4096 → is_some (get m q) ≡ true
     some a is q from to = whole.pages q a (omega arith) ∙ is
@@ -166,10 +167,10 @@ same_again m whole = same_memory (memory_from (runs_of m) (pages_of m)) m (λ a.
         none_of None e = refl
         none_of (Some x) e = absurd cc
 
-    each : (a : ℕ) → (a / 4096 < 2 ^ 26) ⊎ (2 ^ 26 ≤ a / 4096) → (b : Bool) → contains_key m a ≡ b → get (memory_from (runs_of m) (pages_of m)) a ≡ get m a
+    each : (a : ℕ) → (a / 4096 < page_number_end) ⊎ (page_number_end ≤ a / 4096) → (b : Bool) → contains_key m a ≡ b → get (memory_from (runs_of m) (pages_of m)) a ≡ get m a
     each a (inl low) true is =
-        filled_in (zero_runs (runs_of m)) m 0 (2 ^ 26) a (omega arith) (omega arith)
-        (runs_in (is_mapped m) 0 (2 ^ 26) a (omega arith) (omega arith) (whole.pages (4096 * (a / 4096)) a (omega arith) ∙ is))
+        filled_in (zero_runs (runs_of m)) m 0 page_number_end a (omega arith) (omega arith)
+        (runs_in (is_mapped m) 0 page_number_end a (omega arith) (omega arith) (whole.pages (4096 * (a / 4096)) a (omega arith) ∙ is))
         (maps_by_each m (4096 * (a / 4096)) 4096 (some a is))
-    each a (inl low) false is = filled_same (zero_runs (runs_of m)) m 0 (2 ^ 26) a (runs_out (is_mapped m) 0 (2 ^ 26) a (inr (inr (whole.pages (4096 * (a / 4096)) a (omega arith) ∙ is))) ∙ sym (gone a is))
-    each a (inr high) b is = filled_same (zero_runs (runs_of m)) m 0 (2 ^ 26) a (runs_out (is_mapped m) 0 (2 ^ 26) a (inr (inl (omega arith))) ∙ sym (get-past m whole a (omega arith)))
+    each a (inl low) false is = filled_same (zero_runs (runs_of m)) m 0 page_number_end a (runs_out (is_mapped m) 0 page_number_end a (inr (inr (whole.pages (4096 * (a / 4096)) a (omega arith) ∙ is))) ∙ sym (gone a is))
+    each a (inr high) b is = filled_same (zero_runs (runs_of m)) m 0 page_number_end a (runs_out (is_mapped m) 0 page_number_end a (inr (inl (omega arith))) ∙ sym (get-past m whole a (omega arith)))

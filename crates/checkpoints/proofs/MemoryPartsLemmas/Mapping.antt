@@ -20,17 +20,17 @@ no_run = record { first = 0; pages = 0 }
 next_of : (runs : List Run) (i : ℕ) (run : Run) → i < length runs → run ≡ get_or runs i no_run → drop i runs ≡ run ∷ drop (i + 1) runs
 next_of runs i run lt is = let e = drop-cons runs i no_run lt in rw (add-one) (e ∙ ap (λ (r : Run). r ∷ drop (suc i) runs) (sym is))
 
-pub room : (m whole : Memory) (runs : List Run) (i least : ℕ) (run : Run) → i < length runs → run ≡ get_or runs i no_run → IsReady m whole runs i least → IsNextRun least run
-room m whole runs i least run lt is ready = (subst (ArePlaced least) (next_of runs i run lt is) ready.placed).0
+pub budget : (m whole : Memory) (runs : List Run) (i least : ℕ) (run : Run) → i < length runs → run ≡ get_or runs i no_run → IsReady m whole runs i least → IsNextRun least run
+budget m whole runs i least run lt is ready = (subst (ArePlaced least) (next_of runs i run lt is) ready.placed).0
 
 pub is_free : (m whole : Memory) (runs : List Run) (i least : ℕ) (run : Run) → i < length runs → run ≡ get_or runs i no_run → IsReady m whole runs i least → IsFree m (4096 * run.first) (4096 * run.pages)
-is_free m whole runs i least run lt is ready = let p = room m whole runs i least run lt is ready in λ address from to. ready.free address (omega (arith, p.from))
+is_free m whole runs i least run lt is ready = let p = budget m whole runs i least run lt is ready in λ address from to. ready.free address (omega (arith, p.from))
 
 pub map_step : (m whole : Memory) (runs : List Run) (i least : ℕ) (run : Run) → i < length runs → run ≡ get_or runs i no_run → IsReady m whole runs i least → IsReady (with_bytes m (4096 * run.first) (zeros (4096 * run.pages))) whole runs (i + 1) (after_run run)
 unfolding mapped_runs
 map_step m whole runs i least run lt is ready =
     let next = next_of runs i run lt is in
-    let p = room m whole runs i least run lt is ready in
+    let p = budget m whole runs i least run lt is ready in
     record {
       placed = (subst (ArePlaced least) next ready.placed).1;
       free = λ a from. zero_out m run.first run.pages a (inr (omega arith)) ∙ ready.free a (omega (arith, p.from));

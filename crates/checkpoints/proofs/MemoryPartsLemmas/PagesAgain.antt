@@ -3,6 +3,7 @@ use Rattle.std.proofs.Common.{◌≡◌, ℕ, zero, suc, ◌+◌, ◌-◌, ◌*�
 use Rattle.std.specs.List.{list_all}
 use Rattle.std.specs.FinMap.{get}
 use Rattle.std.proofs.lemmas.List.{append-nil}
+use Rattle.ddc_base.specs.Limits.{page_number_end}
 use Rattle.paged_mem.specs.Memory.{Memory, bytes_at, prepended, with_bytes}
 use Rattle.paged_mem.specs.Inside.Wholeness.{get-with_bytes_below, get-with_bytes_above}
 use Rattle.paged_mem.proofs.MemoryLaws.{bytes_at-with_bytes}
@@ -61,23 +62,23 @@ before_all m (page ∷ pages) least q shown lt =
     bytes_alike (with_bytes (with_pages m pages) (4096 * page.number) page.bytes) (with_pages m pages) (4096 * q) 4096 (λ a from_a to. get-with_bytes_below (with_pages m pages) (4096 * page.number) page.bytes a (omega arith))
     ∙ before_all m pages (after_page page) q shown.1 (omega arith)
 
-pub pages_again : (m : Memory) (pages : List PageText) (page least count : ℕ) → IsZeroed m → AreShown least pages → page ≤ least → page + count ≡ 2 ^ 26 → page_texts_from (with_pages m pages) page count ≡ pages
+pub pages_again : (m : Memory) (pages : List PageText) (page least count : ℕ) → IsZeroed m → AreShown least pages → page ≤ least → page + count ≡ page_number_end → page_texts_from (with_pages m pages) page count ≡ pages
 unfolding with_pages
 pages_again m [] page least count zeroed shown le top = none_shown m zeroed page count
 pages_again m (p ∷ ps) page least count zeroed shown le top =
     let from : least ≤ p.number = shown.0.from in
-    let low : p.number < 2 ^ 26 = shown.0.low in
+    let low : p.number < page_number_end = shown.0.low in
     let full : length p.bytes ≡ 4096 = shown.0.full in
     let gap : ℕ = p.number - page in
-    let rest : ℕ = 2 ^ 26 - (p.number + 1) in
+    let rest : ℕ = page_number_end - (p.number + 1) in
     let all : Memory = with_bytes (with_pages m ps) (4096 * p.number) p.bytes in
-    let front : page_texts_from all page gap ≡ [] = pages_alike all m page gap (λ q from_q to. before_all m (p ∷ ps) p.number q (record { from = omega arith; low = low; full = full; some = shown.0.some }, shown.1) (omega arith)) ∙ none_shown m zeroed page gap in
+    let prefix : page_texts_from all page gap ≡ [] = pages_alike all m page gap (λ q from_q to. before_all m (p ∷ ps) p.number q (record { from = omega arith; low = low; full = full; some = shown.0.some }, shown.1) (omega arith)) ∙ none_shown m zeroed page gap in
     let here : bytes_at all (4096 * p.number) 4096 ≡ Some p.bytes = subst (λ (n : ℕ). bytes_at all (4096 * p.number) n ≡ Some p.bytes) full (bytes_at-with_bytes (with_pages m ps) (4096 * p.number) p.bytes) in
     let one : page_texts_from all p.number 1 ≡ p ∷ [] = single all p.number ∙ ap (listed_page p.number) here ∙ is_listed p shown.0.some in
     let tail : page_texts_from all (p.number + 1) rest ≡ ps = pages_alike all (with_pages m ps) (p.number + 1) rest (λ q from_q to. bytes_alike all (with_pages m ps) (4096 * q) 4096 (λ a from_a to_a. get-with_bytes_above (with_pages m ps) (4096 * p.number) p.bytes a (omega arith))) ∙ pages_again m ps (p.number + 1) (after_page p) rest zeroed shown.1 (omega arith) (omega arith) in
     same_pages all page page count (gap + (1 + rest)) refl (omega arith)
     ∙ pages_parts all page gap (1 + rest)
-    ∙ (λ i. front i ++ page_texts_from all (page + gap) (1 + rest))
+    ∙ (λ i. prefix i ++ page_texts_from all (page + gap) (1 + rest))
     ∙ same_pages all (page + gap) p.number (1 + rest) (1 + rest) (omega arith) refl
     ∙ pages_parts all p.number 1 rest
     ∙ (λ i. one i ++ tail i)

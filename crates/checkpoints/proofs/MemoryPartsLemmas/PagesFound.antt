@@ -3,6 +3,7 @@ use Rattle.std.proofs.Common.{◌≡◌, ℕ, zero, suc, ◌+◌, ◌-◌, ◌*�
 use Rattle.std.specs.List.{list_all}
 use Rattle.std.specs.FinMap.{get}
 use Rattle.std.proofs.lemmas.List.{append-nil}
+use Rattle.ddc_base.specs.Limits.{page_number_end}
 use Rattle.paged_mem.specs.Memory.{Memory, bytes_at, zeros}
 use Rattle.paged_mem.specs.Ram.{IsRun, RunsFrom}
 use Rattle.paged_mem.proofs.Maps.{bytes_at-none}
@@ -45,10 +46,10 @@ none_listed m page (suc count) free =
     ∙ none_listed m (page + 1) count (λ k lt. ap (get m) (omega arith) ∙ free (suc k) (omega arith))
 
 -- one page more
-pub page_more : (m : Memory) (front now all : List PageText) (first i number : ℕ) → number ≡ first + i → now ≡ front ++ listed_page number (bytes_at m (4096 * number) 4096) → front ≡ all ++ page_texts_from m first i → now ≡ all ++ page_texts_from m first (i + 1)
-page_more m front now all first i number is now_is so_far =
+pub page_more : (m : Memory) (prefix now all : List PageText) (first i number : ℕ) → number ≡ first + i → now ≡ prefix ++ listed_page number (bytes_at m (4096 * number) 4096) → prefix ≡ all ++ page_texts_from m first i → now ≡ all ++ page_texts_from m first (i + 1)
+page_more m prefix now all first i number is now_is so_far =
     let one : page_texts_from m (first + i) 1 ≡ listed_page (first + i) (bytes_at m (4096 * (first + i)) 4096) = single (first + i) in
-    now_is ∙ ap (λ (n : ℕ). front ++ listed_page n (bytes_at m (4096 * n) 4096)) is
+    now_is ∙ ap (λ (n : ℕ). prefix ++ listed_page n (bytes_at m (4096 * n) 4096)) is
     ∙ ap (λ (v : List PageText). v ++ listed_page (first + i) (bytes_at m (4096 * (first + i)) 4096)) so_far
     ∙ append_assoc all (page_texts_from m first i) (listed_page (first + i) (bytes_at m (4096 * (first + i)) 4096))
     ∙ ap (λ (v : List PageText). all ++ v) (ap (λ (v : List PageText). page_texts_from m first i ++ v) (sym one) ∙ sym (pages_parts m first i 1))
@@ -56,17 +57,17 @@ page_more m front now all first i number is now_is so_far =
     single : (page : ℕ) → page_texts_from m page 1 ≡ listed_page page (bytes_at m (4096 * page) 4096)
     single page = unfold page_texts_from in append-nil (listed_page page (bytes_at m (4096 * page) 4096))
 
-pub run_pages : (m : Memory) (page first count : ℕ) (found now whole : List PageText) → page ≤ 2 ^ 26 → IsRun m (4096 * page) first count → now ≡ found ++ page_texts_from m (first / 4096) count
-    → found ++ page_texts_from m page (2 ^ 26 - page) ≡ whole → now ++ page_texts_from m (first / 4096 + count) (2 ^ 26 - (first / 4096 + count)) ≡ whole
+pub run_pages : (m : Memory) (page first count : ℕ) (found now whole : List PageText) → page ≤ page_number_end → IsRun m (4096 * page) first count → now ≡ found ++ page_texts_from m (first / 4096) count
+    → found ++ page_texts_from m page (page_number_end - page) ≡ whole → now ++ page_texts_from m (first / 4096 + count) (page_number_end - (first / 4096 + count)) ≡ whole
 run_pages m page first count found now whole le run is so_far =
     let gap : ℕ = first / 4096 - page in
-    let rest : ℕ = 2 ^ 26 - (first / 4096 + count) in
+    let rest : ℕ = page_number_end - (first / 4096 + count) in
     let aligned : first % 4096 ≡ 0 = run.aligned in
     let from : page ≤ first / 4096 = omega (arith, run.from) in
-    let low : first / 4096 + count ≤ 2 ^ 26 = omega (arith, run.low) in
+    let low : first / 4096 + count ≤ page_number_end = omega (arith, run.low) in
     let none : page_texts_from m page gap ≡ [] = none_listed m page gap (λ k lt. run.before (4096 * (page + k)) (omega arith) (omega arith)) in
-    let parts : page_texts_from m page (2 ^ 26 - page) ≡ page_texts_from m (first / 4096) count ++ page_texts_from m (first / 4096 + count) rest =
-    same_pages m page page (2 ^ 26 - page) (gap + (count + rest)) refl (omega arith)
+    let parts : page_texts_from m page (page_number_end - page) ≡ page_texts_from m (first / 4096) count ++ page_texts_from m (first / 4096 + count) rest =
+    same_pages m page page (page_number_end - page) (gap + (count + rest)) refl (omega arith)
     ∙ pages_parts m page gap (count + rest)
     ∙ ap (λ (v : List PageText). v ++ page_texts_from m (page + gap) (count + rest)) none
     ∙ same_pages m (page + gap) (first / 4096) (count + rest) (count + rest) (omega arith) refl
@@ -75,7 +76,7 @@ run_pages m page first count found now whole le run is so_far =
     ∙ append_assoc found (page_texts_from m (first / 4096) count) (page_texts_from m (first / 4096 + count) rest)
     ∙ ap (λ (v : List PageText). found ++ v) (sym parts) ∙ so_far
 
-pub no_more_pages : (m : Memory) (page : ℕ) (found whole : List PageText) → RunsFrom m (4096 * page) None → found ++ page_texts_from m page (2 ^ 26 - page) ≡ whole → found ≡ whole
+pub no_more_pages : (m : Memory) (page : ℕ) (found whole : List PageText) → RunsFrom m (4096 * page) None → found ++ page_texts_from m page (page_number_end - page) ≡ whole → found ≡ whole
 no_more_pages m page found whole free so_far =
-    let none : page_texts_from m page (2 ^ 26 - page) ≡ [] = none_listed m page (2 ^ 26 - page) (λ k lt. free (4096 * (page + k)) (omega arith)) in
+    let none : page_texts_from m page (page_number_end - page) ≡ [] = none_listed m page (page_number_end - page) (λ k lt. free (4096 * (page + k)) (omega arith)) in
     sym (append-nil found) ∙ ap (λ (v : List PageText). found ++ v) (sym none) ∙ so_far

@@ -4,6 +4,7 @@ use Rattle.std.specs.Prelude.{◌||◌, nat_le, nat_lt}
 use Rattle.std.specs.Ordering.{nat_cmp}
 use Rattle.std.specs.FinMap.{get, empty, get-empty}
 use Rattle.std.proofs.lemmas.Bool.{leb-true, ltb-true, ltb-false, leb-false, le-leb, lt-ltb, le-ltb}
+use Rattle.ddc_base.specs.Limits.{page_number_end}
 use Rattle.paged_mem.proofs.Maps.{same_memory}
 use Rattle.paged_mem.specs.Memory.{Memory, with_bytes, zeros}
 use Rattle.save_format.specs.declared.state_text.parts.Run.{Run}
@@ -64,7 +65,7 @@ get-mapped_runs (run ∷ runs) m a p at =
         cases false = refl
     both false c false e f = zero_out m run.first run.pages a (inl (omega (arith, leb-false _ _ e)))
 
-pub runs_again : (mapped : ℕ → Bool) (runs : List Run) (page least count : ℕ) → ArePlaced least runs → page ≤ least → page + count ≡ 2 ^ 26 → ((p : ℕ) → page ≤ p → mapped p ≡ in_runs runs p) → runs_from mapped page count ≡ runs
+pub runs_again : (mapped : ℕ → Bool) (runs : List Run) (page least count : ℕ) → ArePlaced least runs → page ≤ least → page + count ≡ page_number_end → ((p : ℕ) → page ≤ p → mapped p ≡ in_runs runs p) → runs_from mapped page count ≡ runs
 unfolding runs_from in_runs
 runs_again mapped [] page least count placed le top is = same_runs mapped page page count (count + 0) refl (omega arith) ∙ passed mapped page count 0 (λ k lt. is (page + k) (omega arith))
 runs_again mapped (run ∷ runs) page least count placed le top is = some run.pages refl (λ q n low t i. runs_again mapped runs q (after_run run) n placed.1 low t i)
@@ -72,13 +73,13 @@ runs_again mapped (run ∷ runs) page least count placed le top is = some run.pa
     first : ℕ
     first = run.first
 
-    some : (n : ℕ) → run.pages ≡ n → ((q m : ℕ) → q ≤ after_run run → q + m ≡ 2 ^ 26 → ((p : ℕ) → q ≤ p → mapped p ≡ in_runs runs p) → runs_from mapped q m ≡ runs) → runs_from mapped page count ≡ run ∷ runs
+    some : (n : ℕ) → run.pages ≡ n → ((q m : ℕ) → q ≤ after_run run → q + m ≡ page_number_end → ((p : ℕ) → q ≤ p → mapped p ≡ in_runs runs p) → runs_from mapped q m ≡ runs) → runs_from mapped page count ≡ run ∷ runs
     some zero e later = absurd (omega (arith, placed.0.some))
     some (suc n) e later =
         let from : least ≤ run.first = placed.0.from in
-        let low : run.first + run.pages ≤ 2 ^ 26 = placed.0.low in
+        let low : run.first + run.pages ≤ page_number_end = placed.0.low in
         let gap : ℕ = run.first - page in
-        let rest : ℕ = 2 ^ 26 - (run.first + suc n) in
+        let rest : ℕ = page_number_end - (run.first + suc n) in
         let free : (k : ℕ) → k < gap → mapped (page + k) ≡ false = λ k lt. is (page + k) (omega arith) ∙ (let here = in_below run (page + k) (omega arith) in let others = none_below runs (after_run run) (page + k) placed.1 (omega arith) in rw (here, others) refl) in
         let all : (k : ℕ) → k < suc n → mapped (run.first + k) ≡ true = λ k lt. is (run.first + k) (omega arith) ∙ (let here = in_yes run (run.first + k) (omega arith) (omega arith) in rw here refl) in
         let ends : mapped (run.first + suc n) ≡ false = is (run.first + suc n) (omega arith) ∙ (let here = in_after run (run.first + suc n) (omega arith) (omega arith) in let others = none_below runs (after_run run) (run.first + suc n) placed.1 (omega arith) in rw (here, others) refl) in
@@ -91,7 +92,7 @@ runs_again mapped (run ∷ runs) page least count placed le top is = some run.pa
 
 -- one text: the runs of the memory that runs say are those runs
 pub same_runs_again : (runs : List Run) → ArePlaced 0 runs → runs_of (mapped_runs empty runs) ≡ runs
-same_runs_again runs placed = runs_again (is_mapped (mapped_runs empty runs)) runs 0 0 (2 ^ 26) placed (omega arith) refl (λ p le. ap (is_some {T = ℕ}) (get-mapped_runs runs empty (4096 * p) p (omega arith)) ∙ ap (λ (o : Option ℕ). is_some {T = ℕ} (cond (in_runs runs p) (Some 0) o)) (get-empty nat_cmp (4096 * p)) ∙ told (in_runs runs p))
+same_runs_again runs placed = runs_again (is_mapped (mapped_runs empty runs)) runs 0 0 page_number_end placed (omega arith) refl (λ p le. ap (is_some {T = ℕ}) (get-mapped_runs runs empty (4096 * p) p (omega arith)) ∙ ap (λ (o : Option ℕ). is_some {T = ℕ} (cond (in_runs runs p) (Some 0) o)) (get-empty nat_cmp (4096 * p)) ∙ told (in_runs runs p))
   where
     told : (b : Bool) → is_some {T = ℕ} (cond b (Some 0) None) ≡ b
     told true = refl

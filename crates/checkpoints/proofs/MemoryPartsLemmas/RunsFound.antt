@@ -4,6 +4,7 @@ use Rattle.std.specs.Prelude.{IsSome}
 use Rattle.std.specs.FinMap.{get}
 use Rattle.std.proofs.lemmas.Bool.{eq-eqb, ne_eqb}
 use Rattle.std.proofs.lemmas.List.{append-nil}
+use Rattle.ddc_base.specs.Limits.{page_number_end}
 use Rattle.paged_mem.specs.Memory.{Memory}
 use Rattle.paged_mem.specs.Ram.{IsRun, RunsFrom}
 use Rattle.paged_mem.proofs.Maps.{each_by_maps}
@@ -96,43 +97,43 @@ none_false None h = refl
 none_false (Some x) h = absurd cc
 
 -- a run that a memory finds comes next
-pub run_next : (m : Memory) (page first pages : ℕ) → page ≤ 2 ^ 26 → IsRun m (4096 * page) first pages
-    → runs_from (is_mapped m) page (2 ^ 26 - page) ≡ run_of (first / 4096) pages ∷ runs_from (is_mapped m) (first / 4096 + pages) (2 ^ 26 - (first / 4096 + pages))
+pub run_next : (m : Memory) (page first pages : ℕ) → page ≤ page_number_end → IsRun m (4096 * page) first pages
+    → runs_from (is_mapped m) page (page_number_end - page) ≡ run_of (first / 4096) pages ∷ runs_from (is_mapped m) (first / 4096 + pages) (page_number_end - (first / 4096 + pages))
 run_next m page first pages le run = some pages refl
   where
-    some : (n : ℕ) → pages ≡ n → runs_from (is_mapped m) page (2 ^ 26 - page) ≡ run_of (first / 4096) pages ∷ runs_from (is_mapped m) (first / 4096 + pages) (2 ^ 26 - (first / 4096 + pages))
+    some : (n : ℕ) → pages ≡ n → runs_from (is_mapped m) page (page_number_end - page) ≡ run_of (first / 4096) pages ∷ runs_from (is_mapped m) (first / 4096 + pages) (page_number_end - (first / 4096 + pages))
     some zero is = absurd (omega (arith, run.some))
     some (suc n) is =
         let gap : ℕ = first / 4096 - page in
-        let rest : ℕ = 2 ^ 26 - (first / 4096 + suc n) in
+        let rest : ℕ = page_number_end - (first / 4096 + suc n) in
         let aligned : first % 4096 ≡ 0 = run.aligned in
         let from : page ≤ first / 4096 = omega (arith, run.from) in
-        let low : first / 4096 + suc n ≤ 2 ^ 26 = omega (arith, run.low) in
+        let low : first / 4096 + suc n ≤ page_number_end = omega (arith, run.low) in
         let free : (k : ℕ) → k < gap → is_mapped m (page + k) ≡ false = λ k lt. none_false (get m (4096 * (page + k))) (run.before (4096 * (page + k)) (omega arith) (omega arith)) in
         let all : (k : ℕ) → k < suc n → is_mapped m (first / 4096 + k) ≡ true = λ k lt. some_true (get m (4096 * (first / 4096 + k))) (each_by_maps m first (4096 * pages) run.mapped (4096 * (first / 4096 + k)) (omega arith) (omega arith)) in
         let ends : is_mapped m (first / 4096 + suc n) ≡ false = none_false (get m (4096 * (first / 4096 + suc n))) (ap (get m) (omega arith) ∙ run.next) in
-        same_runs (is_mapped m) page page (2 ^ 26 - page) (gap + (suc n + rest)) refl (omega arith)
+        same_runs (is_mapped m) page page (page_number_end - page) (gap + (suc n + rest)) refl (omega arith)
         ∙ passed (is_mapped m) page gap (suc n + rest) free
         ∙ same_runs (is_mapped m) (page + gap) (first / 4096) (suc n + rest) (suc n + rest) (omega arith) refl
         ∙ in_one (is_mapped m) (first / 4096) n rest all ends
-        ∙ (λ i. run_of (first / 4096) (sym is i) ∷ runs_from (is_mapped m) (first / 4096 + sym is i) (2 ^ 26 - (first / 4096 + sym is i)))
+        ∙ (λ i. run_of (first / 4096) (sym is i) ∷ runs_from (is_mapped m) (first / 4096 + sym is i) (page_number_end - (first / 4096 + sym is i)))
 
-pub run_none : (m : Memory) (page : ℕ) → RunsFrom m (4096 * page) None → runs_from (is_mapped m) page (2 ^ 26 - page) ≡ []
+pub run_none : (m : Memory) (page : ℕ) → RunsFrom m (4096 * page) None → runs_from (is_mapped m) page (page_number_end - page) ≡ []
 unfolding runs_from
 run_none m page free =
-    let none : runs_from (is_mapped m) page ((2 ^ 26 - page) + 0) ≡ runs_from (is_mapped m) (page + (2 ^ 26 - page)) 0 = passed (is_mapped m) page (2 ^ 26 - page) 0 (λ k lt. none_false (get m (4096 * (page + k))) (free (4096 * (page + k)) (omega arith))) in
-    same_runs (is_mapped m) page page (2 ^ 26 - page) ((2 ^ 26 - page) + 0) refl (omega arith) ∙ none
+    let none : runs_from (is_mapped m) page ((page_number_end - page) + 0) ≡ runs_from (is_mapped m) (page + (page_number_end - page)) 0 = passed (is_mapped m) page (page_number_end - page) 0 (λ k lt. none_false (get m (4096 * (page + k))) (free (4096 * (page + k)) (omega arith))) in
+    same_runs (is_mapped m) page page (page_number_end - page) ((page_number_end - page) + 0) refl (omega arith) ∙ none
 
 -- the loop over them
-pub one_more : (m : Memory) (page first pages : ℕ) (found pushed : List Run) (whole : List Run) → page ≤ 2 ^ 26 → IsRun m (4096 * page) first pages → pushed ≡ found ++ run_of (first / 4096) pages ∷ []
-    → found ++ runs_from (is_mapped m) page (2 ^ 26 - page) ≡ whole → pushed ++ runs_from (is_mapped m) (first / 4096 + pages) (2 ^ 26 - (first / 4096 + pages)) ≡ whole
+pub one_more : (m : Memory) (page first pages : ℕ) (found pushed : List Run) (whole : List Run) → page ≤ page_number_end → IsRun m (4096 * page) first pages → pushed ≡ found ++ run_of (first / 4096) pages ∷ []
+    → found ++ runs_from (is_mapped m) page (page_number_end - page) ≡ whole → pushed ++ runs_from (is_mapped m) (first / 4096 + pages) (page_number_end - (first / 4096 + pages)) ≡ whole
 one_more m page first pages found pushed whole le run is so_far =
-    ap (λ (v : List Run). v ++ runs_from (is_mapped m) (first / 4096 + pages) (2 ^ 26 - (first / 4096 + pages))) is
-    ∙ append_assoc found (run_of (first / 4096) pages ∷ []) (runs_from (is_mapped m) (first / 4096 + pages) (2 ^ 26 - (first / 4096 + pages)))
+    ap (λ (v : List Run). v ++ runs_from (is_mapped m) (first / 4096 + pages) (page_number_end - (first / 4096 + pages))) is
+    ∙ append_assoc found (run_of (first / 4096) pages ∷ []) (runs_from (is_mapped m) (first / 4096 + pages) (page_number_end - (first / 4096 + pages)))
     ∙ ap (λ (v : List Run). found ++ v) (sym (run_next m page first pages le run)) ∙ so_far
 
-pub no_more : (m : Memory) (page : ℕ) (found whole : List Run) → RunsFrom m (4096 * page) None → found ++ runs_from (is_mapped m) page (2 ^ 26 - page) ≡ whole → found ≡ whole
+pub no_more : (m : Memory) (page : ℕ) (found whole : List Run) → RunsFrom m (4096 * page) None → found ++ runs_from (is_mapped m) page (page_number_end - page) ≡ whole → found ≡ whole
 no_more m page found whole none so_far = sym (append-nil found) ∙ ap (λ (v : List Run). found ++ v) (sym (run_none m page none)) ∙ so_far
 
-pub run_low : (m : Memory) (page first pages : ℕ) → IsRun m (4096 * page) first pages → first / 4096 + pages ≤ 2 ^ 26
+pub run_low : (m : Memory) (page first pages : ℕ) → IsRun m (4096 * page) first pages → first / 4096 + pages ≤ page_number_end
 run_low m page first pages run = omega (arith, run.low)

@@ -1,6 +1,7 @@
 -- The runs and the pages of a memory, in order: what a text of a state lists.
-use Rattle.std.specs.Prelude.{◌≡◌, ◌<◌, length, ℕ, zero, suc, ◌+◌, ◌*◌, ◌^◌, ◌≤◌, Bool, true, ◌==◌, Option, None, Some, List, [], ◌∷◌, ◌++◌, if◌then◌else◌}
+use Rattle.std.specs.Prelude.{◌≡◌, ◌<◌, length, ℕ, zero, suc, ◌+◌, ◌*◌, ◌≤◌, Bool, true, ◌==◌, Option, None, Some, List, [], ◌∷◌, ◌++◌, if◌then◌else◌}
 use Rattle.std.specs.FinMap.{contains_key}
+use Rattle.ddc_base.specs.Limits.{page_number_end}
 use Rattle.paged_mem.specs.Memory.{Memory, bytes_at, with_bytes, zeros}
 use Rattle.save_format.specs.declared.state_text.parts.Run.{Run}
 use Rattle.save_format.specs.StateText.StateText.{PageText, is_page, after_run, after_page}
@@ -31,10 +32,10 @@ page_texts_from m page zero = []
 page_texts_from m page (suc count) = listed_page page (bytes_at m (4096 * page) 4096) ++ page_texts_from m (page + 1) count
 
 abbrev pub runs_of : Memory → List Run
-runs_of m = runs_from (is_mapped m) 0 (2 ^ 26)
+runs_of m = runs_from (is_mapped m) 0 page_number_end
 
 abbrev pub pages_of : Memory → List PageText
-pages_of m = page_texts_from m 0 (2 ^ 26)
+pages_of m = page_texts_from m 0 page_number_end
 
 -- ---- the memory of runs and pages
 
@@ -52,7 +53,7 @@ with_pages m (page ∷ pages) = with_bytes (with_pages m pages) (4096 * page.num
 pub record IsNextRun (least : ℕ) (run : Run) : Type 0 where
   pub from : least ≤ run.first
   pub some : 1 ≤ run.pages
-  pub low : run.first + run.pages ≤ 2 ^ 26
+  pub low : run.first + run.pages ≤ page_number_end
 
 abbrev pub ArePlaced : ℕ → List Run → Type 0
 ArePlaced least runs = InTurn IsNextRun after_run least runs
@@ -60,7 +61,7 @@ ArePlaced least runs = InTurn IsNextRun after_run least runs
 -- a whole page after the earlier ones, not all zero
 pub record IsShown (least : ℕ) (page : PageText) : Type 0 where
   pub from : least ≤ page.number
-  pub low : page.number < 2 ^ 26
+  pub low : page.number < page_number_end
   pub full : length page.bytes ≡ 4096
   pub some : is_page page.bytes ≡ true
 

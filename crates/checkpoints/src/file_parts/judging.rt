@@ -3,19 +3,15 @@
 ghost use Rattle.std.specs.Prelude.{◌≡◌, ◌+◌, ◌-◌, ◌≤◌, ◌==◌, ℕ, List, SomeIff, nat_le, map, length, sum_by, count_by, is_some};
 ghost use Rattle.std.specs.List.{list_all, list_any};
 ghost use Rattle.std.specs.Option.{option_copied};
-ghost use Rattle.mem_files.specs.Limits.{most_content, most_names, most_total};
+ghost use Rattle.ddc_base.specs.Limits.{most_content, most_names, most_total};
 ghost use Rattle.mem_files.specs.Lists.{listed, is_listed, is_used};
 ghost use Rattle.mem_files.specs.World.{is_of};
 ghost use Rattle.checkpoints.specs.FileParts.Inside.Judged.{content_size, stream_size, is_good_name, is_good_file, is_good_open_file, is_called, is_taken, have_own_names, in_range, are_joined};
 ghost use Rattle.checkpoints.specs.FileParts.Inside.Views.{view_of};
 ghost use Rattle.std.specs.Borrow.{Bor};
 
-use mem_files::{
-    FileView, MAX_CONTENT, MAX_NAMES, MAX_OPEN_FILES, MAX_TOTAL, OpenFile, is_stripped_name,
-};
-
-/// File numbers are below this: each file has a name or a descriptor, and this is the most of both together.
-const MAX_FILES: u32 = 5_120;
+use ddc_base::limits::{FILE_NUMBER_END, MOST_CONTENT, MOST_DESCRIPTORS, MOST_NAMES, MOST_TOTAL};
+use mem_files::{FileView, OpenFile, is_stripped_name};
 
 /// Whether a file may have this name, or no name.
 fn is_good_name(name: Option<&[u8]>) -> bool
@@ -30,7 +26,9 @@ fn is_good_name(name: Option<&[u8]>) -> bool
 fn is_good_file(file: &FileView<'_>) -> bool
     ensures { result ≡ is_good_file (listed file.now) }
 {
-    file.number < MAX_FILES && is_good_name(file.name) && file.content.len() as u64 <= MAX_CONTENT
+    file.number < FILE_NUMBER_END
+        && is_good_name(file.name)
+        && file.content.len() as u64 <= MOST_CONTENT
 }
 
 fn are_good_files(files: &[FileView<'_>]) -> bool
@@ -42,7 +40,7 @@ fn are_good_files(files: &[FileView<'_>]) -> bool
 fn is_good_open_file(fd: u32, open_file: OpenFile) -> bool
     ensures { result ≡ is_good_open_file (fd, open_file) }
 {
-    if fd as usize >= MAX_OPEN_FILES {
+    if fd as usize >= MOST_DESCRIPTORS {
         return false;
     }
     match open_file {
@@ -66,7 +64,7 @@ fn are_good_streams(streams: &[&[u8]]) -> bool
 {
     streams
         .iter()
-        .all(|stream| stream.len() as u64 <= MAX_CONTENT)
+        .all(|stream| stream.len() as u64 <= MOST_CONTENT)
 }
 
 /// Whether the number of names is within its limit.
@@ -74,44 +72,44 @@ fn are_few_names(files: &[FileView<'_>]) -> bool
     ensures { result ≡ nat_le (count_by (λ file. is_some file.name) files.now) most_names }
 {
     let names = files.iter().filter(|file| file.name.is_some()).count();
-    names <= MAX_NAMES
+    names <= MOST_NAMES
 }
 
 /// What is left of `most` bytes after all contents; `None` if they have more.
-fn left_after_files(files: &[FileView<'_>], most: u64) -> Option<u64>
+fn remaining_after_files(files: &[FileView<'_>], most: u64) -> Option<u64>
     ensures { SomeIff result (sum_by content_size files.now ≤ most) (most - sum_by content_size files.now) }
 {
-    let mut left = most;
+    let mut remaining = most;
     for file in files {
         let len = file.content.len() as u64;
-        if len > left {
+        if len > remaining {
             return None;
         }
-        left -= len;
+        remaining -= len;
     }
-    Some(left)
+    Some(remaining)
 }
 
-fn left_after_streams(streams: &[&[u8]], most: u64) -> Option<u64>
+fn remaining_after_streams(streams: &[&[u8]], most: u64) -> Option<u64>
     ensures { SomeIff result (sum_by stream_size streams.now ≤ most) (most - sum_by stream_size streams.now) }
 {
-    let mut left = most;
+    let mut remaining = most;
     for stream in streams {
         let len = stream.len() as u64;
-        if len > left {
+        if len > remaining {
             return None;
         }
-        left -= len;
+        remaining -= len;
     }
-    Some(left)
+    Some(remaining)
 }
 
 /// Whether all bytes together are within their limit.
 fn is_small(files: &[FileView<'_>], streams: &[&[u8]]) -> bool
     ensures { result ≡ nat_le (sum_by stream_size streams.now + sum_by content_size files.now) most_total }
 {
-    match left_after_streams(streams, MAX_TOTAL) {
-        Some(left) => left_after_files(files, left).is_some(),
+    match remaining_after_streams(streams, MOST_TOTAL) {
+        Some(remaining) => remaining_after_files(files, remaining).is_some(),
         None => false,
     }
 }
@@ -147,12 +145,12 @@ fn has_name(name: &[u8], files: &[FileView<'_>]) -> bool
 fn have_own_names(files: &[FileView<'_>]) -> bool
     ensures { result ≡ have_own_names (map listed files.now) }
 {
-    let mut left = files;
-    while let [file, rest @ ..] = left {
+    let mut remaining = files;
+    while let [file, rest @ ..] = remaining {
         if is_taken(file.name, rest) {
             return false;
         }
-        left = rest;
+        remaining = rest;
     }
     true
 }

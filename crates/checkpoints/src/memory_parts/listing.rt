@@ -1,7 +1,8 @@
 //! The runs and pages of a memory.
 
-ghost use Rattle.std.specs.Prelude.{◌≡◌, ◌≤◌, ◌+◌, ◌*◌, ◌^◌, ◌==◌, ◌++◌, ◌∷◌, [], map, IfOk, OnOk, MatchOption};
+ghost use Rattle.std.specs.Prelude.{◌≡◌, ◌≤◌, ◌+◌, ◌*◌, ◌==◌, ◌++◌, ◌∷◌, [], map, IfOk, OnOk, MatchOption};
 ghost use Rattle.std.specs.List.{list_all};
+ghost use Rattle.ddc_base.specs.Limits.{page_number_end};
 ghost use Rattle.paged_mem.specs.Memory.{bytes_at};
 ghost use Rattle.save_format.specs.StateText.Seen.{page_view};
 ghost use Rattle.checkpoints.specs.MemoryParts.Canonical.{runs_of, listed_page, page_texts_from, pages_of};
@@ -47,7 +48,7 @@ fn push_pages<'a, R: Ram>(
     count: u64,
     found: &mut Vec<Page<'a>>,
 ) -> Result<(), OutOfMemory>
-    requires { first + count ≤ 2 ^ 26 }
+    requires { first + count ≤ page_number_end }
     ensures { OnOk result (map page_view found.new.items ≡ map page_view found.old.items ++ page_texts_from (R.bytes ram.now) first count) }
 {
     for i in 0..count {

@@ -1,5 +1,6 @@
 -- What one check of the loader passes to the next.
-use Rattle.std.specs.Prelude.{◌≡◌, ◌≤◌, ℕ, ◌+◌, ◌*◌, ◌^◌, List, length, Some, None, Result, MatchResult}
+use Rattle.std.specs.Prelude.{◌≡◌, ◌≤◌, ℕ, ◌+◌, ◌*◌, List, length, Some, None, Result, MatchResult}
+use Rattle.ddc_base.specs.Limits.{most_address}
 use Rattle.elf_load.specs.declared.Segment.{Segment}
 use Rattle.elf_load.specs.declared.refusal.ElfRefusal.{ElfRefusal}
 use Rattle.elf_load.specs.Fields.{e_phoff, e_phnum}
@@ -18,4 +19,4 @@ Judges list answer =
 
 -- the segment ends at most at 2^37
 abbrev pub IsLow : Segment → Type 0
-IsLow segment = segment_end segment ≤ 2 ^ 37
+IsLow segment = segment_end segment ≤ most_address

@@ -1,7 +1,7 @@
 -- The files of an execution context as a list.
 use Rattle.std.specs.Prelude.{◌≡◌, ℕ, ◌*◌, ◌≤◌, IsTrue, List, length, All, sum_by}
 use Rattle.std.specs.FinMap as map
-use Rattle.mem_files.specs.Limits.{most_content, most_names}
+use Rattle.ddc_base.specs.Limits.{most_content, most_names}
 use Rattle.mem_files.specs.Names.{bytes_cmp}
 use Rattle.guest_run.specs.Setting.{file_size, IsBoxFile}
 

@@ -9,6 +9,7 @@ use Rattle.std.proofs.Common.{◌⊎◌, inl, inr, nat_lt}
 use Rattle.std.proofs.Common.{Some, None, option_map, OnErr, OnOk, Result, Ok, Err}
 use Rattle.std.specs.List.{AllByRecursion, slice_get}
 use Rattle.std.proofs.lemmas.Option.{get_or_from_slice_get, slice_get-get_or, slice_get-map, slice_get_past}
+use Rattle.ddc_base.specs.Limits.{most_items}
 use Rattle.hex_langs.specs.declared.items.item.Item.{Item}
 use Rattle.hex_langs.specs.declared.items.item.Item.TheVariants.{Abs, Byte, Gap, Label, Pad, Rel, Word}
 use Rattle.hex_langs.specs.Items.Labels.{label_in, label_names}
@@ -87,8 +88,8 @@ pushed-bytes codes others (byte ∷ bytes) small =
     ∙ ap (λ (l : List Item). l ++ map Byte bytes) (pushed-byte codes others byte small.0)
     ∙ append_assoc (items_of codes others) (Byte byte ∷ []) (map Byte bytes)
 
-pub packed-byte : (codes : List ℕ) (others : List Item) (byte : ℕ) → byte < 256 → length codes < 33554432 → ArePacked codes others → ArePacked (codes ++ byte ∷ []) others
-packed-byte codes others byte small room packed = record {
+pub packed-byte : (codes : List ℕ) (others : List Item) (byte : ℕ) → byte < 256 → length codes < most_items → ArePacked codes others → ArePacked (codes ++ byte ∷ []) others
+packed-byte codes others byte small capacity packed = record {
   labels = packed.labels
       ∙ sym (ap label_names (pushed-byte codes others byte small) ∙ labels-append (items_of codes others) (Byte byte ∷ []) ∙ append-nil (label_names (items_of codes others)));
   few = omega (arith, length-append codes (byte ∷ []));
@@ -97,18 +98,18 @@ packed-byte codes others byte small room packed = record {
 }
 
 packed-bytes : (codes : List ℕ) (others : List Item) (bytes : List ℕ) → AllByRecursion (λ byte. byte < 256) bytes
-    → length codes + length bytes ≤ 33554432 → ArePacked codes others → ArePacked (codes ++ bytes) others
-packed-bytes codes others [] small room packed = subst (λ (l : List ℕ). ArePacked l others) (sym (append-nil codes)) packed
-packed-bytes codes others (byte ∷ bytes) small room packed =
+    → length codes + length bytes ≤ most_items → ArePacked codes others → ArePacked (codes ++ bytes) others
+packed-bytes codes others [] small capacity packed = subst (λ (l : List ℕ). ArePacked l others) (sym (append-nil codes)) packed
+packed-bytes codes others (byte ∷ bytes) small capacity packed =
     subst (λ (l : List ℕ). ArePacked l others) (append_assoc codes (byte ∷ []) bytes)
     (packed-bytes (codes ++ byte ∷ []) others bytes small.1 (omega (arith, length-append codes (byte ∷ []))) (packed-byte codes others byte small.0 (omega arith) packed))
 
 -- four bytes more, or none
 pub bytes-packed : {E : Type 0} (result : Result (Unit {0}) E) (old new : List ℕ) (others : List Item) (bytes : List ℕ) → OnOk result (new ≡ old ++ bytes)
-    → OnErr result (new ≡ old) → AllByRecursion (λ byte. byte < 256) bytes → length old + length bytes ≤ 33554432 → ArePacked old others → ArePacked new others
-bytes-packed (Ok done) old new others bytes more same small room packed =
-    subst (λ (l : List ℕ). ArePacked l others) (sym more) (packed-bytes old others bytes small room packed)
-bytes-packed (Err why) old new others bytes more same small room packed = subst (λ (l : List ℕ). ArePacked l others) (sym same) packed
+    → OnErr result (new ≡ old) → AllByRecursion (λ byte. byte < 256) bytes → length old + length bytes ≤ most_items → ArePacked old others → ArePacked new others
+bytes-packed (Ok done) old new others bytes more same small capacity packed =
+    subst (λ (l : List ℕ). ArePacked l others) (sym more) (packed-bytes old others bytes small capacity packed)
+bytes-packed (Err why) old new others bytes more same small capacity packed = subst (λ (l : List ℕ). ArePacked l others) (sym same) packed
 
 pub bytes-pushed : {E : Type 0} (result : Result (Unit {0}) E) (old new : List ℕ) (others : List Item) (bytes : List ℕ) → OnOk result (new ≡ old ++ bytes)
     → AllByRecursion (λ byte. byte < 256) bytes → OnOk result (items_of new others ≡ items_of old others ++ map Byte bytes)
@@ -119,15 +120,15 @@ bytes-pushed (Err why) old new others bytes more small = tt
 pub pushed-other : (codes : List ℕ) (others : List Item) (it : Item) → ArePacked codes others
     → items_of (codes ++ (256 + length others) ∷ []) (others ++ it ∷ []) ≡ items_of codes others ++ it ∷ []
 pushed-other codes others it packed =
-    let place : 256 + length others - 256 ≡ length others = omega arith in
+    let size : 256 + length others - 256 ≡ length others = omega arith in
     items-append codes (256 + length others) (others ++ it ∷ [])
     ∙ ap (λ (l : List Item). l ++ item_of (others ++ it ∷ []) (256 + length others) ∷ []) (items-more codes others it packed.known)
     ∙ ap (λ (i : Item). items_of codes others ++ i ∷ [])
-    (item_of-other (others ++ it ∷ []) (256 + length others) (omega arith) ∙ ap (λ (n : ℕ). get_or (others ++ it ∷ []) n Pad) place ∙ get_or-append_seam others it [] Pad)
+    (item_of-other (others ++ it ∷ []) (256 + length others) (omega arith) ∙ ap (λ (n : ℕ). get_or (others ++ it ∷ []) n Pad) size ∙ get_or-append_seam others it [] Pad)
 
-pub packed-other : (codes : List ℕ) (others : List Item) (it : Item) → length codes < 33554432 → ArePacked codes others
+pub packed-other : (codes : List ℕ) (others : List Item) (it : Item) → length codes < most_items → ArePacked codes others
     → ArePacked (codes ++ (256 + length others) ∷ []) (others ++ it ∷ [])
-packed-other codes others it room packed = record {
+packed-other codes others it capacity packed = record {
   labels = labels-append others (it ∷ []) ∙ ap (λ (l : List (List ℕ)). l ++ label_names (it ∷ [])) packed.labels
       ∙ sym (ap label_names (pushed-other codes others it packed) ∙ labels-append (items_of codes others) (it ∷ []));
   few = omega (arith, length-append codes ((256 + length others) ∷ []));

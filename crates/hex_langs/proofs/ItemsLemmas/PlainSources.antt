@@ -4,6 +4,7 @@ use Rattle.std.specs.List.{cons_option, list_all, onto_first}
 use Rattle.std.proofs.lemmas.Bool.Decides.{nat_tests}
 use Rattle.std.proofs.lemmas.List.{append-nil}
 use Rattle.std.proofs.lemmas.List.Splits.{slice_split-cons_no}
+use Rattle.ddc_base.specs.Limits.{most_items, most_source}
 use Rattle.hex.specs.Hex.{hex_digit_value, is_hex_digit}
 use Rattle.hex_langs.specs.declared.items.item.Item.{Item}
 use Rattle.hex_langs.specs.declared.items.item.Item.TheVariants as item
@@ -12,7 +13,7 @@ use Rattle.hex_langs.specs.declared.items.token.TokenFault.{TokenFault}
 use Rattle.hex_langs.specs.declared.items.token.Token.TheVariants.{Byte}
 use Rattle.hex_langs.specs.Hex0.{begins_comment, digits_of, HasEvenDigits, hex0_of, line_feed, lines_of, pairs}
 use Rattle.hex_langs.specs.Items.Plain.{is_plain, is_plain_line}
-use Rattle.hex_langs.specs.Items.Reading.{Formed, formed, items_of, reading, Whole, with_front}
+use Rattle.hex_langs.specs.Items.Reading.{Formed, formed, items_of, reading, Whole, with_prefix}
 use Rattle.hex_langs.specs.Items.Tokens.{gap_from, gap_length, is_blank, low_digit, opens_gap, pair_at, token_at}
 use Rattle.hex_langs.proofs.ItemsLemmas.Gaps.{gap_from-blank, gap_from-comment, gap_from-other, gap_from-sign}
 use Rattle.hex_langs.proofs.Hex0Lemmas.{ahead, ahead-code, ahead-comment, ahead-in_comment, ahead-line_feed, before_first-no, before_first-yes, digit-is_code, drop_onto}
@@ -188,7 +189,7 @@ both-digit dialect byte value remaining digit both =
           let read = reading-token dialect at byte remaining (Byte (16 * value + found.low)) (gap_length remaining + 1) opens (token-pair dialect byte value remaining found.low digit (here-by remaining found.low found.here)) in
           ap (λ (n : ℕ). formed None (reading dialect at 0 (drop n (byte ∷ remaining)))) size
           ∙ ap (formed None) read
-          ∙ ap (with_front (item.Byte (16 * value + found.low) ∷ [])) (later-by dialect remaining found.rest found.later (at + 1 + (gap_length remaining + 1)))
+          ∙ ap (with_prefix (item.Byte (16 * value + found.low) ∷ [])) (later-by dialect remaining found.rest found.later (at + 1 + (gap_length remaining + 1)))
           ∙ sym (ap (λ (l : List ℕ). bytes_alone (pairs l)) (digits ∙ ap (λ (l : List ℕ). value ∷ l) found.digits)),
       λ is odd. record {
         low = value;
@@ -297,11 +298,11 @@ unfolding hex0_of
 whole-source dialect source plain even =
     ap (formed None) (appended-gap dialect 0 source) ∙ even-by dialect source ((both dialect false source).0 plain even) (0 + gap_length source)
 
-value-few : (source : List ℕ) → length source ≤ 67108864 → length (hex0_of source) ≤ 33554432
+value-few : (source : List ℕ) → length source ≤ most_source → length (hex0_of source) ≤ most_items
 unfolding hex0_of
 value-few source short = omega (arith, pairs-few (digits_of source), ahead-few false source)
 
-pub plain-items : (dialect : Dialect) (source : List ℕ) → length source ≤ 67108864 → IsTrue (is_plain source) → HasEvenDigits source
+pub plain-items : (dialect : Dialect) (source : List ℕ) → length source ≤ most_source → IsTrue (is_plain source) → HasEvenDigits source
     → items_of dialect source ≡ Ok (map item.Byte (hex0_of source))
 plain-items dialect source short plain even =
     items_of-judged dialect source short

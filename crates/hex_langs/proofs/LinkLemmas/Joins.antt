@@ -20,27 +20,27 @@ four-size : (in_reach : Result ℕ Miss) (bytes : List ℕ) → four in_reach �
 four-size (Ok n) bytes is = let same : to_le_bytes w32 n ≡ bytes = cc in sym (ap length same)
 four-size (Err miss) bytes is = absurd (cc)
 
-pub bytes-size : (labels : Labels) (place : ℕ) (it : Item) (bytes : List ℕ) → item_bytes labels place it ≡ Ok bytes → length bytes ≡ size_at place it
-bytes-size labels place (Byte byte) bytes is = let same : byte ∷ [] ≡ bytes = cc in sym (ap length same)
-bytes-size labels place (Label name) bytes is = let same : [] ≡ bytes = cc in sym (ap length same)
-bytes-size labels place Pad bytes is = let same : replicate (pad_size place) 0 ≡ bytes = cc in sym (ap length same) ∙ length-replicate {A = ℕ} (pad_size place) 0
-bytes-size labels place (Word value kind name) bytes is = four-size _ bytes is
-bytes-size labels place (Rel name) bytes is = four-size _ bytes is
-bytes-size labels place (Gap name other) bytes is = four-size _ bytes is
-bytes-size labels place (Abs name) bytes is = four-size _ bytes is
+pub bytes-size : (labels : Labels) (address : ℕ) (it : Item) (bytes : List ℕ) → item_bytes labels address it ≡ Ok bytes → length bytes ≡ size_at address it
+bytes-size labels address (Byte byte) bytes is = let same : byte ∷ [] ≡ bytes = cc in sym (ap length same)
+bytes-size labels address (Label name) bytes is = let same : [] ≡ bytes = cc in sym (ap length same)
+bytes-size labels address Pad bytes is = let same : replicate (pad_size address) 0 ≡ bytes = cc in sym (ap length same) ∙ length-replicate {A = ℕ} (pad_size address) 0
+bytes-size labels address (Word value kind name) bytes is = four-size _ bytes is
+bytes-size labels address (Rel name) bytes is = four-size _ bytes is
+bytes-size labels address (Gap name other) bytes is = four-size _ bytes is
+bytes-size labels address (Abs name) bytes is = four-size _ bytes is
 
-onto-twice : (front more : List ℕ) (later : Result (List ℕ) HexRefusal) → onto front (onto more later) ≡ onto (front ++ more) later
-onto-twice front more (Ok bytes) = ap Ok (sym (append_assoc front more bytes))
-onto-twice front more (Err why) = refl
+onto-twice : (prefix more : List ℕ) (later : Result (List ℕ) HexRefusal) → onto prefix (onto more later) ≡ onto (prefix ++ more) later
+onto-twice prefix more (Ok bytes) = ap Ok (sym (append_assoc prefix more bytes))
+onto-twice prefix more (Err why) = refl
 
-pub size-small : (place : ℕ) (it : Item) → size_at place it ≤ 4
-size-small place (Byte byte) = omega arith
-size-small place (Label name) = omega arith
-size-small place Pad = omega arith
-size-small place (Word value kind name) = omega arith
-size-small place (Rel name) = omega arith
-size-small place (Gap name other) = omega arith
-size-small place (Abs name) = omega arith
+pub size-small : (address : ℕ) (it : Item) → size_at address it ≤ 4
+size-small address (Byte byte) = omega arith
+size-small address (Label name) = omega arith
+size-small address Pad = omega arith
+size-small address (Word value kind name) = omega arith
+size-small address (Rel name) = omega arith
+size-small address (Gap name other) = omega arith
+size-small address (Abs name) = omega arith
 
 -- the whole, one item on
 pub joined-more : (labels : Labels) (base index : ℕ) (it : Item) (remaining : List Item) (old new : List ℕ) (whole : Result (List ℕ) HexRefusal)

@@ -5,6 +5,7 @@ use Rattle.std.proofs.lemmas.Cmp.{nat_list_eq_equiv}
 use Rattle.std.specs.Map.{lookup}
 use Rattle.std.specs.Prelude.{bytes_eq}
 use Rattle.std.specs.List.{list_any}
+use Rattle.ddc_base.specs.Limits.{most_address, most_items}
 use Rattle.hex_langs.specs.declared.items.item.Item.{Item}
 use Rattle.hex_langs.specs.declared.items.item.Item.TheVariants as item
 use Rattle.hex_langs.specs.Link.Link.{address_of, defines, first_repeat, size_at}
@@ -123,7 +124,7 @@ more E (item.Abs name) items remaining base old new index address is adds = subs
 more E item.Pad items remaining base old new index address is adds = subst (λ (t : LabelMap). IsTableOf items base t (index + 1) (address + size_at address item.Pad) remaining) (sym adds.1) (record { once = is.once; found = is.found })
 
 -- the table after all items
-pub tabled : (items : List Item) (base : ℕ) (table : LabelMap) (index address : ℕ) → base ≤ 2 ^ 37 → length items ≤ 33554432
+pub tabled : (items : List Item) (base : ℕ) (table : LabelMap) (index address : ℕ) → base ≤ most_address → length items ≤ most_items
     → IsTableOf items base table index address [] → Tables (Ok table) items base
 tabled items base table index address low few is =
     let found : (name : List ℕ) → address_in table name ≡ address_of base items name

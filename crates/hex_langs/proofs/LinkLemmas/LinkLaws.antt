@@ -2,6 +2,7 @@
 use Rattle.std.proofs.Common.{◌≡◌, ℕ, ◌+◌, ◌≤◌, Bool, true, false, cond, List, [], ◌∷◌, ◌++◌, length, map, length-append, Option, Some, None, Result, Ok, Err, IsTrue, refl, sym, ap, ◌∙◌, arith}
 use Rattle.std.specs.List.{list_all, list_any}
 use Rattle.std.proofs.lemmas.Slice.Eq.{bytes_eq-Decides}
+use Rattle.ddc_base.specs.Limits.{most_source}
 use Rattle.hex_langs.specs.declared.items.item.Item.{Item}
 use Rattle.hex_langs.specs.declared.items.item.Item.TheVariants.{Byte, Label, Word, Rel, Gap, Abs, Pad}
 use Rattle.hex_langs.specs.declared.items.reader.HexRefusal.{HexRefusal}
@@ -21,18 +22,18 @@ use Rattle.hex_langs.proofs.LinkLemmas.Joins.{bytes-size}
 
 -- ---- bases
 
-joined-fixed : (labels others : Labels) (address place index : ℕ) (items : List Item) → IsTrue (list_all is_fixed items)
-    → bytes_from labels address index items ≡ bytes_from others place index items
-joined-fixed labels others address place index [] fixed = refl
-joined-fixed labels others address place index (Byte byte ∷ items) fixed =
-    ap (onto (byte ∷ [])) (joined-fixed labels others (address + 1) (place + 1) (index + 1) items fixed)
-joined-fixed labels others address place index (Label name ∷ items) fixed =
-    ap (onto []) (joined-fixed labels others (address + 0) (place + 0) (index + 1) items fixed)
-joined-fixed labels others address place index (Word value kind name ∷ items) fixed = absurd (cc)
-joined-fixed labels others address place index (Rel name ∷ items) fixed = absurd (cc)
-joined-fixed labels others address place index (Gap name other ∷ items) fixed = absurd (cc)
-joined-fixed labels others address place index (Abs name ∷ items) fixed = absurd (cc)
-joined-fixed labels others address place index (Pad ∷ items) fixed = absurd (cc)
+joined-fixed : (labels others : Labels) (address elsewhere index : ℕ) (items : List Item) → IsTrue (list_all is_fixed items)
+    → bytes_from labels address index items ≡ bytes_from others elsewhere index items
+joined-fixed labels others address elsewhere index [] fixed = refl
+joined-fixed labels others address elsewhere index (Byte byte ∷ items) fixed =
+    ap (onto (byte ∷ [])) (joined-fixed labels others (address + 1) (elsewhere + 1) (index + 1) items fixed)
+joined-fixed labels others address elsewhere index (Label name ∷ items) fixed =
+    ap (onto []) (joined-fixed labels others (address + 0) (elsewhere + 0) (index + 1) items fixed)
+joined-fixed labels others address elsewhere index (Word value kind name ∷ items) fixed = absurd (cc)
+joined-fixed labels others address elsewhere index (Rel name ∷ items) fixed = absurd (cc)
+joined-fixed labels others address elsewhere index (Gap name other ∷ items) fixed = absurd (cc)
+joined-fixed labels others address elsewhere index (Abs name ∷ items) fixed = absurd (cc)
+joined-fixed labels others address elsewhere index (Pad ∷ items) fixed = absurd (cc)
 
 pub same-at-every-base : (items : List Item) → IsTrue (list_all is_fixed items) → (base other : ℕ) → link_of items base ≡ link_of items other
 unfolding link_of
@@ -41,25 +42,25 @@ same-at-every-base items fixed base other =
 
 -- ---- sizes
 
-onto-ok : (front bytes : List ℕ) (later : Result (List ℕ) HexRefusal) → onto front later ≡ Ok bytes
-    → (rest : List ℕ) × (later ≡ Ok rest) × (bytes ≡ front ++ rest)
-onto-ok front bytes (Ok rest) is = (rest, refl, let same : front ++ rest ≡ bytes = cc in sym same)
-onto-ok front bytes (Err why) is = absurd (cc)
+onto-ok : (prefix bytes : List ℕ) (later : Result (List ℕ) HexRefusal) → onto prefix later ≡ Ok bytes
+    → (rest : List ℕ) × (later ≡ Ok rest) × (bytes ≡ prefix ++ rest)
+onto-ok prefix bytes (Ok rest) is = (rest, refl, let same : prefix ++ rest ≡ bytes = cc in sym same)
+onto-ok prefix bytes (Err why) is = absurd (cc)
 
 appended-ok : (bytes : List ℕ) (own : Result (List ℕ) Miss) (index : ℕ) (later : Result (List ℕ) HexRefusal) → appended own index later ≡ Ok bytes
-    → (front : List ℕ) × (own ≡ Ok front) × (onto front later ≡ Ok bytes)
-appended-ok bytes (Ok front) index later is = (front, refl, is)
+    → (prefix : List ℕ) × (own ≡ Ok prefix) × (onto prefix later ≡ Ok bytes)
+appended-ok bytes (Ok prefix) index later is = (prefix, refl, is)
 appended-ok bytes (Err miss) index later is = absurd (cc)
 
 joined-size : (labels : Labels) (address index : ℕ) (items : List Item) (bytes : List ℕ) → bytes_from labels address index items ≡ Ok bytes
     → address + length bytes ≡ address_after address items
 joined-size labels address index [] bytes is = let same : [] ≡ bytes = cc in omega (arith, ap length same)
 joined-size labels address index (it ∷ items) bytes is =
-    let front = appended-ok bytes (item_bytes labels address it) index (bytes_from labels (address + size_at address it) (index + 1) items) is in
-    let rest = onto-ok front.0 bytes (bytes_from labels (address + size_at address it) (index + 1) items) front.2 in
-    let own = bytes-size labels address it front.0 front.1 in
+    let prefix = appended-ok bytes (item_bytes labels address it) index (bytes_from labels (address + size_at address it) (index + 1) items) is in
+    let rest = onto-ok prefix.0 bytes (bytes_from labels (address + size_at address it) (index + 1) items) prefix.2 in
+    let own = bytes-size labels address it prefix.0 prefix.1 in
     let later = joined-size labels (address + size_at address it) (index + 1) items rest.0 rest.1 in
-    omega (arith, own, later, ap length rest.2, length-append front.0 rest.0)
+    omega (arith, own, later, ap length rest.2, length-append prefix.0 rest.0)
 
 unless-ok : (repeat : Option ℕ) (later : Result (List ℕ) HexRefusal) (bytes : List ℕ) → unless_repeat repeat later ≡ Ok bytes → later ≡ Ok bytes
 unless-ok None later bytes is = is
@@ -198,7 +199,7 @@ link-bytes bytes base =
 linked-bytes : (base : ℕ) (items : Result (List Item) HexRefusal) (bytes : List ℕ) → items ≡ Ok (map Byte bytes) → linked base items ≡ Ok bytes
 linked-bytes base items bytes is = ap (linked base) is ∙ link-bytes bytes base
 
-pub plain-values : (language : HexLanguage) (base : ℕ) (source : List ℕ) → length source ≤ 67108864 → IsTrue (is_plain source) → HasEvenDigits source
+pub plain-values : (language : HexLanguage) (base : ℕ) (source : List ℕ) → length source ≤ most_source → IsTrue (is_plain source) → HasEvenDigits source
     → value_of language base source ≡ Ok (hex0_of source)
 plain-values Hex0 base source short plain even = refl
 plain-values Hex1 base source short plain even = linked-bytes base _ (hex0_of source) (plain-items dialect.Hex1 source short plain even)

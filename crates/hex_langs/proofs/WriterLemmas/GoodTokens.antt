@@ -67,9 +67,9 @@ field-good (Some a) (Some b) None d below_a below_b below_c below_d = tt
 field-good (Some a) (Some b) (Some c) None below_a below_b below_c below_d = tt
 field-good (Some a) (Some b) (Some c) (Some d) below_a below_b below_c below_d = omega (arith, below_a, below_b, below_c, below_d)
 
-at-below : (remaining : List ℕ) (place : ℕ) → IsBelow 256 (byte_at remaining place)
-at-below remaining place =
-    byte-below (hex_digit_value (slice_index remaining place)) (hex_digit_value (slice_index remaining (place + 1))) (digit-below (slice_index remaining place)) (digit-below (slice_index remaining (place + 1)))
+at-below : (remaining : List ℕ) (index : ℕ) → IsBelow 256 (byte_at remaining index)
+at-below remaining index =
+    byte-below (hex_digit_value (slice_index remaining index)) (hex_digit_value (slice_index remaining (index + 1))) (digit-below (slice_index remaining index)) (digit-below (slice_index remaining (index + 1)))
 
 field_at-good : (remaining : List ℕ) → IsGoodFound (field_at remaining)
 unfolding field_at
@@ -100,20 +100,20 @@ size-within p (byte ∷ remaining) = by (p byte) (size-within p remaining)
     by true rest = omega arith
     by false rest = omega (arith, rest)
 
-front-some : (size : ℕ) (remaining : List ℕ) → (size == 0) ≡ false → size ≤ length remaining → 0 < length (take size remaining)
-front-some size [] some within = absurd (grind (arith, nat_tests))
-front-some zero (byte ∷ remaining) some within = absurd (cc)
-front-some (suc size) (byte ∷ remaining) some within = omega arith
+prefix-some : (size : ℕ) (remaining : List ℕ) → (size == 0) ≡ false → size ≤ length remaining → 0 < length (take size remaining)
+prefix-some size [] some within = absurd (grind (arith, nat_tests))
+prefix-some zero (byte ∷ remaining) some within = absurd (cc)
+prefix-some (suc size) (byte ∷ remaining) some within = omega arith
 
-front-name : (size : ℕ) (remaining : List ℕ) → size ≡ position_or_len ends_name remaining → (size == 0) ≡ false → IsHexName (take size remaining)
-front-name size remaining is some = record {
-  some = front-some size remaining some (omega (arith, is, size-within ends_name remaining));
+prefix-name : (size : ℕ) (remaining : List ℕ) → size ≡ position_or_len ends_name remaining → (size == 0) ≡ false → IsHexName (take size remaining)
+prefix-name size remaining is some = record {
+  some = prefix-some size remaining some (omega (arith, is, size-within ends_name remaining));
   whole = ap (λ (n : ℕ). list_any ends_name (take n remaining)) is ∙ no-blank ends_name remaining;
 }
 
 name-good : (remaining : List ℕ) → (name_length Hex2 remaining == 0) ≡ false → IsHexName (take (name_length Hex2 remaining) remaining)
 unfolding name_length
-name-good remaining some = front-name (position_or_len ends_name remaining) remaining refl some
+name-good remaining some = prefix-name (position_or_len ends_name remaining) remaining refl some
 
 named-good : (make : List ℕ → Token) (remaining : List ℕ) → ((name : List ℕ) → IsHexName name → IsGood (make name)) → IsGoodFound (named_by make (name_length Hex2 remaining) remaining)
 named-good make remaining good = by (name_length Hex2 remaining == 0) refl

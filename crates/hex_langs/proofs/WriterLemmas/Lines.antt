@@ -18,7 +18,7 @@ use Rattle.hex_langs.specs.declared.items.token.Token.{Token}
 use Rattle.hex_langs.specs.declared.items.token.Token.TheVariants.{Byte, Reference, Alone}
 use Rattle.hex_langs.specs.Items.Tokens.{ends_name, gap_from, gap_length, is_blank, name_length, named_by, opens_gap, pair_at, token_at}
 use Rattle.hex_langs.specs.Hex0.{begins_comment}
-use Rattle.hex_langs.specs.Items.Reading.{formed, Reading, reading, Then, with_front}
+use Rattle.hex_langs.specs.Items.Reading.{formed, Reading, reading, Then, with_prefix}
 use Rattle.hex_langs.proofs.ItemsLemmas.Readings.{gap_length-some, reading-token}
 use Rattle.std.specs.Prelude.{◌^◌}
 use Rattle.std.specs.Int.{w32, from_le_bytes, to_le_bytes}
@@ -169,7 +169,7 @@ gap-token name other remaining is also =
 -- one line is one item, and the reading goes on after it
 abbrev pub ReadsLine : Item → Type 0
 ReadsLine it = (at : ℕ) (rest : List ℕ) → (next : ℕ)
-    × (formed None (reading Hex2 at 0 (item_line it ++ rest)) ≡ with_front (it ∷ []) (formed None (reading Hex2 next 0 rest)))
+    × (formed None (reading Hex2 at 0 (item_line it ++ rest)) ≡ with_prefix (it ∷ []) (formed None (reading Hex2 next 0 rest)))
 
 sign-code : (kind : Kind) → opens_gap (kind_sign kind) ≡ false
 sign-code I = refl
@@ -182,7 +182,7 @@ unfolding encode_with
 line-byte byte small at rest = (
   at + 2 + 1,
   ap (formed None) (reads-byte at byte (10 ∷ rest) small)
-      ∙ ap (λ (r : Reading TokenFault). with_front (item.Byte byte ∷ []) (formed None r)) (line_feed (at + 2) rest),
+      ∙ ap (λ (r : Reading TokenFault). with_prefix (item.Byte byte ∷ []) (formed None r)) (line_feed (at + 2) rest),
 )
 
 pub line-label : (name : List ℕ) → IsHexName name → ReadsLine (item.Label name)
@@ -190,7 +190,7 @@ line-label name is at rest = (
   at + 1 + length name + 1,
   ap (λ (l : List ℕ). formed None (reading Hex2 at 0 (58 ∷ l))) (append_assoc name (10 ∷ []) rest)
       ∙ ap (formed None) (reads-named at 58 (λ n. Alone (item.Label n)) name rest 10 is refl refl (label-token (name ++ 10 ∷ rest)))
-      ∙ ap (λ (r : Reading TokenFault). with_front (item.Label name ∷ []) (formed None r)) (line_feed (at + 1 + length name) rest),
+      ∙ ap (λ (r : Reading TokenFault). with_prefix (item.Label name ∷ []) (formed None r)) (line_feed (at + 1 + length name) rest),
 )
 
 pub line-abs : (name : List ℕ) → IsHexName name → ReadsLine (item.Abs name)
@@ -198,14 +198,14 @@ line-abs name is at rest = (
   at + 1 + length name + 1,
   ap (λ (l : List ℕ). formed None (reading Hex2 at 0 (38 ∷ l))) (append_assoc name (10 ∷ []) rest)
       ∙ ap (formed None) (reads-named at 38 (λ n. Alone (item.Abs n)) name rest 10 is refl refl (abs-token (name ++ 10 ∷ rest)))
-      ∙ ap (λ (r : Reading TokenFault). with_front (item.Abs name ∷ []) (formed None r)) (line_feed (at + 1 + length name) rest),
+      ∙ ap (λ (r : Reading TokenFault). with_prefix (item.Abs name ∷ []) (formed None r)) (line_feed (at + 1 + length name) rest),
 )
 
 pub line-pad : ReadsLine item.Pad
 line-pad at rest = (
   at + 1 + 0 + 1,
   ap (formed None) (reading-token Hex2 at 60 (10 ∷ rest) (Alone item.Pad) 0 refl (pad-token (10 ∷ rest)))
-      ∙ ap (λ (r : Reading TokenFault). with_front (item.Pad ∷ []) (formed None r)) (line_feed (at + 1 + 0) rest),
+      ∙ ap (λ (r : Reading TokenFault). with_prefix (item.Pad ∷ []) (formed None r)) (line_feed (at + 1 + 0) rest),
 )
 
 pub line-rel : (name : List ℕ) → IsHexName name → ReadsLine (item.Rel name)
@@ -213,8 +213,8 @@ line-rel name is at rest = (
   at + 1 + length name + 1,
   ap (λ (l : List ℕ). formed None (reading Hex2 at 0 (37 ∷ l))) (append_assoc name (10 ∷ []) rest)
       ∙ ap (formed None) (reading-token Hex2 at 37 (name ++ 10 ∷ rest) (Alone (item.Rel name)) (length name) refl (rel-token name rest is))
-      ∙ ap (λ (l : List ℕ). with_front (item.Rel name ∷ []) (formed None (reading Hex2 (at + 1 + length name) 0 l))) (drop-append_seam name (10 ∷ rest))
-      ∙ ap (λ (r : Reading TokenFault). with_front (item.Rel name ∷ []) (formed None r)) (line_feed (at + 1 + length name) rest),
+      ∙ ap (λ (l : List ℕ). with_prefix (item.Rel name ∷ []) (formed None (reading Hex2 (at + 1 + length name) 0 l))) (drop-append_seam name (10 ∷ rest))
+      ∙ ap (λ (r : Reading TokenFault). with_prefix (item.Rel name ∷ []) (formed None r)) (line_feed (at + 1 + length name) rest),
 )
 
 gap-remaining : (name other rest : List ℕ) → (name ++ 62 ∷ (other ++ 10 ∷ [])) ++ rest ≡ name ++ 62 ∷ (other ++ 10 ∷ rest)
@@ -229,8 +229,8 @@ line-gap name other is also at rest =
       at + 1 + (length name + 1 + length other) + 1,
       ap (λ (l : List ℕ). formed None (reading Hex2 at 0 (37 ∷ l))) (gap-remaining name other rest)
           ∙ ap (formed None) (reading-token Hex2 at 37 (name ++ 62 ∷ (other ++ 10 ∷ rest)) (Alone (item.Gap name other)) (length name + 1 + length other) refl (gap-token name other rest is also))
-          ∙ ap (λ (l : List ℕ). with_front (item.Gap name other ∷ []) (formed None (reading Hex2 (at + 1 + (length name + 1 + length other)) 0 l))) past
-          ∙ ap (λ (r : Reading TokenFault). with_front (item.Gap name other ∷ []) (formed None r)) (line_feed (at + 1 + (length name + 1 + length other)) rest),
+          ∙ ap (λ (l : List ℕ). with_prefix (item.Gap name other ∷ []) (formed None (reading Hex2 (at + 1 + (length name + 1 + length other)) 0 l))) past
+          ∙ ap (λ (r : Reading TokenFault). with_prefix (item.Gap name other ∷ []) (formed None r)) (line_feed (at + 1 + (length name + 1 + length other)) rest),
     )
 
 -- the two digits of a byte
@@ -261,15 +261,15 @@ word-bytes value at rest =
 pub line-word : (value : ℕ) (kind : Kind) (name : List ℕ) → value < 2 ^ 32 → IsHexName name → ReadsLine (item.Word value kind name)
 line-word value kind name small is at rest =
     let E = encode_upper (to_le_bytes w32 value) in
-    let place : ℕ = at + 1 + length name + 1 in
+    let offset : ℕ = at + 1 + length name + 1 in
     let back : from_le_bytes w32 (to_le_bytes w32 value) ≡ value = from_le_bytes-to_le_bytes_4 value small in (
-      place + 2 + 2 + 2 + 2 + 1,
+      offset + 2 + 2 + 2 + 2 + 1,
       ap (λ (l : List ℕ). formed None (reading Hex2 at 0 (kind_sign kind ∷ l))) (word-remaining name E rest)
           ∙ ap (formed None) (reads-named at (kind_sign kind) (Reference kind) name (E ++ 10 ∷ rest) 32 is refl (sign-code kind) (reference-token kind (name ++ 32 ∷ (E ++ 10 ∷ rest))))
           ∙ ap (λ (r : Reading TokenFault). formed None (Then at (Reference kind name) r)) (space (at + 1 + length name) (E ++ 10 ∷ rest))
-          ∙ ap (λ (r : Reading TokenFault). formed None (Then at (Reference kind name) r)) (word-bytes value place rest)
-          ∙ ap (λ (n : ℕ). with_front (item.Word n kind name ∷ []) (formed None (reading Hex2 (place + 2 + 2 + 2 + 2) 0 (10 ∷ rest)))) back
-          ∙ ap (λ (r : Reading TokenFault). with_front (item.Word value kind name ∷ []) (formed None r)) (line_feed (place + 2 + 2 + 2 + 2) rest),
+          ∙ ap (λ (r : Reading TokenFault). formed None (Then at (Reference kind name) r)) (word-bytes value offset rest)
+          ∙ ap (λ (n : ℕ). with_prefix (item.Word n kind name ∷ []) (formed None (reading Hex2 (offset + 2 + 2 + 2 + 2) 0 (10 ∷ rest)))) back
+          ∙ ap (λ (r : Reading TokenFault). with_prefix (item.Word value kind name ∷ []) (formed None r)) (line_feed (offset + 2 + 2 + 2 + 2) rest),
     )
 
 pub line-reads : (it : Item) → IsWritable it → ReadsLine it

@@ -2,6 +2,7 @@
 -- names of stage0-posix and mescc-tools, whose exact rules here are this project's profile. docs/reference/hex1.md and hex2.md say the
 -- same for people.
 use Rattle.std.specs.Prelude.{◌≡◌, ℕ, zero, suc, ◌+◌, ◌-◌, nat_lt, if◌then◌else◌, List, [], ◌∷◌, ◌++◌, length, Option, Some, None, Result, Ok, Err}
+use Rattle.ddc_base.specs.Limits.{most_items, most_source}
 use Rattle.hex_langs.specs.declared.items.item.Item.{Item}
 use Rattle.hex_langs.specs.declared.items.token.Dialect.{Dialect}
 use Rattle.hex_langs.specs.declared.items.token.TokenFault.{TokenFault}
@@ -43,8 +44,8 @@ pub record Formed (F : Type 0) : Type 0 where
   pub items : List Item
   pub end : Ending F
 
-abbrev pub with_front : {F : Type 0} → List Item → Formed F → Formed F
-with_front front formed = record { items = front ++ formed.items; end = formed.end }
+abbrev pub with_prefix : {F : Type 0} → List Item → Formed F → Formed F
+with_prefix prefix formed = record { items = prefix ++ formed.items; end = formed.end }
 
 -- a word that is open at the end is not complete
 abbrev pub word_end : {F : Type 0} → Option Open → Ending F
@@ -53,7 +54,7 @@ word_end (Some word) = Halted (halt.Dangling word.first)
 
 -- the items that a step forms, and those of the rest; after a refusal, no more
 abbrev pub after_step : {F : Type 0} → Step → (Option Open → Formed F) → Formed F
-after_step (Ok step) rest = with_front step.0 (rest step.1)
+after_step (Ok step) rest = with_prefix step.0 (rest step.1)
 after_step (Err why) rest = record { items = []; end = Halted why }
 
 -- the items of tokens, with or without an open word before them
@@ -80,12 +81,12 @@ answer items (Faulted why at) = Err (fault_at why at)
 
 -- `TooLong` if the items before the end or the first refusal are more than 33,554,432
 abbrev pub limited_items : Formed TokenFault → Result (List Item) HexRefusal
-limited_items formed = if nat_lt 33554432 (length formed.items) then Err TooLong else answer formed.items formed.end
+limited_items formed = if nat_lt most_items (length formed.items) then Err TooLong else answer formed.items formed.end
 
 -- the items of a source, or its first refusal
 unfoldable pub items_of : Dialect → List ℕ → Result (List Item) HexRefusal
 items_of dialect source =
-    if nat_lt 67108864 (length source) then Err TooLong
+    if nat_lt most_source (length source) then Err TooLong
     else limited_items (formed None (reading dialect 0 0 source))
 
 -- the answer of a reader: this result, or out of memory

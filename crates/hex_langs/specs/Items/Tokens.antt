@@ -68,7 +68,7 @@ pair_at digit remaining = pair_with (gap_length remaining) (byte_of (hex_digit_v
 
 -- the byte of the digits at an index and after it
 abbrev pub byte_at : List ℕ → ℕ → Option ℕ
-byte_at remaining place = byte_of (hex_digit_value (slice_index remaining place)) (hex_digit_value (slice_index remaining (place + 1)))
+byte_at remaining index = byte_of (hex_digit_value (slice_index remaining index)) (hex_digit_value (slice_index remaining (index + 1)))
 
 abbrev pub field_of : Option ℕ → Option ℕ → Option ℕ → Option ℕ → Result (Token × ℕ) TokenFault
 field_of (Some a) (Some b) (Some c) (Some d) = Ok (Field (from_le_bytes w32 (a ∷ b ∷ c ∷ d ∷ [])), 8)

@@ -3,6 +3,7 @@
 -- docs/reference/hex2.md says the same for people.
 use Rattle.std.specs.Prelude.{◌≡◌, ℕ, ◌+◌, ◌<◌, List, [], ◌∷◌, ◌++◌, length, map, Option, Some, None, Result, Ok, Err, bit_xor}
 use Rattle.std.specs.Int.{w32, from_le_bytes, to_le_bytes}
+use Rattle.ddc_base.specs.Limits.{most_items}
 use Rattle.hex_langs.specs.declared.items.item.Kind.{Kind}
 use Rattle.hex_langs.specs.declared.items.item.Item.{Item}
 use Rattle.hex_langs.specs.declared.items.item.Item.TheVariants as item
@@ -61,14 +62,14 @@ taken (Some word) at (Reference kind name) = reference_in word word.reference wo
 -- the items are extended by `more`, unless they are too many or memory runs out
 abbrev pub Adds : List Item → Result (Unit {0}) Halt → List Item → List Item → Type 0
 Adds more (Ok done) old new = new ≡ old ++ more
-Adds more (Err TooLong) old new = 33554432 < length old + length more
+Adds more (Err TooLong) old new = most_items < length old + length more
 Adds more (Err OutOfMemory) old new = Unit {0}
 Adds more (Err other) old new = ⊥
 
 -- the answer of taking a token, and its effect on the items
 abbrev pub Takes : Result (Option Open) Halt → Step → List Item → List Item → Type 0
 Takes (Err OutOfMemory) meant old new = Unit {0}
-Takes (Err TooLong) (Ok step) old new = 33554432 < length old + length step.0
+Takes (Err TooLong) (Ok step) old new = most_items < length old + length step.0
 Takes (Err why) meant old new = meant ≡ Err why
 Takes (Ok word) (Ok step) old new = (new ≡ old ++ step.0) × (word ≡ step.1)
 Takes (Ok word) (Err why) old new = ⊥

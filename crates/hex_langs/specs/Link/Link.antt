@@ -132,8 +132,8 @@ refused OutOfReach index = refusal.OutOfReach index
 
 -- these bytes in front of the result
 abbrev pub onto : List ℕ → Result (List ℕ) HexRefusal → Result (List ℕ) HexRefusal
-onto front (Ok bytes) = Ok (front ++ bytes)
-onto front (Err why) = Err why
+onto prefix (Ok bytes) = Ok (prefix ++ bytes)
+onto prefix (Err why) = Err why
 
 -- the bytes of one item in front of the rest, or its refusal
 abbrev pub appended : Result (List ℕ) Miss → ℕ → Result (List ℕ) HexRefusal → Result (List ℕ) HexRefusal

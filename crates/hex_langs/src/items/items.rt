@@ -3,6 +3,7 @@
 ghost use Rattle.std.specs.Prelude.{◌≡◌, ◌<◌, ◌≤◌, ◌+◌, List, [], ◌∷◌, ◌++◌, length, map, slice_get, OnOk, OnErr};
 ghost use Rattle.std.specs.List.{AllByRecursion};
 ghost use Rattle.std.specs.Option.{option_copied};
+ghost use Rattle.ddc_base.specs.Limits.{most_items};
 ghost use Rattle.hex_langs.specs.Items.Labels.{label_names};
 ghost use Rattle.hex_langs.specs.Items.Representation.Packed.{items_of, ArePacked};
 ghost use Rattle.hex_langs.specs.declared.items.item.Item.TheVariants.{Byte};
@@ -11,9 +12,6 @@ use crate::items::item::{Item, LabelName};
 use ddc_base::OutOfMemory;
 use std::alloc::{AllocFailed, Global};
 use std::marker::Model;
-
-/// The largest number of items in a list.
-pub const MOST_ITEMS: usize = 33_554_432;
 
 /// A list of items. A byte takes four bytes of memory; every other item takes four bytes and its own size.
 #[derive(Drop)]
@@ -59,7 +57,7 @@ fn add_four(codes: &mut Vec<u32>, bytes: [u8; 4]) -> Result<(), OutOfMemory>
 /// Adds four bytes as items. Error: out of memory; the items are unchanged.
 fn add_bytes(codes: &mut Vec<u32>, others: &[Item<'_>], bytes: [u8; 4]) -> Result<(), OutOfMemory>
     requires packed { ArePacked codes.old.items others.now }
-    requires room { length codes.old.items + 4 ≤ 33554432 }
+    requires capacity { length codes.old.items + 4 ≤ most_items }
     ensures packed { ArePacked codes.new.items others.now }
     ensures ok { OnOk result (items_of codes.new.items others.now ≡ items_of codes.old.items others.now ++ map Byte bytes) }
     ensures err { OnErr result (items_of codes.new.items others.now ≡ items_of codes.old.items others.now) }
@@ -73,7 +71,7 @@ fn add_other<'s>(
     others: &mut Vec<Item<'s>>,
     item: Item<'s>,
 ) -> Result<(), OutOfMemory>
-    requires { length others.old.items ≤ 33554432 }
+    requires { length others.old.items ≤ most_items }
     ensures ok_codes { OnOk result (codes.new.items ≡ codes.old.items ++ (256 + length others.old.items) ∷ []) }
     ensures ok_others { OnOk result (others.new.items ≡ others.old.items ++ item.entry ∷ []) }
     ensures err_codes { OnErr result (codes.new.items ≡ codes.old.items) }
@@ -97,7 +95,7 @@ fn add_item<'s>(
     item: Item<'s>,
 ) -> Result<(), OutOfMemory>
     requires packed { ArePacked codes.old.items others.old.items }
-    requires room { length codes.old.items < 33554432 }
+    requires capacity { length codes.old.items < most_items }
     ensures packed { ArePacked codes.new.items others.new.items }
     ensures ok { OnOk result (items_of codes.new.items others.new.items ≡ items_of codes.old.items others.old.items ++ item.entry ∷ []) }
     ensures err { OnErr result (items_of codes.new.items others.new.items ≡ items_of codes.old.items others.old.items) }
@@ -112,7 +110,7 @@ fn add_item<'s>(
 impl<'s> Items<'s> {
     /// Adds one item at the end. Error: out of memory; the items are unchanged.
     pub fn push(&mut self, item: Item<'s>) -> Result<(), OutOfMemory>
-        requires { length self.old < 33554432 }
+        requires { length self.old < most_items }
         ensures ok { OnOk result (self.new ≡ self.old ++ item.entry ∷ []) }
         ensures err { OnErr result (self.new ≡ self.old) }
     {
@@ -123,7 +121,7 @@ impl<'s> Items<'s> {
 impl<'s> Items<'s> {
     /// Adds four bytes at the end. Error: out of memory; the items are unchanged.
     pub fn push_bytes(&mut self, bytes: [u8; 4]) -> Result<(), OutOfMemory>
-        requires { length self.old + 4 ≤ 33554432 }
+        requires { length self.old + 4 ≤ most_items }
         ensures ok { OnOk result (self.new ≡ self.old ++ map Byte bytes) }
         ensures err { OnErr result (self.new ≡ self.old) }
     {
@@ -146,7 +144,7 @@ impl<'s> Items<'s> {
     /// The number of items.
     pub fn len(&self) -> usize
         ensures value { result ≡ length self.now }
-        ensures few { result ≤ 33554432 }
+        ensures few { result ≤ most_items }
     {
         self.codes.len()
     }
@@ -184,10 +182,10 @@ fn copied<'s>(item: &Item<'s>) -> Item<'s>
     }
 }
 
-fn other_at<'t, 's>(others: &'t [Item<'s>], place: usize) -> Option<&'t Item<'s>>
-    ensures { option_copied result ≡ slice_get others.now place }
+fn other_at<'t, 's>(others: &'t [Item<'s>], index: usize) -> Option<&'t Item<'s>>
+    ensures { option_copied result ≡ slice_get others.now index }
 {
-    others.get(place)
+    others.get(index)
 }
 
 fn item_at<'s>(codes: &[u32], others: &[Item<'s>], index: usize) -> Option<Item<'s>>

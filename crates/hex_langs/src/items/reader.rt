@@ -11,6 +11,7 @@ use crate::items::token::{
 };
 use crate::items::words::{Halt, take, take_byte};
 use ddc_base::OutOfMemory;
+use ddc_base::limits::MOST_SOURCE;
 use std::alloc::Global;
 
 /// The first refusal of a source, with a byte offset, or of its items, with an item number. Both count from 0.
@@ -76,9 +77,6 @@ impl HexRefusal {
     }
 }
 
-/// The largest size of a source, in bytes.
-pub const LONGEST_SOURCE: usize = 67_108_864;
-
 /// The items of a hex1 source of at most 67,108,864 bytes, or the first refusal from left to right. Names are borrowed from the source.
 ///
 /// Public source: the language hex1 of stage0-posix. docs/reference/hex1.md has the rules of this project's profile.
@@ -101,7 +99,7 @@ pub fn items2<'s>(alloc: Global, source: &'s [u8]) -> Result<Items<'s>, HexRefus
 fn items_of<'s>(alloc: Global, dialect: Dialect, source: &'s [u8]) -> Result<Items<'s>, HexRefusal>
     ensures { ReadsItems (items_of dialect source.now) result }
 {
-    if source.len() > LONGEST_SOURCE {
+    if source.len() > MOST_SOURCE {
         return Err(HexRefusal::TooLong);
     }
     let mut items = Items::new(alloc);

@@ -156,11 +156,11 @@ fn byte_token<'s>(pair: Result<(u8, usize), TokenFault>) -> Result<(Token<'s>, u
 }
 
 /// The byte of the digits at an index and after it.
-fn byte_at(rest: &[u8], place: usize) -> Option<u8>
-    requires { place + 1 < length rest.now }
-    ensures { result ≡ byte_at rest.now place }
+fn byte_at(rest: &[u8], index: usize) -> Option<u8>
+    requires { index + 1 < length rest.now }
+    ensures { result ≡ byte_at rest.now index }
 {
-    byte_of(rest[place], rest[place + 1])
+    byte_of(rest[index], rest[index + 1])
 }
 
 /// The field after `.`: 8 digits that follow at once.

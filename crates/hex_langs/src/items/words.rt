@@ -1,6 +1,7 @@
 //! Words: fields and at most one reference, followed by exactly four bytes.
 
 ghost use Rattle.hex_langs.specs.Items.Words.{taken, byte_taken, word_items, Takes, Adds};
+ghost use Rattle.ddc_base.specs.Limits.{most_items};
 ghost use Rattle.hex_langs.specs.declared.items.item.Item.TheVariants.{Byte};
 ghost use Rattle.hex_langs.specs.declared.items.token.Token.TheVariants as token;
 ghost use Rattle.std.specs.Prelude.{ℕ, bit_xor};
@@ -8,9 +9,10 @@ ghost use Rattle.std.specs.Int.{w32, from_le_bytes, to_le_bytes};
 ghost use Rattle.std.specs.Prelude.{◌≡◌, [], ◌∷◌, ◌≤◌, ◌<◌, length, map, OnErr};
 
 use crate::items::item::{Item, Kind, LabelName};
-use crate::items::items::{Items, MOST_ITEMS};
+use crate::items::items::Items;
 use crate::items::token::Token;
 use ddc_base::OutOfMemory;
+use ddc_base::limits::MOST_ITEMS;
 
 /// The bytes of an open word so far.
 #[derive(Clone, Copy)]
@@ -61,9 +63,9 @@ pub fn take<'s>(
     at: usize,
     token: Token<'s>,
 ) -> Result<Option<Open<'s>>, Halt>
-    requires { length items.old ≤ 33554432 }
+    requires { length items.old ≤ most_items }
     ensures takes { Takes result (taken word.entry at token.entry) items.old items.new }
-    ensures few { length items.new ≤ 33554432 }
+    ensures few { length items.new ≤ most_items }
     ensures kept { OnErr result (items.new ≡ items.old) }
 {
     match (word, token) {
@@ -113,9 +115,9 @@ pub fn take_byte<'s>(
     word: Option<Open<'s>>,
     byte: u8,
 ) -> Result<Option<Open<'s>>, Halt>
-    requires { length items.old ≤ 33554432 }
+    requires { length items.old ≤ most_items }
     ensures takes { (at : ℕ) → Takes result (taken word.entry at (token.Byte byte)) items.old items.new }
-    ensures few { length items.new ≤ 33554432 }
+    ensures few { length items.new ≤ most_items }
     ensures kept { OnErr result (items.new ≡ items.old) }
 {
     match word {
@@ -133,9 +135,9 @@ fn byte_of_word<'s>(
     word: Open<'s>,
     byte: u8,
 ) -> Result<Option<Open<'s>>, Halt>
-    requires { length items.old ≤ 33554432 }
+    requires { length items.old ≤ most_items }
     ensures takes { Takes result (byte_taken word.entry byte) items.old items.new }
-    ensures few { length items.new ≤ 33554432 }
+    ensures few { length items.new ≤ most_items }
     ensures kept { OnErr result (items.new ≡ items.old) }
 {
     let begun = match word.begun {
@@ -157,9 +159,9 @@ fn byte_of_word<'s>(
 
 /// Takes all four bytes of an open word at once. An error leaves the items unchanged.
 pub fn take_four<'s>(items: &mut Items<'s>, word: Open<'s>, bytes: [u8; 4]) -> Result<(), Halt>
-    requires { length items.old ≤ 33554432 }
+    requires { length items.old ≤ most_items }
     ensures adds { Adds (word_items word.entry.reference (bit_xor word.entry.mask (from_le_bytes w32 bytes))) result items.old items.new }
-    ensures few { length items.new ≤ 33554432 }
+    ensures few { length items.new ≤ most_items }
     ensures kept { OnErr result (items.new ≡ items.old) }
 {
     let value = word.mask ^ u32::from_le_bytes(bytes);
@@ -171,9 +173,9 @@ pub fn take_four<'s>(items: &mut Items<'s>, word: Open<'s>, bytes: [u8; 4]) -> R
 
 /// Adds an item, unless the list is full.
 fn add<'s>(items: &mut Items<'s>, item: Item<'s>) -> Result<(), Halt>
-    requires { length items.old ≤ 33554432 }
+    requires { length items.old ≤ most_items }
     ensures adds { Adds (item.entry ∷ []) result items.old items.new }
-    ensures few { length items.new ≤ 33554432 }
+    ensures few { length items.new ≤ most_items }
     ensures kept { OnErr result (items.new ≡ items.old) }
 {
     if items.len() == MOST_ITEMS {
@@ -185,9 +187,9 @@ fn add<'s>(items: &mut Items<'s>, item: Item<'s>) -> Result<(), Halt>
 
 /// Adds the four bytes of a word without a reference.
 fn add_bytes<'s>(items: &mut Items<'s>, value: u32) -> Result<(), Halt>
-    requires { length items.old ≤ 33554432 }
+    requires { length items.old ≤ most_items }
     ensures adds { Adds (map Byte (to_le_bytes w32 value)) result items.old items.new }
-    ensures few { length items.new ≤ 33554432 }
+    ensures few { length items.new ≤ most_items }
     ensures kept { OnErr result (items.new ≡ items.old) }
 {
     if items.len() > MOST_ITEMS - 4 {

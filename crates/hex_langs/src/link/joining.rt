@@ -1,6 +1,7 @@
 //! The bytes of all items.
 
 ghost use Rattle.std.specs.Prelude.{◌≡◌, ◌<◌, ◌≤◌, ◌^◌, ◌++◌, length, OnOk, OnErr, replicate};
+ghost use Rattle.ddc_base.specs.Limits.{most_address};
 ghost use Rattle.hex_langs.specs.Link.Link.{bytes_from, Links, link_of, item_bytes};
 ghost use Rattle.hex_langs.specs.Link.Representation.Tables.{address_in, AreSmall, Puts};
 
@@ -12,7 +13,7 @@ use std::alloc::Global;
 
 /// The bytes of items at a base address, or the first refusal. The time grows with the number of items and the length of their names.
 pub fn link(alloc: Global, items: &Items<'_>, base: u64) -> Result<Bytes, HexRefusal>
-    requires { base ≤ 2 ^ 37 }
+    requires { base ≤ most_address }
     ensures { Links result (link_of items.now base) }
 {
     let table = labels_of(alloc, items, base)?;
@@ -39,18 +40,18 @@ impl From<OutOfMemory> for JoinFail {
 fn put<'s>(
     out: &mut Bytes,
     table: &LabelTable<'s>,
-    place: u64,
+    address: u64,
     item: &Item<'s>,
 ) -> Result<(), JoinFail>
-    requires place { place < 2 ^ 40 }
+    requires address { address < 2 ^ 40 }
     requires small { AreSmall (address_in table.now) }
-    ensures { Puts result (item_bytes (address_in table.now) place item.now) out.old out.new }
+    ensures { Puts result (item_bytes (address_in table.now) address item.now) out.old out.new }
 {
     match item {
         Item::Byte(byte) => out.push(*byte)?,
         Item::Label(_) => {}
-        Item::Pad => put_zeros(out, (4 - place % 4) % 4)?,
-        _ => match number_of(table, place, item) {
+        Item::Pad => put_zeros(out, (4 - address % 4) % 4)?,
+        _ => match number_of(table, address, item) {
             Err(miss) => return Err(JoinFail::Miss(miss)),
             Ok(number) => out.extend(&number.to_le_bytes())?,
         },
@@ -75,15 +76,15 @@ fn joined<'s>(
     items: &Items<'s>,
     base: u64,
 ) -> Result<Bytes, HexRefusal>
-    requires base { base ≤ 2 ^ 37 }
+    requires base { base ≤ most_address }
     requires small { AreSmall (address_in table.now) }
     ensures { Links result (bytes_from (address_in table.now) base 0 items.now) }
 {
     let mut out = Bytes::new(alloc);
     for index in 0..items.len() {
-        let place = base + out.len() as u64;
+        let address = base + out.len() as u64;
         let item = item_at(items, index);
-        match put(&mut out, table, place, &item) {
+        match put(&mut out, table, address, &item) {
             Err(JoinFail::Miss(Miss::NoLabel)) => return Err(HexRefusal::NoLabel(index as u64)),
             Err(JoinFail::Miss(Miss::OutOfReach)) => {
                 return Err(HexRefusal::OutOfReach(index as u64));

@@ -1,6 +1,7 @@
 //! The table of labels.
 
-ghost use Rattle.std.specs.Prelude.{◌≡◌, ◌<◌, ◌≤◌, ◌^◌, length, slice_index_or, IfOk};
+ghost use Rattle.std.specs.Prelude.{◌≡◌, ◌<◌, ◌≤◌, length, slice_index_or, IfOk};
+ghost use Rattle.ddc_base.specs.Limits.{most_address};
 ghost use Rattle.indexmap.specs.IndexMap.{IsEmpty, hasher_of};
 ghost use Rattle.hex_langs.specs.Items.Labels.{label_names};
 ghost use Rattle.hex_langs.specs.Link.Link.{size_at};
@@ -96,7 +97,7 @@ pub(crate) fn labels_of<'s>(
     items: &Items<'s>,
     base: u64,
 ) -> Result<LabelTable<'s>, HexRefusal>
-    requires base { base ≤ 2 ^ 37 }
+    requires base { base ≤ most_address }
     ensures tables { Tables result items.now base }
     ensures keyed { IfOk result (λ table. IsKeyedBy (label_names items.now) table) }
 {

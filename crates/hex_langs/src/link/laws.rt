@@ -2,6 +2,7 @@
 
 ghost use Rattle.std.specs.Prelude.{◌≡◌, ℕ, ◌+◌, ◌≤◌, List, Ok, length, map, IsTrue};
 ghost use Rattle.std.specs.List.{list_all};
+ghost use Rattle.ddc_base.specs.Limits.{most_source};
 ghost use Rattle.hex_langs.specs.declared.items.item.Item.{Item};
 ghost use Rattle.hex_langs.specs.Hex0.{hex0_of, HasEvenDigits};
 ghost use Rattle.hex_langs.specs.Items.Plain.{is_plain};
@@ -28,6 +29,6 @@ pub fn names_do_not_matter()
 
 /// A source of digits, blanks and comments alone, with an even number of digits, has the same value in all three languages.
 pub fn plain_sources()
-    ensures { (language : HexLanguage) → (base : ℕ) → (source : List ℕ) → length source ≤ 67108864 → IsTrue (is_plain source) → HasEvenDigits source
+    ensures { (language : HexLanguage) → (base : ℕ) → (source : List ℕ) → length source ≤ most_source → IsTrue (is_plain source) → HasEvenDigits source
         → value_of language base source ≡ Ok (hex0_of source) }
 {}

@@ -110,21 +110,21 @@ fn distance(at: u64, from: u64) -> i64
 /// The number of an item of four bytes.
 pub(crate) fn number_of<'s>(
     table: &LabelTable<'s>,
-    place: u64,
+    address: u64,
     item: &Item<'s>,
 ) -> Result<u32, Miss>
-    requires place { place < 2 ^ 40 }
+    requires address { address < 2 ^ 40 }
     requires small { AreSmall (address_in table.now) }
-    ensures { result ≡ written_number (address_in table.now) place item.now }
+    ensures { result ≡ written_number (address_in table.now) address item.now }
 {
     match item {
         Item::Word(value, kind, name) => match address_in(table, name) {
             None => Err(Miss::NoLabel),
-            Some(at) => word_number(*value, *kind, distance(at, place)),
+            Some(at) => word_number(*value, *kind, distance(at, address)),
         },
         Item::Rel(name) => match address_in(table, name) {
             None => Err(Miss::NoLabel),
-            Some(at) => distance_number(distance(at, place) - 4),
+            Some(at) => distance_number(distance(at, address) - 4),
         },
         Item::Gap(name, other) => match address_in(table, name) {
             None => Err(Miss::NoLabel),

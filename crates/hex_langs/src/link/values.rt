@@ -1,6 +1,7 @@
 //! The value of a source in one of the languages.
 
-ghost use Rattle.std.specs.Prelude.{◌≤◌, ◌^◌};
+ghost use Rattle.std.specs.Prelude.{◌≤◌};
+ghost use Rattle.ddc_base.specs.Limits.{most_address};
 ghost use Rattle.hex_langs.specs.Link.Link.{Links};
 ghost use Rattle.hex_langs.specs.Link.Values.{value_of, linked};
 
@@ -28,7 +29,7 @@ pub fn value(
     base: u64,
     source: &[u8],
 ) -> Result<Bytes, HexRefusal>
-    requires { base ≤ 2 ^ 37 }
+    requires { base ≤ most_address }
     ensures { Links result (value_of language base source.now) }
 {
     match language {
@@ -44,7 +45,7 @@ fn linked(
     base: u64,
     items: Result<Items<'_>, HexRefusal>,
 ) -> Result<Bytes, HexRefusal>
-    requires { base ≤ 2 ^ 37 }
+    requires { base ≤ most_address }
     ensures { Links result (linked base items.entry) }
 {
     link(alloc, &items?, base)

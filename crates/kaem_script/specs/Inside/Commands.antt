@@ -2,6 +2,7 @@
 use Rattle.std.specs.Prelude.{◌≡◌, ℕ, ◌≤◌, Result, Ok, Err, List, [], map}
 use Rattle.std.specs.List.{fold}
 use Rattle.std.specs.FinMap as files
+use Rattle.ddc_base.specs.Limits.{usual_heap}
 use Rattle.mem_files.specs.World.{World}
 use Rattle.mem_files.specs.Calls.{first_world}
 use Rattle.mem_files.specs.Outputs.{left}
@@ -31,7 +32,7 @@ renewed world = fold with_given first_world (left world)
 
 -- the execution context of a command's program, without its files
 abbrev pub texts_of : List (List ℕ) → Setting
-texts_of words = record { args = words; env = []; files = files.empty; heap = 536_870_912 }
+texts_of words = record { args = words; env = []; files = files.empty; heap = usual_heap }
 
 -- the result of a command by the guest that its program starts as, without files, or why it does not start
 abbrev pub Begins : World → List (List ℕ) → ℕ → Result GuestState CommandCause → Type 0

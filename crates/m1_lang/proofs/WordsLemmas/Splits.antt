@@ -3,7 +3,7 @@ use Rattle.std.proofs.Common.{◌≡◌, ℕ, zero, suc, ◌+◌, ◌-◌, ◌<�
 use Rattle.std.proofs.lemmas.List.{drop-drop}
 use Rattle.hex_langs.specs.Items.Tokens.{gap_from, gap_length, is_blank, opens_gap}
 use Rattle.hex_langs.specs.Hex0.{begins_comment}
-use Rattle.hex_langs.proofs.ItemsLemmas.Readings.{front_is, gap_length-some}
+use Rattle.hex_langs.proofs.ItemsLemmas.Readings.{prefix_is, gap_length-some}
 use Rattle.m1_lang.specs.Words.Words.{Found, Unclosed, word_more, words_from}
 use Rattle.m1_lang.specs.Words.Ahead.{words_at}
 
@@ -66,12 +66,12 @@ pub no-gap-following : (source : List ℕ) (at gap : ℕ) → gap ≡ gap_length
 unfolding gap_length
 no-gap-following source at gap is within =
     stops false (drop at source) (get_or source (at + gap) 0) (drop (at + gap + 1) source)
-    (ap (λ (n : ℕ). drop n (drop at source)) (sym is) ∙ drop-drop gap at source ∙ front_is source (at + gap) within)
+    (ap (λ (n : ℕ). drop n (drop at source)) (sym is) ∙ drop-drop gap at source ∙ prefix_is source (at + gap) within)
 
 pub split-unclosed : (source : List ℕ) (at : ℕ) → at < length source → opens_gap (get_or source at 0) ≡ false
     → word_more (get_or source at 0) (drop (at + 1) source) ≡ None → words_at source at ≡ Unclosed at
 unfolding words_from
-split-unclosed source at within code none = rw (front_is source at within) (rw code (rw none refl))
+split-unclosed source at within code none = rw (prefix_is source at within) (rw code (rw none refl))
 
 pub split-word : (source text : List ℕ) (at more after : ℕ) → at < length source → opens_gap (get_or source at 0) ≡ false
     → word_more (get_or source at 0) (drop (at + 1) source) ≡ Some more → after ≡ at + 1 + more
@@ -80,7 +80,7 @@ pub split-word : (source text : List ℕ) (at more after : ℕ) → at < length 
 unfolding words_from
 split-word source text at more after within code found is text_is =
     let remaining_is : drop more (drop (at + 1) source) ≡ drop after source = drop-drop more (at + 1) source ∙ ap (λ (n : ℕ). drop n source) (sym is) in
-    rw (front_is source at within) (rw code (rw found (
+    rw (prefix_is source at within) (rw code (rw found (
     ap (Found (record { at = at; text = get_or source at 0 ∷ take more (drop (at + 1) source) }))
     (split-inside (at + 1) more (drop (at + 1) source) ∙ ap (λ (n : ℕ). words_from n 0 (drop more (drop (at + 1) source))) (sym is) ∙ ap (words_from after 0) remaining_is)
     ∙ ap (λ (t : List ℕ). Found (record { at = at; text = t }) (words_at source after)) (sym text_is))))

@@ -9,7 +9,7 @@ use Rattle.hex_langs.specs.declared.items.token.Token.{Token}
 use Rattle.hex_langs.specs.declared.items.words.Open.{Open}
 use Rattle.hex_langs.specs.declared.items.words.Halt.{Halt}
 use Rattle.hex_langs.specs.declared.items.words.Halt.TheVariants as halt
-use Rattle.hex_langs.specs.Items.Reading.{formed, Reading, with_front}
+use Rattle.hex_langs.specs.Items.Reading.{formed, Reading, with_prefix}
 use Rattle.m1_lang.specs.declared.words.meaning.WordFault.{WordFault}
 use Rattle.m1_lang.specs.Words.Words.{open_quote, Word, word_list}
 use Rattle.m1_lang.specs.Words.Ahead.{words_at}
@@ -99,7 +99,7 @@ DefinesOne (Err why) start source at old new = after_define (values_in old) star
 
 -- a refusal of a definition, unless a quote is open
 abbrev pub quote_or : Option ℕ → M1Refusal → M1Refusal
-quote_or (Some place) why = refusal.OpenString place
+quote_or (Some offset) why = refusal.OpenString offset
 quote_or None why = why
 
 -- the plain words after a `DEFINE`
@@ -138,14 +138,14 @@ reading_at values source at = words_reading values (plain_words (parts_at source
 -- taking tokens in order: the items so far and those formed later are the whole, or the source is refused
 abbrev pub TakesTokens : Result (Option Open) Halt → Option Open → ℕ → List Token → List Item → List Item → Type 0
 TakesTokens (Ok next) word at tokens old new =
-    (later : Reading WordFault) → with_front old (formed word (at_once at tokens later)) ≡ with_front new (formed next later)
+    (later : Reading WordFault) → with_prefix old (formed word (at_once at tokens later)) ≡ with_prefix new (formed next later)
 TakesTokens (Err halt.OutOfMemory) word at tokens old new = Unit {0}
 TakesTokens (Err why) word at tokens old new =
-    (later : Reading WordFault) → counted_items (with_front old (formed word (at_once at tokens later))) ≡ Err (halt_refusal why)
+    (later : Reading WordFault) → counted_items (with_prefix old (formed word (at_once at tokens later))) ≡ Err (halt_refusal why)
 
 -- taking a word
 abbrev pub TakesWord : Result (Option Open) M1Refusal → Option Open → ℕ → Tokens → List Item → List Item → Type 0
 TakesWord (Ok next) word at tokens old new =
-    (later : Reading WordFault) → with_front old (formed word (then_read at tokens later)) ≡ with_front new (formed next later)
+    (later : Reading WordFault) → with_prefix old (formed word (then_read at tokens later)) ≡ with_prefix new (formed next later)
 TakesWord (Err refusal.OutOfMemory) word at tokens old new = Unit {0}
-TakesWord (Err why) word at tokens old new = (later : Reading WordFault) → counted_items (with_front old (formed word (then_read at tokens later))) ≡ Err why
+TakesWord (Err why) word at tokens old new = (later : Reading WordFault) → counted_items (with_prefix old (formed word (then_read at tokens later))) ≡ Err why

@@ -13,7 +13,7 @@ words_at source at = words_from at 0 (drop at source)
 -- the next word from an offset on, with the offset after its last byte
 abbrev pub FindsAhead : Ahead → List ℕ → ℕ → Type 0
 FindsAhead next.End source at = words_at source at ≡ NoWord
-FindsAhead (next.Open place) source at = words_at source at ≡ Unclosed place
+FindsAhead (next.Open offset) source at = words_at source at ≡ Unclosed offset
 FindsAhead (next.Word start text after) source at =
     (words_at source at ≡ Found (record { at = start; text = text.now }) (words_at source after)) × (at < after) × (after ≤ length source)
     × (after ≡ start + length text.now)

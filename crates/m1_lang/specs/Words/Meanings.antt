@@ -17,14 +17,14 @@ before_bytes (Some byte) bytes = byte ∷ bytes
 before_bytes None bytes = []
 
 -- the bytes of pairs of digits, up to the first pair that is not a byte
-abbrev pub front_bytes : List ℕ → List ℕ
-front_bytes [] = []
-front_bytes (alone ∷ []) = []
-front_bytes (high ∷ low ∷ rest) = before_bytes (byte_of (hex_digit_value high) (hex_digit_value low)) (front_bytes rest)
+abbrev pub prefix_bytes : List ℕ → List ℕ
+prefix_bytes [] = []
+prefix_bytes (alone ∷ []) = []
+prefix_bytes (high ∷ low ∷ rest) = before_bytes (byte_of (hex_digit_value high) (hex_digit_value low)) (prefix_bytes rest)
 
 -- the tokens of a meaning
 abbrev pub meaning_tokens : WordMeaning → List Token
-meaning_tokens (Digits digits) = map Byte (front_bytes digits.now)
+meaning_tokens (Digits digits) = map Byte (prefix_bytes digits.now)
 meaning_tokens (Text text) = map Byte (padded text.now)
 meaning_tokens (Number n) = map Byte (to_le_bytes w32 n)
 meaning_tokens (One token) = token ∷ []

@@ -4,7 +4,7 @@ use Rattle.std.specs.FinMap.{from_sorted, is_sorted, get, len}
 use Rattle.mem_files.specs.declared.open_file.OpenFile.{OpenFile}
 use Rattle.mem_files.specs.declared.stored.Stored.{Stored}
 use Rattle.mem_files.specs.declared.table.FileTable.TheInside.{Inside}
-use Rattle.mem_files.specs.Limits.{most_descriptors, most_names, most_name}
+use Rattle.ddc_base.specs.Limits.{most_descriptors, most_names, most_name}
 use Rattle.mem_files.specs.Names.{bytes_cmp}
 use Rattle.mem_files.specs.World.{World, total}
 use Rattle.mem_files.specs.Inside.Stored.{content_in, name_in}

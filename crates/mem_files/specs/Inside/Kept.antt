@@ -3,7 +3,7 @@ use Rattle.std.specs.Prelude.{◌≡◌, ℕ, ◌+◌, ◌^◌, ◌<◌, ◌≤�
 use Rattle.std.specs.FinMap as map
 use Rattle.mem_files.specs.declared.open_file.OpenFile.{OpenFile}
 use Rattle.mem_files.specs.declared.open_file.OpenFile.TheVariants.{Input, Stream1, Stream2, File}
-use Rattle.mem_files.specs.Limits.{most_content, most_total, most_descriptors, most_names}
+use Rattle.ddc_base.specs.Limits.{most_content, most_total, most_descriptors, most_names}
 use Rattle.mem_files.specs.Names.{is_stripped_name}
 use Rattle.mem_files.specs.World.{World, total, is_named, is_open}
 use Rattle.mem_files.specs.Sound.{AreBytes}

@@ -1,6 +1,7 @@
 -- How a `PagedRam` keeps its memory: page numbers rise, each page has an entry, and three rows of pages need no search.
-use Rattle.std.specs.Prelude.{◌≡◌, ℕ, ◌+◌, ◌*◌, ◌/◌, ◌%◌, ◌^◌, ◌<◌, ◌≤◌, Option, None, Some, IsSome, List, [], ◌∷◌, ◌++◌, length, slice_index, slice_index_or}
+use Rattle.std.specs.Prelude.{◌≡◌, ℕ, ◌+◌, ◌*◌, ◌/◌, ◌%◌, ◌<◌, ◌≤◌, Option, None, Some, IsSome, List, [], ◌∷◌, ◌++◌, length, slice_index, slice_index_or}
 use Rattle.std.specs.Global.{Box}
+use Rattle.ddc_base.specs.Limits.{address_end}
 use Rattle.paged_mem.specs.Memory.{zeros}
 use Rattle.paged_mem.specs.Inside.Flat.{AreFlatPages}
 use Rattle.paged_mem.specs.declared.rows.PageRow.{PageRow}
@@ -39,7 +40,7 @@ pub record ArePages (pages : List ℕ) (entries : List Entry) : Type 0 where
 -- the row's pages have consecutive numbers
 pub record IsRowOf (pages : List ℕ) (row : PageRow) : Type 0 where
   pub aligned : row.base % 4096 ≡ 0
-  pub low : row.base + row.size ≤ 2 ^ 38
+  pub low : row.base + row.size ≤ address_end
   pub within : 4096 * row.index + row.size ≤ 4096 * length pages
   pub numbers : (k : ℕ) → 4096 * k < row.size → slice_index pages (row.index + k) ≡ row.base / 4096 + k
 

@@ -3,6 +3,7 @@
 use Rattle.std.specs.Prelude.{◌≡◌, ◌≢◌, ℕ, zero, suc, ◌+◌, ◌*◌, ◌/◌, ◌%◌, ◌^◌, ◌<◌, ◌≤◌, Option, None, Some, if◌then◌else◌, ◌==◌, List, [], ◌∷◌, ◌++◌, length, take, drop, slice_index}
 use Rattle.std.specs.Option.{option_map}
 use Rattle.std.specs.FinMap.{empty}
+use Rattle.ddc_base.specs.Limits.{page_number_end}
 use Rattle.paged_mem.specs.Memory.{Memory, with_bytes}
 
 -- the memory of these pages, 4,096 bytes for each
@@ -11,23 +12,23 @@ memory_of [] bytes = empty
 memory_of (page ∷ pages) bytes = with_bytes (memory_of pages (drop 4096 bytes)) (4096 * page) (take 4096 bytes)
 
 -- the index of the page with this number
-unfoldable pub place : List ℕ → ℕ → Option ℕ
-place [] number = None
-place (page ∷ pages) number = if page == number then Some 0 else option_map (λ i. 1 + i) (place pages number)
+unfoldable pub page_index : List ℕ → ℕ → Option ℕ
+page_index [] number = None
+page_index (page ∷ pages) number = if page == number then Some 0 else option_map (λ i. 1 + i) (page_index pages number)
 
 -- the index of an address's byte in the list of bytes
 abbrev pub slot : List ℕ → ℕ → Option ℕ
-slot pages at = option_map (λ i. 4096 * i + at % 4096) (place pages (at / 4096))
+slot pages at = option_map (λ i. 4096 * i + at % 4096) (page_index pages (at / 4096))
 
 -- each number is below the later ones
 abbrev pub Rises : List ℕ → Type 0
 Rises pages = (i j : ℕ) → i < j → j < length pages → slice_index pages i < slice_index pages j
 
--- each number is below 2 ^ 26
+-- each number is below `page_number_end`
 abbrev pub AreLow : List ℕ → Type 0
-AreLow pages = (i : ℕ) → i < length pages → slice_index pages i < 2 ^ 26
+AreLow pages = (i : ℕ) → i < length pages → slice_index pages i < page_number_end
 
--- page numbers rise and are below 2 ^ 26, and each page has 4,096 bytes
+-- page numbers rise and are below `page_number_end`, and each page has 4,096 bytes
 pub record AreFlatPages (pages bytes : List ℕ) : Type 0 where
   pub rising : Rises pages
   pub low : AreLow pages

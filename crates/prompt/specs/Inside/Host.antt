@@ -3,4 +3,4 @@ use Rattle.std.specs.Prelude.{ℕ, false, []}
 use Rattle.prompt.specs.Prompts.{PromptState}
 
 abbrev pub untold_prompt : ℕ → PromptState
-untold_prompt faults = record { tells = false; left = []; faults = faults }
+untold_prompt faults = record { tells = false; unread = []; faults = faults }

@@ -7,11 +7,11 @@ use Rattle.prompt.specs.Prompts.{line_size}
 
 -- `count` bytes were consumed, none of them an LF; the first 256 are stored
 pub record HasRead (old now : Option (List ℕ)) (line : List ℕ) (count : ℕ) : Type 0 where
-  pub front : List ℕ
-  pub taken : Consumes old now front
-  pub size : length front ≡ count
-  pub plain : line_size front ≡ length front
-  pub kept : line ≡ take 256 front
+  pub prefix : List ℕ
+  pub taken : Consumes old now prefix
+  pub size : length prefix ≡ count
+  pub plain : line_size prefix ≡ length prefix
+  pub kept : line ≡ take 256 prefix
 
 -- the result for a line of `count` bytes
 abbrev pub whole_line : List ℕ → ℕ → Asked

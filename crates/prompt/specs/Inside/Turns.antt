@@ -4,7 +4,7 @@ use Rattle.std.specs.Bool.{OnTrue}
 use Rattle.ddc_base.specs.declared.outside.PutFail.{PutFail}
 use Rattle.ddc_base.specs.declared.outside.PutFail.TheVariants.{Failed, OutOfMemory}
 use Rattle.ddc_base.specs.Outside.{SinkState, PutFails, after_piece}
-use Rattle.prompt.specs.Prompts.{PromptState, LineFails, after_line, left_after}
+use Rattle.prompt.specs.Prompts.{PromptState, LineFails, after_line, unread_after}
 use Rattle.prompt.specs.Converses.{Exchanged}
 use Rattle.prompt.specs.Talks.{Talk, talk, hears, replies}
 
@@ -23,13 +23,13 @@ pub record Replies {S : Type 0} (answered : S → List ℕ → List ℕ × S) (s
 abbrev pub TurnsBy : {S : Type 0} → (S → List ℕ → List ℕ × S) → S → S → SinkState → SinkState → PromptState → PromptState → Result Bool PutFail → Type 0
 TurnsBy answered state next before after old new (Ok true) =
     (new ≡ after_line old) × (piece : List ℕ) × (after ≡ after_piece piece before)
-    × OnTrue old.tells ((lines : ℕ) → talk answered state (suc lines) old.left ≡ hears (left_after old.left) ∷ replies piece ∷ talk answered next lines (left_after old.left))
+    × OnTrue old.tells ((lines : ℕ) → talk answered state (suc lines) old.unread ≡ hears (unread_after old.unread) ∷ replies piece ∷ talk answered next lines (unread_after old.unread))
 TurnsBy answered state next before after old new (Ok false) =
-    (new ≡ after_line old) × (after ≡ before) × OnTrue old.tells ((lines : ℕ) → talk answered state (suc lines) old.left ≡ hears (left_after old.left) ∷ [])
+    (new ≡ after_line old) × (after ≡ before) × OnTrue old.tells ((lines : ℕ) → talk answered state (suc lines) old.unread ≡ hears (unread_after old.unread) ∷ [])
 TurnsBy answered state next before after old new (Err Failed) =
     (LineFails old new × (after ≡ before))
     ⊎ ((new ≡ after_line old) × (piece : List ℕ) × PutFails piece before after
-    × OnTrue old.tells ((lines : ℕ) → (rest : Talk) × (talk answered state (suc lines) old.left ≡ hears (left_after old.left) ∷ replies piece ∷ rest)))
+    × OnTrue old.tells ((lines : ℕ) → (rest : Talk) × (talk answered state (suc lines) old.unread ≡ hears (unread_after old.unread) ∷ replies piece ∷ rest)))
 TurnsBy answered state next before after old new (Err OutOfMemory) = (new ≡ after_line old) × (after ≡ before)
 
 -- a line was answered and the reply written; or it ended the session; or the turn was cut short
@@ -37,7 +37,7 @@ pub record Turns {S : Type 0} (answered : S → List ℕ → List ℕ × S) (sta
   pub by_result : TurnsBy answered state next before after old new result
 
 -- a prefix of a session took place, and `left` more lines may follow
-pub record GoesOn {S : Type 0} (answered : S → List ℕ → List ℕ × S) (state now : S) (lines left : ℕ) (before after : SinkState) (old new : PromptState) : Type 0 where
+pub record GoesOn {S : Type 0} (answered : S → List ℕ → List ℕ × S) (state now : S) (lines unread : ℕ) (before after : SinkState) (old new : PromptState) : Type 0 where
   pub done : Talk
   pub held : Exchanged done before after old new
-  pub told : OnTrue old.tells (talk answered state lines old.left ≡ done ++ talk answered now left new.left)
+  pub told : OnTrue old.tells (talk answered state lines old.unread ≡ done ++ talk answered now unread new.unread)

@@ -444,9 +444,9 @@ fn counts_have_limits(rt: HostRuntime) -> Result<(), Fail> {
     Ok(check_sizes(&rt, rt.alloc(), &SIZES)?)
 }
 
-fn fault_of_text(alloc: Global, spelled: &[u8]) -> Result<u64, OutOfMemory> {
+fn fault_of_text(alloc: Global, encoded: &[u8]) -> Result<u64, OutOfMemory> {
     let mut text = Bytes::new(alloc);
-    put_text(&mut text, spelled)?;
+    put_text(&mut text, encoded)?;
     fault_of(alloc, text.as_slice())
 }
 

@@ -113,13 +113,13 @@ begins : {L S R : Type 0} {reader : Reader L S R} (rules : Rules reader) (n : �
 begins {L = L} rules n bytes x e =
     let t = taken rules n bytes x e in
     let f = rules.finished x.0 t.good in
-    let front : take n (rules.texts.lines f.report) ≡ rules.so_far x.0 = ap (take n) f.split ∙ take_at (rules.so_far x.0) f.more n t.long in
+    let prefix : take n (rules.texts.lines f.report) ≡ rules.so_far x.0 = ap (take n) f.split ∙ take_at (rules.so_far x.0) f.more n t.long in
     record {
       report = f.report;
       is = f.is;
       rest = x.1;
       within = omega (arith, ap length f.split, length-append (rules.so_far x.0) f.more, t.long);
-      text = t.text ∙ ap (λ (ls : List L). text_of_lines rules.texts.words ls ++ x.1) (sym front);
+      text = t.text ∙ ap (λ (ls : List L). text_of_lines rules.texts.words ls ++ x.1) (sym prefix);
     }
 
 -- ---- the first line that begins no report

@@ -4,7 +4,7 @@ use Rattle.std.specs.Prelude.{◌==◌, Bool, false, IfOk, IfErr, IsErrAnd}
 use Rattle.std.specs.Option.{option_map_or}
 use Rattle.std.proofs.lemmas.Bool.{cases_lt}
 use Rattle.report.specs.Inside.Cuts.{◌>>=◌, cut_at}
-use Rattle.report.specs.Inside.LineByLine.{Reader, next_line, one_more, after, ended_at, read_on, read_all, Stands, Stops}
+use Rattle.report.specs.Inside.LineByLine.{Reader, next_line, one_more, after, ended_at, read_on, read_all, HasRead, Stops}
 use Rattle.report.specs.declared.refusal.ReportRefusal.{ReportRefusal}
 use Rattle.report.specs.declared.refusal.ReportRefusal.TheVariants.{Form, OutOfMemory}
 use Rattle.report.specs.Inside.Loops.{HasNoLine, ReadsLines}
@@ -142,15 +142,15 @@ one_of_text {R = R} rules first second is-first is-second same =
 -- ---- what the code's loop gives
 
 pub reads_ended : {L S R : Type 0} {reader : Reader L S R} (rules : Rules reader) (bytes : List ℕ) (n : ℕ) (report : R)
-    → Stands reader bytes n (rules.end report) [] → rules.read bytes ≡ Ok report
-reads_ended {R = R} {reader = reader} rules bytes n report stands =
-    rules.reads bytes ∙ reads_at reader bytes n (rules.end report, []) (record { there = stands.there; none = no_more reader (rules.end report) })
+    → HasRead reader bytes n (rules.end report) [] → rules.read bytes ≡ Ok report
+reads_ended {R = R} {reader = reader} rules bytes n report has_read =
+    rules.reads bytes ∙ reads_at reader bytes n (rules.end report, []) (record { there = has_read.there; none = no_more reader (rules.end report) })
     ∙ ap (λ (o : Option R). ended_at (n + 1) o []) (rules.ended report)
 
 pub reads_unended : {L S R : Type 0} {reader : Reader L S R} (rules : Rules reader) (bytes : List ℕ) (n number : ℕ) (state : S) → number ≡ n + 1
-    → Stands reader bytes n state [] → ((report : R) → state ≡ rules.end report → ⊥) → rules.read bytes ≡ Err number
-reads_unended {reader = reader} rules bytes n number state is stands other =
-    rules.reads bytes ∙ reads_at reader bytes n (state, []) (record { there = stands.there; none = no_more reader state })
+    → HasRead reader bytes n state [] → ((report : R) → state ≡ rules.end report → ⊥) → rules.read bytes ≡ Err number
+reads_unended {reader = reader} rules bytes n number state is has_read other =
+    rules.reads bytes ∙ reads_at reader bytes n (state, []) (record { there = has_read.there; none = no_more reader state })
     ∙ ended_none (n + 1) (reader.ended state) [] (rules.unended state other) ∙ ap Err (sym is)
 
 pub reads_no_further : {L S R : Type 0} {reader : Reader L S R} (rules : Rules reader) (bytes : List ℕ) (number : ℕ) → Stops reader bytes number → rules.read bytes ≡ Err number
@@ -159,18 +159,18 @@ reads_no_further {reader = reader} rules bytes number stops =
     ∙ ended_left (stops.before + 1) (reader.ended stops.state) stops.rest stops.left ∙ ap Err (sym stops.is)
 
 refused_line : {L S R : Type 0} {reader : Reader L S R} (rules : Rules reader) (bytes : List ℕ) (n : ℕ) (state : S) (rest : List ℕ) (empty : Bool) (refusal : ReportRefusal)
-    → empty ≡ (length rest == 0) → empty ≡ false → Stands reader bytes n state rest → HasNoLine reader.line_of rest (n + 1) refusal → Refuses (rules.read bytes) refusal
-refused_line {reader = reader} rules bytes n state rest empty (Form number) is not_empty stands none =
-    reads_no_further rules bytes number (rw none.0 (stops_at_line reader bytes n state rest empty is not_empty stands (sym none.1)))
-refused_line rules bytes n state rest empty OutOfMemory is not_empty stands none = tt
+    → empty ≡ (length rest == 0) → empty ≡ false → HasRead reader bytes n state rest → HasNoLine reader.line_of rest (n + 1) refusal → Refuses (rules.read bytes) refusal
+refused_line {reader = reader} rules bytes n state rest empty (Form number) is not_empty has_read none =
+    reads_no_further rules bytes number (rw none.0 (stops_at_line reader bytes n state rest empty is not_empty has_read (sym none.1)))
+refused_line rules bytes n state rest empty OutOfMemory is not_empty has_read none = tt
 
 -- where there is no line, what is handed on
 pub hands_line : {L S R : Type 0} {reader : Reader L S R} (rules : Rules reader) (bytes : List ℕ) (n : ℕ) (state : S) (rest : List ℕ) (empty : Bool) (refusal : ReportRefusal)
-    → empty ≡ (length rest == 0) → empty ≡ false → Stands reader bytes n state rest → HasNoLine reader.line_of rest (n + 1) refusal
+    → empty ≡ (length rest == 0) → empty ≡ false → HasRead reader bytes n state rest → HasNoLine reader.line_of rest (n + 1) refusal
     → (result : Result (S × ℕ) ReportRefusal) → IsErrAnd result (λ handed. handed ≡ refusal) → ReadsLines reader (rules.read bytes) bytes result
-hands_line rules bytes n state rest empty refusal is not_empty stands none (Ok found) handed = absurd handed
-hands_line rules bytes n state rest empty refusal is not_empty stands none (Err error) handed =
-    rw handed (refused_line rules bytes n state rest empty refusal is not_empty stands none)
+hands_line rules bytes n state rest empty refusal is not_empty has_read none (Ok found) handed = absurd handed
+hands_line rules bytes n state rest empty refusal is not_empty has_read none (Err error) handed =
+    rw handed (refused_line rules bytes n state rest empty refusal is not_empty has_read none)
 
 -- ---- what a call that reads answers
 

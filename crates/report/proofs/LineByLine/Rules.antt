@@ -11,12 +11,12 @@ use Rattle.report.proofs.Cuts.{Without, cut_at-joined, cut_at-takes, bind_some, 
 -- ---- a line with its LF
 
 feed : (words : List (List ℕ)) (text rest : List ℕ) → line_text words ≡ text ++ 10 ∷ [] → line_text words ++ rest ≡ text ++ 10 ∷ rest
-feed words text rest spelled = ap (λ (t : List ℕ). t ++ rest) spelled ∙ append_assoc text (10 ∷ []) rest
+feed words text rest encoded = ap (λ (t : List ℕ). t ++ rest) encoded ∙ append_assoc text (10 ∷ []) rest
 
 pub line_is_next : {L : Type 0} (line_of : List ℕ → Option L) (words : List (List ℕ)) (text rest : List ℕ) (l : L)
     → line_text words ≡ text ++ 10 ∷ [] → Without 10 text → line_of text ≡ Some l → next_line line_of (line_text words ++ rest) ≡ Some (l, rest)
 unfolding next_line
-line_is_next line_of words text rest l spelled no_feed again = rw (feed words text rest spelled, cut_at-joined 10 text rest no_feed, again) refl
+line_is_next line_of words text rest l encoded no_feed again = rw (feed words text rest encoded, cut_at-joined 10 text rest no_feed, again) refl
 
 pub next_is_line : {L : Type 0} (line_of : List ℕ → Option L) (words : L → List (List ℕ)) (IsLine : L → Type 0)
     → ((text : List ℕ) (l : L) → line_of text ≡ Some l → IsLine l × (line_text (words l) ≡ text ++ 10 ∷ []))
@@ -37,18 +37,18 @@ abbrev pub runs : {L S : Type 0} → (S → L → Option S) → S → List L →
 runs step state [] = Some state
 runs step state (line ∷ lines) = step state line >>= λ next. runs step next lines
 
-pub runs-append : {L S : Type 0} (step : S → L → Option S) (state : S) (front more : List L) → runs step state (front ++ more) ≡ (runs step state front >>= λ next. runs step next more)
+pub runs-append : {L S : Type 0} (step : S → L → Option S) (state : S) (prefix more : List L) → runs step state (prefix ++ more) ≡ (runs step state prefix >>= λ next. runs step next more)
 runs-append step state [] more = refl
-runs-append {S = S} step state (line ∷ front) more = on (step state line) (λ s. runs-append step s front more)
+runs-append {S = S} step state (line ∷ prefix) more = on (step state line) (λ s. runs-append step s prefix more)
   where
-    on : (next : Option S) → ((s : S) → runs step s (front ++ more) ≡ (runs step s front >>= λ t. runs step t more))
-        → (next >>= λ s. runs step s (front ++ more)) ≡ ((next >>= λ s. runs step s front) >>= λ t. runs step t more)
+    on : (next : Option S) → ((s : S) → runs step s (prefix ++ more) ≡ (runs step s prefix >>= λ t. runs step t more))
+        → (next >>= λ s. runs step s (prefix ++ more)) ≡ ((next >>= λ s. runs step s prefix) >>= λ t. runs step t more)
     on None h = refl
     on (Some s) h = h s
 
 -- two runs, one after the other
-pub runs_then : {L S : Type 0} (step : S → L → Option S) (s t : S) (front more : List L) → runs step s front ≡ Some t → runs step s (front ++ more) ≡ runs step t more
-runs_then {S = S} step s t front more first = runs-append step s front more ∙ ap (λ (next : Option S). next >>= λ u. runs step u more) first
+pub runs_then : {L S : Type 0} (step : S → L → Option S) (s t : S) (prefix more : List L) → runs step s prefix ≡ Some t → runs step s (prefix ++ more) ≡ runs step t more
+runs_then {S = S} step s t prefix more first = runs-append step s prefix more ∙ ap (λ (next : Option S). next >>= λ u. runs step u more) first
 
 -- ---- lines that begin a report
 

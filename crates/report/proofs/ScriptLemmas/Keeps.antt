@@ -4,6 +4,7 @@ use Rattle.std.specs.Prelude.{All}
 use Rattle.std.specs.List.{flat_map}
 use Rattle.std.proofs.lemmas.List.Elements.{All-append, All-cons, All-head, All-map, All-nil, All-push, All-tail}
 use Rattle.ddc_base.specs.declared.digests.Digest.{Digest}
+use Rattle.ddc_base.specs.Limits.{most_commands, most_files, most_names}
 use Rattle.report.specs.declared.types.LeftLine.{LeftLine}
 use Rattle.report.specs.declared.types.Mark.{Mark}
 use Rattle.report.specs.declared.script.line.ScriptLine.{ScriptLine}
@@ -25,9 +26,9 @@ use Rattle.report.proofs.ScriptLemmas.LineTexts.{IsLine, IsSteps}
 use Rattle.report.proofs.ScriptLemmas.Takes.{Early, no_left, so_far, step_takes}
 
 -- a report with room for one more command, before any file that is left
-pub record HasRoom (report : ScriptReport) : Type 0 where
+pub record HasCapacity (report : ScriptReport) : Type 0 where
   pub fits : IsScriptReport report
-  pub room : length report.commands < 4096
+  pub capacity : length report.commands < most_commands
   pub early : report.left ≡ []
 
 -- what a state keeps
@@ -35,8 +36,8 @@ abbrev pub Good : ScriptState → Type 0
 Good Start = Unit {0}
 Good Titled = Unit {0}
 Good (Body report) = IsScriptReport report
-Good (Named report steps) = HasRoom report × IsSteps steps
-Good (Heard report steps stream1) = HasRoom report × IsSteps steps × IsMark stream1
+Good (Named report steps) = HasCapacity report × IsSteps steps
+Good (Heard report steps stream1) = HasCapacity report × IsSteps steps × IsMark stream1
 Good (Ended report) = IsScriptReport report
 
 pub good_early : (s : ScriptState) → Good s → Early s
@@ -59,10 +60,10 @@ empty_is script is = record {
   ascending = refl;
 }
 
-file_is : (report : ScriptReport) (file : LeftLine) → IsScriptReport report → length report.files < 4096 → IsLeft file → IsScriptReport (with_file report file)
-file_is report file good room is = record {
+file_is : (report : ScriptReport) (file : LeftLine) → IsScriptReport report → length report.files < most_files → IsLeft file → IsScriptReport (with_file report file)
+file_is report file good capacity is = record {
   script = good.script;
-  few_files = omega (arith, room, grown report.files file);
+  few_files = omega (arith, capacity, grown report.files file);
   each_file = All-push IsLeft report.files file good.each_file is;
   few_commands = good.few_commands;
   each_command = good.each_command;
@@ -71,28 +72,28 @@ file_is report file good room is = record {
   ascending = good.ascending;
 }
 
-command_is : (report : ScriptReport) (steps : ℕ) (stream1 stream2 : Mark) → HasRoom report → IsSteps steps → IsMark stream1 → IsMark stream2 → IsScriptReport (with_command report (record { steps = steps; stream1 = stream1; stream2 = stream2 }))
+command_is : (report : ScriptReport) (steps : ℕ) (stream1 stream2 : Mark) → HasCapacity report → IsSteps steps → IsMark stream1 → IsMark stream2 → IsScriptReport (with_command report (record { steps = steps; stream1 = stream1; stream2 = stream2 }))
 command_is report steps stream1 stream2 has counted first second =
     let command : CommandLine = record { steps = steps; stream1 = stream1; stream2 = stream2 } in
     record {
       script = has.fits.script;
       few_files = has.fits.few_files;
       each_file = has.fits.each_file;
-      few_commands = omega (arith, has.room, grown report.commands command);
+      few_commands = omega (arith, has.capacity, grown report.commands command);
       each_command = All-push IsCommandLine report.commands command has.fits.each_command (record { steps = counted; stream1 = first; stream2 = second });
       few_left = has.fits.few_left;
       each_left = has.fits.each_left;
       ascending = has.fits.ascending;
     }
 
-left_is : (report : ScriptReport) (file : LeftLine) → IsScriptReport report → length report.left < 4096 → follows report.left file.name ≡ true → IsLeft file → IsScriptReport (with_left report file)
-left_is report file good room after is = record {
+left_is : (report : ScriptReport) (file : LeftLine) → IsScriptReport report → length report.left < most_names → follows report.left file.name ≡ true → IsLeft file → IsScriptReport (with_left report file)
+left_is report file good capacity after is = record {
   script = good.script;
   few_files = good.few_files;
   each_file = good.each_file;
   few_commands = good.few_commands;
   each_command = good.each_command;
-  few_left = omega (arith, room, grown report.left file);
+  few_left = omega (arith, capacity, grown report.left file);
   each_left = All-push IsLeft report.left file good.each_left is;
   ascending = ascend_push report.left file good.ascending after;
 }
@@ -103,18 +104,18 @@ step_keeps Start Header t good is e = subst Good (same_some Titled t e) tt
 step_keeps Titled (Script digest) t good is e =
     subst Good (same_some (Body (record { script = digest; files = []; commands = []; left = [] })) t e) (empty_is digest is)
 step_keeps (Body report) (File file) t good is e =
-    let p = if_some (ltb (length report.files) 4096) (cond (eqb (length report.commands + length report.left) 0) (Some (Body (with_file report file))) None) t e in
+    let p = if_some (ltb (length report.files) most_names) (cond (eqb (length report.commands + length report.left) 0) (Some (Body (with_file report file))) None) t e in
     let q = if_some (eqb (length report.commands + length report.left) 0) (Some (Body (with_file report file))) t p.1 in
     subst Good (same_some (Body (with_file report file)) t q.1) (file_is report file good (is_below _ _ p.0) is)
 step_keeps (Body report) (Command steps) t good is e =
-    let p = if_some (ltb (length report.commands) 4096) (cond (eqb (length report.left) 0) (Some (Named report steps)) None) t e in
+    let p = if_some (ltb (length report.commands) most_names) (cond (eqb (length report.left) 0) (Some (Named report steps)) None) t e in
     let q = if_some (eqb (length report.left) 0) (Some (Named report steps)) t p.1 in
-    subst Good (same_some (Named report steps) t q.1) (record { fits = good; room = is_below _ _ p.0; early = no_left report q.0 }, is)
+    subst Good (same_some (Named report steps) t q.1) (record { fits = good; capacity = is_below _ _ p.0; early = no_left report q.0 }, is)
 step_keeps (Named report steps) (Stream1 mark) t good is e = subst Good (same_some (Heard report steps mark) t e) (good.0, good.1, is)
 step_keeps (Heard report steps stream1) (Stream2 mark) t good is e =
     subst Good (same_some (Body (with_command report (record { steps = steps; stream1 = stream1; stream2 = mark }))) t e) (command_is report steps stream1 mark good.0 good.1 good.2 is)
 step_keeps (Body report) (Left file) t good is e =
-    let p = if_some (ltb (length report.left) 4096) (cond (follows report.left file.name) (Some (Body (with_left report file))) None) t e in
+    let p = if_some (ltb (length report.left) most_names) (cond (follows report.left file.name) (Some (Body (with_left report file))) None) t e in
     let q = if_some (follows report.left file.name) (Some (Body (with_left report file))) t p.1 in
     subst Good (same_some (Body (with_left report file)) t q.1) (left_is report file good (is_below _ _ p.0) q.0 is)
 step_keeps (Body report) End t good is e = subst Good (same_some (Ended report) t e) good
@@ -176,10 +177,10 @@ lines_are report is =
     let files = map File report.files in
     let commands = flat_map command_block report.commands in
     let left = map Left report.left in
-    let front : All IsLine (Header ∷ Script report.script ∷ files) =
+    let prefix : All IsLine (Header ∷ Script report.script ∷ files) =
     All-cons IsLine Header (Script report.script ∷ files) tt (All-cons IsLine (Script report.script) files is.script (All-map IsLine File report.files is.each_file)) in
     let last : All IsLine (End ∷ []) = All-cons IsLine End [] tt (All-nil IsLine) in
     All-append IsLine ((Header ∷ Script report.script ∷ files) ++ commands ++ left) (End ∷ [])
     (All-append IsLine ((Header ∷ Script report.script ∷ files) ++ commands) left
-    (All-append IsLine (Header ∷ Script report.script ∷ files) commands front (commands_are report.commands is.each_command))
+    (All-append IsLine (Header ∷ Script report.script ∷ files) commands prefix (commands_are report.commands is.each_command))
     (All-map IsLine Left report.left is.each_left)) last

@@ -5,6 +5,7 @@ use Rattle.std.specs.List.{flat_map}
 use Rattle.std.proofs.lemmas.List.Elements.{All-head, All-tail}
 use Rattle.hex.specs.Hex.{encode_lower}
 use Rattle.ddc_base.specs.Lines.{line as line_text}
+use Rattle.ddc_base.specs.Limits.{most_report}
 use Rattle.report.specs.declared.types.LeftLine.{LeftLine}
 use Rattle.report.specs.declared.script.line.ScriptLine.{ScriptLine}
 use Rattle.report.specs.declared.script.line.ScriptLine.TheVariants.{Header, Script, File, Command, Stream1, Stream2, Left, End}
@@ -64,5 +65,5 @@ lines_few report is =
       is.few_left,
     )
 
-pub short : (report : ScriptReport) → IsScriptReport report → length (script_report_text report) < 1073741824
+pub short : (report : ScriptReport) → IsScriptReport report → length (script_report_text report) < most_report
 short report is = omega (arith, lines_short (script_report_lines report) (lines_are report is), lines_few report is)

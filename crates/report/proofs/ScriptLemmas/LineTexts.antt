@@ -4,6 +4,7 @@ use Rattle.std.specs.Prelude.{nat_le, ◌&&◌}
 use Rattle.std.proofs.lemmas.Bool.{and_parts}
 use Rattle.ddc_base.specs.Decimals.{as_decimal}
 use Rattle.ddc_base.specs.Lines.{line as line_text}
+use Rattle.ddc_base.specs.Limits.{most_steps}
 use Rattle.report.specs.declared.script.line.ScriptLine.{ScriptLine}
 use Rattle.report.specs.declared.script.line.ScriptLine.TheVariants.{Header, Script, File, Command, Stream1, Stream2, Left, End}
 use Rattle.report.specs.Inside.Cuts.{cut_at}
@@ -16,30 +17,30 @@ use Rattle.report.proofs.Cuts.{Without, Without-append, cut_at-joined, cut_at-ta
 use Rattle.report.proofs.FieldTexts.{at_most, tested, by_word, number, digest, digest_text, mark, mark_text, file_line, file_text, stream_line_takes}
 use Rattle.report.proofs.LineByLine.Rules.{line_is_next, next_is_line}
 use Rattle.report.proofs.Plain.{no_blank, no_feed, decimal_plain}
-use Rattle.report.proofs.Spelled.{Spells}
+use Rattle.report.proofs.Encoded.{Encodes}
 
 -- ---- steps
 
 abbrev pub IsSteps : ℕ → Type 0
-IsSteps steps = IsCount 1 (2 ^ 48) steps
+IsSteps steps = IsCount 1 most_steps steps
 
 steps_again : (n : ℕ) → IsSteps n → steps_of (decimal n) ≡ Some n
 unfolding steps_of
 steps_again n is =
     let small : n < 2 ^ 64 = omega (arith, is.1) in
-    rw (number.again n small, tested 1 n is.0, tested n (2 ^ 48) is.1) refl
+    rw (number.again n small, tested 1 n is.0, tested n most_steps is.1) refl
 
 steps_takes : (word : List ℕ) (n : ℕ) → steps_of word ≡ Some n → IsSteps n × (word ≡ decimal n)
 unfolding steps_of
 steps_takes word n e =
-    let x = bind_some (as_decimal word) (λ steps. cond (nat_le 1 steps && nat_le steps (2 ^ 48)) (Some steps) None) n e in
-    let p = if_some (nat_le 1 x.0 && nat_le x.0 (2 ^ 48)) (Some x.0) n x.2 in
-    let q = and_parts (nat_le 1 x.0) (nat_le x.0 (2 ^ 48)) p.0 in
+    let x = bind_some (as_decimal word) (λ steps. cond (nat_le 1 steps && nat_le steps most_steps) (Some steps) None) n e in
+    let p = if_some (nat_le 1 x.0 && nat_le x.0 most_steps) (Some x.0) n x.2 in
+    let q = and_parts (nat_le 1 x.0) (nat_le x.0 most_steps) p.0 in
     let same = same_some x.0 n p.1 in
-    let is : IsSteps x.0 = (at_most 1 x.0 q.0, at_most x.0 (2 ^ 48) q.1) in
+    let is : IsSteps x.0 = (at_most 1 x.0 q.0, at_most x.0 most_steps q.1) in
     (subst IsSteps same is, (number.takes word x.0 x.1).1 ∙ ap decimal same)
 
-steps : Spells IsSteps decimal steps_of
+steps : Encodes IsSteps decimal steps_of
 steps = record {
   again = steps_again;
   takes = steps_takes;
@@ -184,18 +185,18 @@ line_takes text l e =
 
 -- ---- lines with their LF
 
-spelled : (l : ScriptLine) → line_text (script_line_words l) ≡ text_of l ++ 10 ∷ []
-spelled Header = refl
-spelled (Script d) = refl
-spelled (File f) = simp append_assoc
-spelled (Command n) = refl
-spelled (Stream1 m) = simp append_assoc
-spelled (Stream2 m) = simp append_assoc
-spelled (Left f) = simp append_assoc
-spelled End = refl
+encoded : (l : ScriptLine) → line_text (script_line_words l) ≡ text_of l ++ 10 ∷ []
+encoded Header = refl
+encoded (Script d) = refl
+encoded (File f) = simp append_assoc
+encoded (Command n) = refl
+encoded (Stream1 m) = simp append_assoc
+encoded (Stream2 m) = simp append_assoc
+encoded (Left f) = simp append_assoc
+encoded End = refl
 
 pub next_again : (l : ScriptLine) (rest : List ℕ) → IsLine l → next_line line_of (line_text (script_line_words l) ++ rest) ≡ Some (l, rest)
-next_again l rest is = line_is_next line_of (script_line_words l) (text_of l) rest l (spelled l) (line_no_feed l is) (line_again l is)
+next_again l rest is = line_is_next line_of (script_line_words l) (text_of l) rest l (encoded l) (line_no_feed l is) (line_again l is)
 
 pub next_takes : (bytes : List ℕ) (l : ScriptLine) (rest : List ℕ) → next_line line_of bytes ≡ Some (l, rest) → IsLine l × (bytes ≡ line_text (script_line_words l) ++ rest)
-next_takes = next_is_line line_of script_line_words IsLine (λ text l e. (let found = line_takes text l e in (found.0, spelled l ∙ ap (λ (t : List ℕ). t ++ 10 ∷ []) (sym found.1))))
+next_takes = next_is_line line_of script_line_words IsLine (λ text l e. (let found = line_takes text l e in (found.0, encoded l ∙ ap (λ (t : List ℕ). t ++ 10 ∷ []) (sym found.1))))

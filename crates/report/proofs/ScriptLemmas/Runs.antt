@@ -3,6 +3,7 @@ use Rattle.std.proofs.Common.{◌≡◌, ◌+◌, ◌≤◌, true, List, [], ◌
 use Rattle.std.specs.List.{flat_map}
 use Rattle.std.proofs.lemmas.List.{append-nil}
 use Rattle.ddc_base.specs.declared.digests.Digest.{Digest}
+use Rattle.ddc_base.specs.Limits.{most_commands, most_files, most_names}
 use Rattle.report.specs.declared.types.LeftLine.{LeftLine}
 use Rattle.report.specs.declared.script.line.ScriptLine.{ScriptLine}
 use Rattle.report.specs.declared.script.line.ScriptLine.TheVariants.{File, Left, End}
@@ -22,37 +23,37 @@ abbrev run : ScriptState → List ScriptLine → Option ScriptState
 run state lines = runs step state lines
 
 -- two runs, one after the other
-then : (s t : ScriptState) (front more : List ScriptLine) → run s front ≡ Some t → run s (front ++ more) ≡ run t more
-then s t front more first = runs_then step s t front more first
+then : (s t : ScriptState) (prefix more : List ScriptLine) → run s prefix ≡ Some t → run s (prefix ++ more) ≡ run t more
+then s t prefix more first = runs_then step s t prefix more first
 
 -- the files, before anything else
-run_files : (script : Digest) (front more : List LeftLine) → length front + length more ≤ 4096
-    → run (Body (record { script = script; files = front; commands = []; left = [] })) (map File more)
-    ≡ Some (Body (record { script = script; files = front ++ more; commands = []; left = [] }))
+run_files : (script : Digest) (prefix more : List LeftLine) → length prefix + length more ≤ most_files
+    → run (Body (record { script = script; files = prefix; commands = []; left = [] })) (map File more)
+    ≡ Some (Body (record { script = script; files = prefix ++ more; commands = []; left = [] }))
 unfolding step
-run_files script front [] few = ap (λ (files : List LeftLine). Some (Body (record { script = script; files = files; commands = []; left = [] }))) (sym (append-nil front))
-run_files script front (file ∷ more) few =
-    rw (below (length front) 4096 (omega arith)) (run_files script (front ++ file ∷ []) more (omega (arith, length-append front (file ∷ [])))
-    ∙ ap (λ (files : List LeftLine). Some (Body (record { script = script; files = files; commands = []; left = [] }))) (append_assoc front (file ∷ []) more))
+run_files script prefix [] few = ap (λ (files : List LeftLine). Some (Body (record { script = script; files = files; commands = []; left = [] }))) (sym (append-nil prefix))
+run_files script prefix (file ∷ more) few =
+    rw (below (length prefix) most_files (omega arith)) (run_files script (prefix ++ file ∷ []) more (omega (arith, length-append prefix (file ∷ [])))
+    ∙ ap (λ (files : List LeftLine). Some (Body (record { script = script; files = files; commands = []; left = [] }))) (append_assoc prefix (file ∷ []) more))
 
-run_commands : (script : Digest) (files : List LeftLine) (front more : List CommandLine) → length front + length more ≤ 4096
-    → run (Body (record { script = script; files = files; commands = front; left = [] })) (flat_map command_block more)
-    ≡ Some (Body (record { script = script; files = files; commands = front ++ more; left = [] }))
+run_commands : (script : Digest) (files : List LeftLine) (prefix more : List CommandLine) → length prefix + length more ≤ most_commands
+    → run (Body (record { script = script; files = files; commands = prefix; left = [] })) (flat_map command_block more)
+    ≡ Some (Body (record { script = script; files = files; commands = prefix ++ more; left = [] }))
 unfolding step
-run_commands script files front [] few = ap (λ (commands : List CommandLine). Some (Body (record { script = script; files = files; commands = commands; left = [] }))) (sym (append-nil front))
-run_commands script files front (command ∷ more) few =
-    rw (below (length front) 4096 (omega arith)) (run_commands script files (front ++ command ∷ []) more (omega (arith, length-append front (command ∷ [])))
-    ∙ ap (λ (commands : List CommandLine). Some (Body (record { script = script; files = files; commands = commands; left = [] }))) (append_assoc front (command ∷ []) more))
+run_commands script files prefix [] few = ap (λ (commands : List CommandLine). Some (Body (record { script = script; files = files; commands = commands; left = [] }))) (sym (append-nil prefix))
+run_commands script files prefix (command ∷ more) few =
+    rw (below (length prefix) most_commands (omega arith)) (run_commands script files (prefix ++ command ∷ []) more (omega (arith, length-append prefix (command ∷ [])))
+    ∙ ap (λ (commands : List CommandLine). Some (Body (record { script = script; files = files; commands = commands; left = [] }))) (append_assoc prefix (command ∷ []) more))
 
-run_left : (script : Digest) (files : List LeftLine) (commands : List CommandLine) (front more : List LeftLine) → length front + length more ≤ 4096 → ascend (front ++ more) ≡ true
-    → run (Body (record { script = script; files = files; commands = commands; left = front })) (map Left more)
-    ≡ Some (Body (record { script = script; files = files; commands = commands; left = front ++ more }))
+run_left : (script : Digest) (files : List LeftLine) (commands : List CommandLine) (prefix more : List LeftLine) → length prefix + length more ≤ most_names → ascend (prefix ++ more) ≡ true
+    → run (Body (record { script = script; files = files; commands = commands; left = prefix })) (map Left more)
+    ≡ Some (Body (record { script = script; files = files; commands = commands; left = prefix ++ more }))
 unfolding step
-run_left script files commands front [] few ascending = ap (λ (left : List LeftLine). Some (Body (record { script = script; files = files; commands = commands; left = left }))) (sym (append-nil front))
-run_left script files commands front (file ∷ more) few ascending =
-    rw (below (length front) 4096 (omega arith), follows_last front file more ascending)
-    (run_left script files commands (front ++ file ∷ []) more (omega (arith, length-append front (file ∷ []))) (rw (append_assoc front (file ∷ []) more) ascending)
-    ∙ ap (λ (left : List LeftLine). Some (Body (record { script = script; files = files; commands = commands; left = left }))) (append_assoc front (file ∷ []) more))
+run_left script files commands prefix [] few ascending = ap (λ (left : List LeftLine). Some (Body (record { script = script; files = files; commands = commands; left = left }))) (sym (append-nil prefix))
+run_left script files commands prefix (file ∷ more) few ascending =
+    rw (below (length prefix) most_names (omega arith), follows_last prefix file more ascending)
+    (run_left script files commands (prefix ++ file ∷ []) more (omega (arith, length-append prefix (file ∷ []))) (rw (append_assoc prefix (file ∷ []) more) ascending)
+    ∙ ap (λ (left : List LeftLine). Some (Body (record { script = script; files = files; commands = commands; left = left }))) (append_assoc prefix (file ∷ []) more))
 
 pub run_report : (report : ScriptReport) → IsScriptReport report → run Start (script_report_lines report) ≡ Some (Ended report)
 unfolding step

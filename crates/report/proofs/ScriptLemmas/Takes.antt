@@ -4,6 +4,7 @@ use Rattle.std.specs.List.{flat_map}
 use Rattle.std.proofs.lemmas.Bool.{eqb-true}
 use Rattle.std.proofs.lemmas.Grind.{flat_map-append}
 use Rattle.std.proofs.lemmas.List.{append-nil, map_push}
+use Rattle.ddc_base.specs.Limits.{most_names}
 use Rattle.report.specs.declared.script.line.ScriptLine.{ScriptLine}
 use Rattle.report.specs.declared.script.line.ScriptLine.TheVariants.{Header, Script, File, Command, Stream1, Stream2, Left, End}
 use Rattle.report.specs.declared.script.types.CommandLine.{CommandLine}
@@ -35,29 +36,29 @@ grows : (s t : ScriptState) (line : ScriptLine) → Some t ≡ Some s → (ls : 
 grows s t line e ls is = ap so_far (sym (same_some t s e)) ∙ is
 
 -- no command and no file that is left
-pub record IsFront (report : ScriptReport) : Type 0 where
+pub record IsPrefix (report : ScriptReport) : Type 0 where
   pub commands : report.commands ≡ []
   pub left : report.left ≡ []
 
-pub is_front : (report : ScriptReport) → eqb (length report.commands + length report.left) 0 ≡ true → IsFront report
-is_front report e =
+pub is_prefix : (report : ScriptReport) → eqb (length report.commands + length report.left) 0 ≡ true → IsPrefix report
+is_prefix report e =
     let sum = eqb-true _ _ e in
     let no_commands : length report.commands ≡ 0 = omega (arith, sum) in
     let no_left : length report.left ≡ 0 = omega (arith, sum) in
     record { commands = none_of report.commands no_commands; left = none_of report.left no_left }
 
-front_lines : (report : ScriptReport) → IsFront report → body_lines report ≡ Header ∷ Script report.script ∷ map File report.files
-front_lines report front =
+prefix_lines : (report : ScriptReport) → IsPrefix report → body_lines report ≡ Header ∷ Script report.script ∷ map File report.files
+prefix_lines report prefix =
     let ls = Header ∷ Script report.script ∷ map File report.files in
-    ap (λ (cs : List CommandLine). ls ++ flat_map command_block cs ++ map Left report.left) front.commands
-    ∙ ap (λ (left : List LeftLine). ls ++ [] ++ map Left left) front.left
+    ap (λ (cs : List CommandLine). ls ++ flat_map command_block cs ++ map Left report.left) prefix.commands
+    ∙ ap (λ (left : List LeftLine). ls ++ [] ++ map Left left) prefix.left
     ∙ append-nil (ls ++ []) ∙ append-nil ls
 
-file_push : (report : ScriptReport) (file : LeftLine) → IsFront report → body_lines (with_file report file) ≡ body_lines report ++ File file ∷ []
-file_push report file front =
-    front_lines (with_file report file) (record { commands = front.commands; left = front.left })
+file_push : (report : ScriptReport) (file : LeftLine) → IsPrefix report → body_lines (with_file report file) ≡ body_lines report ++ File file ∷ []
+file_push report file prefix =
+    prefix_lines (with_file report file) (record { commands = prefix.commands; left = prefix.left })
     ∙ ap (λ (ls : List ScriptLine). Header ∷ Script report.script ∷ ls) (map_push File report.files file)
-    ∙ ap (λ (ls : List ScriptLine). ls ++ File file ∷ []) (sym (front_lines report front))
+    ∙ ap (λ (ls : List ScriptLine). ls ++ File file ∷ []) (sym (prefix_lines report prefix))
 
 -- where no file is left yet, a command's block stands at the end
 unleft : (report : ScriptReport) → report.left ≡ [] → body_lines report ≡ (Header ∷ Script report.script ∷ map File report.files) ++ flat_map command_block report.commands
@@ -75,7 +76,7 @@ command_push report command more none is =
     ap body_lines is ∙ unleft (record report { commands = report.commands ++ command ∷ [] }) none
     ∙ ap (λ (rest : List ScriptLine). ls ++ rest) pushed
     ∙ sym (append_assoc ls (flat_map command_block report.commands) (command_block command))
-    ∙ ap (λ (front : List ScriptLine). front ++ command_block command) (sym (unleft report none))
+    ∙ ap (λ (prefix : List ScriptLine). prefix ++ command_block command) (sym (unleft report none))
 
 left_push : (report : ScriptReport) (file : LeftLine) → body_lines (with_left report file) ≡ body_lines report ++ Left file ∷ []
 left_push report file =
@@ -97,11 +98,11 @@ unfolding step
 step_takes Start Header t early e = grows t Titled Header e [] refl
 step_takes Titled (Script digest) t early e = grows t (Body (record { script = digest; files = []; commands = []; left = [] })) (Script digest) e (Header ∷ []) refl
 step_takes (Body report) (File file) t early e =
-    let p = if_some (ltb (length report.files) 4096) (cond (eqb (length report.commands + length report.left) 0) (Some (Body (with_file report file))) None) t e in
+    let p = if_some (ltb (length report.files) most_names) (cond (eqb (length report.commands + length report.left) 0) (Some (Body (with_file report file))) None) t e in
     let q = if_some (eqb (length report.commands + length report.left) 0) (Some (Body (with_file report file))) t p.1 in
-    grows t (Body (with_file report file)) (File file) q.1 (body_lines report) (file_push report file (is_front report q.0))
+    grows t (Body (with_file report file)) (File file) q.1 (body_lines report) (file_push report file (is_prefix report q.0))
 step_takes (Body report) (Command steps) t early e =
-    let p = if_some (ltb (length report.commands) 4096) (cond (eqb (length report.left) 0) (Some (Named report steps)) None) t e in
+    let p = if_some (ltb (length report.commands) most_names) (cond (eqb (length report.left) 0) (Some (Named report steps)) None) t e in
     let q = if_some (eqb (length report.left) 0) (Some (Named report steps)) t p.1 in
     grows t (Named report steps) (Command steps) q.1 (body_lines report) refl
 step_takes (Named report steps) (Stream1 mark) t early e =
@@ -111,7 +112,7 @@ step_takes (Heard report steps stream1) (Stream2 mark) t early e =
     (command_push report (record { steps = steps; stream1 = stream1; stream2 = mark }) (with_command report (record { steps = steps; stream1 = stream1; stream2 = mark })) early refl
     ∙ sym (append_assoc (body_lines report) (Command steps ∷ Stream1 stream1 ∷ []) (Stream2 mark ∷ [])))
 step_takes (Body report) (Left file) t early e =
-    let p = if_some (ltb (length report.left) 4096) (cond (follows report.left file.name) (Some (Body (with_left report file))) None) t e in
+    let p = if_some (ltb (length report.left) most_names) (cond (follows report.left file.name) (Some (Body (with_left report file))) None) t e in
     let q = if_some (follows report.left file.name) (Some (Body (with_left report file))) t p.1 in
     grows t (Body (with_left report file)) (Left file) q.1 (body_lines report) (left_push report file)
 step_takes (Body report) End t early e = grows t (Ended report) End e (body_lines report) refl

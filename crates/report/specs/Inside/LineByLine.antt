@@ -46,7 +46,7 @@ abbrev pub read_all : {Line State Report : Type 0} → Reader Line State Report 
 read_all reader bytes = read_on reader (length bytes) 1 (reader.start, bytes)
 
 -- these bytes are left after n whole lines
-pub record Stands {Line State Report : Type 0} (reader : Reader Line State Report) (bytes : List ℕ) (n : ℕ) (state : State) (rest : List ℕ) : Type 0 where
+pub record HasRead {Line State Report : Type 0} (reader : Reader Line State Report) (bytes : List ℕ) (n : ℕ) (state : State) (rest : List ℕ) : Type 0 where
   pub there : after reader n bytes ≡ Some (state, rest)
 
 -- a report continues with the first lines, and with no further one

@@ -3,12 +3,13 @@ use Rattle.std.specs.Prelude.{ℕ, Bool, true, ◌-◌, nat_lt, List, [], ◌∷
 use Rattle.std.specs.Ordering.{nat_cmp, is_lt}
 use Rattle.std.specs.Cmp.Lexicographic.{slice_cmp}
 use Rattle.ddc_base.specs.declared.languages.Language.{Language}
+use Rattle.ddc_base.specs.Limits.{most_names}
 use Rattle.report.specs.declared.line.ReportLine.{ReportLine}
 use Rattle.report.specs.declared.line.ReportLine.TheVariants.{Header, Recipe, Input, Stage, Stream1, Stream2, Left, Made, Checked, Compare, End}
 use Rattle.report.specs.declared.types.Mark.{Mark}
 use Rattle.report.specs.declared.types.LeftLine.{LeftLine}
 use Rattle.report.specs.declared.types.StageLine.{StageLine}
-use Rattle.report.specs.declared.state.Front.{Front}
+use Rattle.report.specs.declared.state.Prefix.{Prefix}
 use Rattle.report.specs.Reports.{most_comparisons}
 use Rattle.report.specs.declared.state.Opened.{Opened}
 use Rattle.report.specs.declared.state.State.{State}
@@ -35,8 +36,8 @@ closed stage made checked = record {
 }
 
 -- one more stage
-abbrev pub with_stage : Front → StageLine → Front
-with_stage front stage = record front { stages = front.stages ++ stage ∷ [] }
+abbrev pub with_stage : Prefix → StageLine → Prefix
+with_stage prefix stage = record prefix { stages = prefix.stages ++ stage ∷ [] }
 
 -- the state after one more line
 unfoldable pub step : State → ReportLine → Option State
@@ -46,18 +47,18 @@ step (Inputs form recipe inputs) (Input input) =
     if nat_lt (length inputs) 256 then Some (Inputs form recipe (inputs ++ input ∷ [])) else None
 step (Inputs form recipe inputs) (Stage name steps) =
     if nat_lt 0 (length inputs) then Some (Named (record { form = form; recipe = recipe; inputs = inputs; stages = [] }) name steps) else None
-step (Named front name steps) (Stream1 mark) = Some (Heard front (record { name = name; steps = steps; stream1 = mark }))
-step (Heard front stage) (Stream2 mark) =
-    Some (Leaving front (record { name = stage.name; steps = stage.steps; stream1 = stage.stream1; stream2 = mark; left = [] }))
-step (Leaving front stage) (Left file) =
-    if nat_lt (length stage.left) 4096
-    then (if follows stage.left file.name then Some (Leaving front (record stage { left = stage.left ++ file ∷ [] })) else None)
+step (Named prefix name steps) (Stream1 mark) = Some (Heard prefix (record { name = name; steps = steps; stream1 = mark }))
+step (Heard prefix stage) (Stream2 mark) =
+    Some (Leaving prefix (record { name = stage.name; steps = stage.steps; stream1 = stage.stream1; stream2 = mark; left = [] }))
+step (Leaving prefix stage) (Left file) =
+    if nat_lt (length stage.left) most_names
+    then (if follows stage.left file.name then Some (Leaving prefix (record stage { left = stage.left ++ file ∷ [] })) else None)
     else None
-step (Leaving front stage) (Made mark) = Some (Closing front stage mark)
-step (Closing front stage made) (Checked checked) = Some (Stages (with_stage front (closed stage made checked)))
-step (Stages front) (Stage name steps) = if nat_lt (length front.stages) 256 then Some (Named front name steps) else None
-step (Stages front) (Compare compare) =
-    Some (Compared (record { form = front.form; recipe = front.recipe; inputs = front.inputs; stages = front.stages; compare = compare ∷ [] }))
+step (Leaving prefix stage) (Made mark) = Some (Closing prefix stage mark)
+step (Closing prefix stage made) (Checked checked) = Some (Stages (with_stage prefix (closed stage made checked)))
+step (Stages prefix) (Stage name steps) = if nat_lt (length prefix.stages) 256 then Some (Named prefix name steps) else None
+step (Stages prefix) (Compare compare) =
+    Some (Compared (record { form = prefix.form; recipe = prefix.recipe; inputs = prefix.inputs; stages = prefix.stages; compare = compare ∷ [] }))
 step (Compared report) (Compare compare) =
     if nat_lt (length report.compare) (most_comparisons report.form)
     then Some (Compared (record report { compare = report.compare ++ compare ∷ [] }))

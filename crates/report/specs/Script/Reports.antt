@@ -1,7 +1,8 @@
 -- Which reports of scripts are well-formed, their unique text, and the first fault of any other text. Digests are SHA-256 (FIPS 180-4).
 -- docs/reference/kaem-report.md is the page for readers.
-use Rattle.std.specs.Prelude.{◌≤◌, ◌^◌, ℕ, All, List, [], ◌∷◌, ◌++◌, length, map, IsTrue}
+use Rattle.std.specs.Prelude.{◌≤◌, ℕ, All, List, [], ◌∷◌, ◌++◌, length, map, IsTrue}
 use Rattle.std.specs.List.{flat_map}
+use Rattle.ddc_base.specs.Limits.{most_commands, most_files, most_names, most_steps}
 use Rattle.report.specs.Reports.{IsCount, IsDigest, IsLeft, IsMark, ascend}
 use Rattle.report.specs.Script.Lines.{script_line_words, script_lines_text}
 use Rattle.report.specs.Texts.{Texts}
@@ -27,17 +28,17 @@ script_report_text report = script_lines_text (script_report_lines report)
 -- ---- the well-formed reports
 
 pub record IsCommandLine (command : CommandLine) : Type 0 where
-  pub steps : IsCount 1 (2 ^ 48) command.steps
+  pub steps : IsCount 1 most_steps command.steps
   pub stream1 : IsMark command.stream1
   pub stream2 : IsMark command.stream2
 
 pub record IsScriptReport (report : ScriptReport) : Type 0 where
   pub script : IsDigest report.script
-  pub few_files : length report.files ≤ 4096
+  pub few_files : length report.files ≤ most_files
   pub each_file : All IsLeft report.files
-  pub few_commands : length report.commands ≤ 4096
+  pub few_commands : length report.commands ≤ most_commands
   pub each_command : All IsCommandLine report.commands
-  pub few_left : length report.left ≤ 4096
+  pub few_left : length report.left ≤ most_names
   pub each_left : All IsLeft report.left
   pub ascending : IsTrue (ascend report.left)
 

@@ -1,6 +1,7 @@
 //! Laws of the text of a script's report.
 
 ghost use Rattle.std.specs.Prelude.{◌≡◌, ◌<◌, ◌↔◌, ℕ, List, Result, Ok, length};
+ghost use Rattle.ddc_base.specs.Limits.{most_report};
 ghost use Rattle.report.specs.Script.Reading.{script_report_of};
 ghost use Rattle.report.specs.Script.Reports.{IsScriptReport, script_report_text, script_report_texts};
 ghost use Rattle.report.specs.Texts.{IsReading};
@@ -13,7 +14,7 @@ pub fn one_text()
 
 /// The text of a well-formed report has fewer than 2^30 bytes.
 pub fn short_text()
-    ensures { (report : ReportValue) → IsScriptReport report → length (script_report_text report) < 1_073_741_824 }
+    ensures { (report : ReportValue) → IsScriptReport report → length (script_report_text report) < most_report }
 {}
 
 /// A text has exactly one reading: the report with this text, or otherwise its first fault.

@@ -6,11 +6,9 @@ ghost use Rattle.report.specs.Inside.Script.Lines.{line_of, longer_line_of, line
 use crate::fields::{cut_at, digest_of, file_line_of, mark_of};
 use crate::types::{LeftLine, Mark};
 use ddc_base::digests::Digest;
+use ddc_base::limits::MOST_STEPS;
 use ddc_base::{OutOfMemory, read_decimal};
 use std::alloc::Global;
-
-/// The most steps of a command.
-const MOST_STEPS: u64 = 1 << 48;
 
 /// A line of a script's report.
 #[derive(Drop)]

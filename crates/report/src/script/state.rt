@@ -10,11 +10,9 @@ use crate::script::types::{CommandLine, ScriptReport};
 use crate::state::follows;
 use crate::types::{LeftLine, Mark};
 use ddc_base::digests::Digest;
+use ddc_base::limits::{MOST_COMMANDS, MOST_FILES, MOST_NAMES};
 use ddc_base::{ListOf, OutOfMemory};
 use std::alloc::Global;
-
-/// The most files, the most commands, and the most left files.
-const MANY: usize = 4096;
 
 /// The state of reading a script's report.
 #[derive(Drop)]
@@ -99,7 +97,7 @@ fn after_block(report: ScriptReport, line: ScriptLine) -> Result<Option<ScriptSt
 fn with_file(mut report: ScriptReport, file: LeftLine) -> Result<Option<ScriptState>, OutOfMemory>
     ensures { IfOk result (λ next. next ≡ step (state.Body report) (line.File file)) }
 {
-    if report.files.len() < MANY && report.commands.len() == 0 && report.left.len() == 0 {
+    if report.files.len() < MOST_FILES && report.commands.len() == 0 && report.left.len() == 0 {
         report.files.push(file)?;
         Ok(Some(ScriptState::Body(report)))
     } else {
@@ -111,7 +109,7 @@ fn with_file(mut report: ScriptReport, file: LeftLine) -> Result<Option<ScriptSt
 fn with_command(report: ScriptReport, steps: u64) -> Option<ScriptState>
     ensures { result ≡ step (state.Body report) (line.Command steps) }
 {
-    if report.commands.len() < MANY && report.left.len() == 0 {
+    if report.commands.len() < MOST_COMMANDS && report.left.len() == 0 {
         Some(ScriptState::Named(report, steps))
     } else {
         None
@@ -122,7 +120,7 @@ fn with_command(report: ScriptReport, steps: u64) -> Option<ScriptState>
 fn with_left(mut report: ScriptReport, file: LeftLine) -> Result<Option<ScriptState>, OutOfMemory>
     ensures { IfOk result (λ next. next ≡ step (state.Body report) (line.Left file)) }
 {
-    if report.left.len() < MANY && follows(report.left.as_slice(), file.name.as_slice()) {
+    if report.left.len() < MOST_NAMES && follows(report.left.as_slice(), file.name.as_slice()) {
         report.left.push(file)?;
         Ok(Some(ScriptState::Body(report)))
     } else {

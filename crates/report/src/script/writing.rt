@@ -3,6 +3,7 @@
 ghost use Rattle.std.specs.Prelude.{◌≡◌, ◌++◌, ◌∷◌, ◌<◌, map, length, OnOk, IfOk};
 ghost use Rattle.std.specs.List.{flat_map};
 ghost use Rattle.ddc_base.specs.Lines.{line as line_text};
+ghost use Rattle.ddc_base.specs.Limits.{most_report};
 ghost use Rattle.report.specs.Script.Lines.{script_line_words, script_lines_text};
 ghost use Rattle.report.specs.Script.Reports.{IsScriptReport, command_block, script_report_text};
 ghost use Rattle.report.specs.declared.script.line.ScriptLine.TheVariants as line;
@@ -16,17 +17,17 @@ use std::alloc::Global;
 
 /// Capacity for the lines around the files and commands, for a file's line without its name, and for a command's block.
 /// Lengths and steps have at most 20 digits.
-const FRONT_ROOM: usize = 96;
+const PREFIX_CAPACITY: usize = 96;
 
-const FILE_ROOM: usize = 92;
+const FILE_CAPACITY: usize = 92;
 
-const COMMAND_ROOM: usize = 224;
+const COMMAND_CAPACITY: usize = 224;
 
 /// The unique text of a well-formed report of a script. It has fewer than 2^30 bytes.
 pub fn write(alloc: Global, report: &ScriptReport) -> Result<Bytes, OutOfMemory>
     requires { IsScriptReport report.now }
     ensures value { IfOk result (λ text. text ≡ script_report_text report.now) }
-    ensures short { IfOk result (λ text. length text < 1_073_741_824) }
+    ensures short { IfOk result (λ text. length text < most_report) }
 {
     text_of(alloc, report)
 }
@@ -34,8 +35,8 @@ pub fn write(alloc: Global, report: &ScriptReport) -> Result<Bytes, OutOfMemory>
 fn text_of(alloc: Global, report: &ScriptReport) -> Result<Bytes, OutOfMemory>
     ensures { IfOk result (λ text. text ≡ script_report_text report.now) }
 {
-    let mut out = Bytes::with_capacity(alloc, room(report))?;
-    put_front(&mut out, &report.script, report.files.as_slice())?;
+    let mut out = Bytes::with_capacity(alloc, capacity(report))?;
+    put_prefix(&mut out, &report.script, report.files.as_slice())?;
     put_commands(&mut out, report.commands.as_slice())?;
     put_left_files(&mut out, report.left.as_slice())?;
     out.extend(b"end\n")?;
@@ -43,25 +44,25 @@ fn text_of(alloc: Global, report: &ScriptReport) -> Result<Bytes, OutOfMemory>
 }
 
 /// Capacity for a report's text, so that it is not moved as it grows. It is little more than needed.
-fn room(report: &ScriptReport) -> usize {
-    let commands = report.commands.len().saturating_mul(COMMAND_ROOM);
-    FRONT_ROOM
+fn capacity(report: &ScriptReport) -> usize {
+    let commands = report.commands.len().saturating_mul(COMMAND_CAPACITY);
+    PREFIX_CAPACITY
         .saturating_add(commands)
-        .saturating_add(files_room(report.files.as_slice()))
-        .saturating_add(files_room(report.left.as_slice()))
+        .saturating_add(files_capacity(report.files.as_slice()))
+        .saturating_add(files_capacity(report.left.as_slice()))
 }
 
-fn files_room(files: &[LeftLine]) -> usize {
-    let mut room: usize = 0;
+fn files_capacity(files: &[LeftLine]) -> usize {
+    let mut capacity: usize = 0;
     for file in files {
         let name = file.name.len().saturating_mul(2);
-        room = room.saturating_add(FILE_ROOM).saturating_add(name);
+        capacity = capacity.saturating_add(FILE_CAPACITY).saturating_add(name);
     }
-    room
+    capacity
 }
 
 /// Writes the lines above the commands.
-fn put_front(out: &mut Bytes, script: &Digest, files: &[LeftLine]) -> Result<(), OutOfMemory>
+fn put_prefix(out: &mut Bytes, script: &Digest, files: &[LeftLine]) -> Result<(), OutOfMemory>
     ensures { OnOk result (out.new ≡ out.old ++ script_lines_text (line.Header ∷ line.Script script.now ∷ map line.File files.now)) }
 {
     out.extend(b"kaem-report 1\n")?;

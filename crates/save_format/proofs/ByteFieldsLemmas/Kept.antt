@@ -12,7 +12,7 @@ kept_more old new more is = rw is (take_at old more (length old) refl)
 pub kept_on : (old mid new more : List ℕ) → StartsWith mid old → new ≡ mid ++ more → StartsWith new old
 kept_on old mid new more kept is =
     let size = ap length kept in
-    let front = length-take (length old) mid in
+    let prefix = length-take (length old) mid in
     let fits : length old ≤ length mid = omega arith in
     rw is (take-append-le (length old) mid more fits ∙ kept)
 

@@ -10,7 +10,7 @@ use Rattle.save_format.specs.declared.parts.StagePart.{StagePart}
 use Rattle.save_format.specs.DeltaText.Inside.Relative.{IsLeftNext}
 use Rattle.save_format.specs.DeltaText.Stages.{equal_lefts}
 use Rattle.save_format.specs.SaveText.{after_left, saved_left_at}
-use Rattle.save_format.proofs.ByteFieldsLemmas.Loop.{goes_on, is_done, with_front}
+use Rattle.save_format.proofs.ByteFieldsLemmas.Loop.{goes_on, is_done, with_prefix}
 
 -- a base's stages are as many as they are seen
 pub count_seen : (base : List StagePart) → length (map stage_view base) ≡ length base
@@ -23,9 +23,9 @@ joined_seen kept base further joined is =
 
 -- some lines were read, which are those of the base as far as they go
 pub record Relative (known : List LeftLine) (index : ℕ) (same : Bool) (count : ℕ) (last : Option (List ℕ)) (left : List ℕ) (total : Read (List LeftLine)) : Type 0 where
-  pub front : List LeftLine
-  pub read : with_front front (several saved_left_at after_left last count left) ≡ total
-  pub sames : (rest : List LeftLine) → equal_lefts known (front ++ rest) ≡ (same && equal_lefts (drop index known) rest)
+  pub prefix : List LeftLine
+  pub read : with_prefix prefix (several saved_left_at after_left last count left) ≡ total
+  pub sames : (rest : List LeftLine) → equal_lefts known (prefix ++ rest) ≡ (same && equal_lefts (drop index known) rest)
 
 next_left : (files : List LeftLine) (line : LeftLine) (rest : List LeftLine) (next : Bool) → IsLeftNext files line next → equal_lefts files (line ∷ rest) ≡ (next && equal_lefts (drop 1 files) rest)
 next_left [] line rest next is = ap (λ b. b && equal_lefts [] rest) (sym is)
@@ -40,12 +40,12 @@ after_next known index = drop-drop 1 index known ∙ ap (λ n. drop n known) (om
 
 pub sets_out : (known : List LeftLine) (count : ℕ) (left : List ℕ) → Relative known 0 true (count - 0) None left (several saved_left_at after_left None count left)
 sets_out known count left = record {
-  front = [];
+  prefix = [];
   read = by (several saved_left_at after_left None (count - 0) left) ∙ ap (λ n. several saved_left_at after_left None n left) (omega arith);
   sames = λ rest. refl;
 }
   where
-    by : (read : Read (List LeftLine)) → with_front [] read ≡ read
+    by : (read : Read (List LeftLine)) → with_prefix [] read ≡ read
     by (Ok r) = refl
     by (Err at) = refl
 
@@ -53,10 +53,10 @@ pub went_on : (known : List LeftLine) (index count : ℕ) (same next : Bool) (la
     → saved_left_at last left ≡ Ok (line, following) → after_left line ≡ after → IsLeftNext (drop index known) line next
     → Relative known index same (count - index) last left total → Relative known (index + 1) (same && next) (count - (index + 1)) after following total
 went_on known index count same next last after left following line total lt read is left_is b = record {
-  front = b.front ++ line ∷ [];
-  read = goes_on saved_left_at after_left last after b.front count index left line following total lt read is b.read;
+  prefix = b.prefix ++ line ∷ [];
+  read = goes_on saved_left_at after_left last after b.prefix count index left line following total lt read is b.read;
   sames = λ rest.
-      ap (equal_lefts known) (append_assoc b.front (line ∷ []) rest) ∙ b.sames (line ∷ rest)
+      ap (equal_lefts known) (append_assoc b.prefix (line ∷ []) rest) ∙ b.sames (line ∷ rest)
       ∙ ap (λ c. same && c) (next_left (drop index known) line rest next left_is)
       ∙ both_and same next (equal_lefts (drop 1 (drop index known)) rest)
       ∙ ap (λ (files : List LeftLine). (same && next) && equal_lefts files rest) (after_next known index);
@@ -83,7 +83,7 @@ pub is_past : (known : List LeftLine) (index count : ℕ) (same : Bool) (last : 
     → Relative known index same (count - index) last left total
     → (lines : List LeftLine) × (total ≡ Ok (lines, left)) × ((same && nat_le (length known) count) ≡ equal_lefts known lines)
 is_past known index count same last left total le ge b = (
-  b.front,
-  is_done saved_left_at after_left last b.front count index left total le b.read,
-  ap (λ c. same && c) (sym (all_reached known count)) ∙ ap (λ (n : ℕ). same && equal_lefts (drop n known) []) (omega (arith, le, ge)) ∙ sym (b.sames []) ∙ ap (equal_lefts known) (append-nil b.front),
+  b.prefix,
+  is_done saved_left_at after_left last b.prefix count index left total le b.read,
+  ap (λ c. same && c) (sym (all_reached known count)) ∙ ap (λ (n : ℕ). same && equal_lefts (drop n known) []) (omega (arith, le, ge)) ∙ sym (b.sames []) ∙ ap (equal_lefts known) (append-nil b.prefix),
 )

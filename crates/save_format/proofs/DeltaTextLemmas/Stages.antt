@@ -6,12 +6,12 @@ use Rattle.std.specs.Cmp.Lexicographic.{same_text, nat_list_eq_equiv}
 use Rattle.std.proofs.lemmas.List.{append-nil}
 use Rattle.std.proofs.lemmas.List.Elements.{All-head, All-tail, All-cons, All-nil}
 use Rattle.save_format.specs.ByteFields.Spelling.{InTurn, list_text, number_text}
-use Rattle.save_format.proofs.ByteFieldsLemmas.Spells.{Spells, all_read, spells, spells_counted, spells_that, spells_u32, then}
+use Rattle.save_format.proofs.ByteFieldsLemmas.Encodes.{Encodes, all_read, encodes, encodes_counted, encodes_that, encodes_u32, then}
 use Rattle.report.specs.declared.types.LeftLine.{LeftLine}
 use Rattle.report.specs.declared.types.Mark.{Mark}
 use Rattle.save_format.specs.SaveText.{StageText}
-use Rattle.save_format.specs.Spelled.{IsStageText, stage_text}
-use Rattle.save_format.proofs.Texts.{spells_stage}
+use Rattle.save_format.specs.Encoded.{IsStageText, stage_text}
+use Rattle.save_format.proofs.Texts.{encodes_stage}
 use Rattle.save_format.specs.DeltaText.Stages.{AreStagesRelative, after_further, further_at, is_other_stage, kept_stages, equal_left, equal_lefts, equal_marks, equal_stages, stages_relative_at, stages_relative_text}
 
 not_true : (b : Bool) → not b ≡ true → b ≡ false
@@ -83,9 +83,9 @@ same_self stage = rw (eq-eqb stage.steps stage.steps refl, mark_self stage.strea
 abbrev IsFurther : Option StageText → StageText → Type 0
 IsFurther known stage = IsStageText stage × (is_other_stage known stage ≡ true)
 
-spells_further : (known : Option StageText) → Spells (further_at known) stage_text (IsFurther known)
+encodes_further : (known : Option StageText) → Encodes (further_at known) stage_text (IsFurther known)
 unfolding further_at
-spells_further known = spells_that (is_other_stage known) (spells_stage 0)
+encodes_further known = encodes_that (is_other_stage known) (encodes_stage 0)
 
 -- the first of them is another than the base's
 abbrev FirstOther : Option StageText → List StageText → Type 0
@@ -111,11 +111,11 @@ first_in_turn known (stage ∷ stages) turn = turn.0.1
 -- ---- what is kept
 
 -- what is kept of the base stands in front of the stages
-kept_front : (base stages : List StageText) → All IsStageText base → All IsStageText stages → take (kept_stages base stages) base ++ drop (kept_stages base stages) stages ≡ stages
+kept_header : (base stages : List StageText) → All IsStageText base → All IsStageText stages → take (kept_stages base stages) base ++ drop (kept_stages base stages) stages ≡ stages
 unfolding kept_stages
-kept_front [] stages b s = refl
-kept_front (known ∷ more) [] b s = refl
-kept_front (known ∷ more) (stage ∷ stages) b s = by (equal_stages known stage) refl (kept_front more stages (All-tail IsStageText known more b) (All-tail IsStageText stage stages s))
+kept_header [] stages b s = refl
+kept_header (known ∷ more) [] b s = refl
+kept_header (known ∷ more) (stage ∷ stages) b s = by (equal_stages known stage) refl (kept_header more stages (All-tail IsStageText known more b) (All-tail IsStageText stage stages s))
   where
     by : (c : Bool) → equal_stages known stage ≡ c → take (kept_stages more stages) more ++ drop (kept_stages more stages) stages ≡ stages
         → take (cond c (suc (kept_stages more stages)) 0) (known ∷ more) ++ drop (cond c (suc (kept_stages more stages)) 0) (stage ∷ stages) ≡ stage ∷ stages
@@ -169,16 +169,16 @@ all_after (suc kept) (stage ∷ stages) s = all_after kept stages (All-tail IsSt
 
 -- ---- the law
 
-pub spells_stages : (base : List StageText) → All IsStageText base → Spells (stages_relative_at base) (stages_relative_text base) (AreStagesRelative base)
+pub encodes_stages : (base : List StageText) → All IsStageText base → Encodes (stages_relative_at base) (stages_relative_text base) (AreStagesRelative base)
 unfolding stages_relative_at
-spells_stages base b =
-    spells (
-    then {G = λ stages. length (drop (kept_stages base stages) stages) < 2 ^ 32} {K = All IsStageText} (kept_stages base) (spells_that (λ kept. nat_le kept (length base)) spells_u32) (λ kept f.
-    spells (
-    then {K = λ stages. All IsStageText stages × (kept ≡ kept_stages base stages)} (λ stages. drop kept stages) (spells_counted after_further spells_further (slice_get base kept)) (λ further g.
+encodes_stages base b =
+    encodes (
+    then {G = λ stages. length (drop (kept_stages base stages) stages) < 2 ^ 32} {K = All IsStageText} (kept_stages base) (encodes_that (λ kept. nat_le kept (length base)) encodes_u32) (λ kept f.
+    encodes (
+    then {K = λ stages. All IsStageText stages × (kept ≡ kept_stages base stages)} (λ stages. drop kept stages) (encodes_counted after_further encodes_further (slice_get base kept)) (λ further g.
     let made = made_kept base further kept (leb-true _ _ f.1) (first_in_turn (slice_get base kept) further g.1) in
     all_read (take kept base ++ further)
-    (λ stages k. ap (λ (v : List StageText). take kept base ++ v) k.1 ∙ ap (λ (n : ℕ). take n base ++ drop n stages) k.0.1 ∙ kept_front base stages b k.0.0)
+    (λ stages k. ap (λ (v : List StageText). take kept base ++ v) k.1 ∙ ap (λ (n : ℕ). take n base ++ drop n stages) k.0.1 ∙ kept_header base stages b k.0.0)
     ((all_kept base further kept b (all_in_turn (slice_get base kept) further g.1), sym made.0), sym made.1)))
     (λ stages g. ap (λ (n : ℕ). list_text stage_text (drop n stages) ++ []) g.0.1)
     (λ stages g. (g.0, subst (λ (n : ℕ). length (drop n stages) < 2 ^ 32) g.0.1 g.1.0.0))

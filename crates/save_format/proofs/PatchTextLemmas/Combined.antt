@@ -7,7 +7,7 @@ use Rattle.save_format.specs.PatchText.Numbered.{with_item}
 use Rattle.save_format.specs.PatchText.Seen.{bytes_in}
 use Rattle.save_format.specs.StateText.StateText.{PageText}
 use Rattle.save_format.specs.PatchText.PatchText.{PageChange, bytes_changed_by, page_of}
-use Rattle.save_format.specs.PatchText.Spelled.{page_change_of}
+use Rattle.save_format.specs.PatchText.Encoded.{page_change_of}
 
 abbrev pub change_from : ℕ → Option PageText → Option PageText → Option PageChange
 change_from number known found = page_change_of number (option_map (λ page. page.bytes) known) (option_map (λ page. page.bytes) found)

@@ -2,7 +2,7 @@
 use Rattle.std.proofs.Common.{◌≡◌, ℕ, zero, suc, ◌+◌, ◌-◌, ◌<◌, ◌≤◌, Option, None, Some, List, [], ◌∷◌, ◌++◌, map, min, refl, sym, ap, subst, ◌∙◌, arith, append_assoc}
 use Rattle.std.proofs.lemmas.List.{append-nil}
 use Rattle.std.proofs.lemmas.Option.{none-some, same_Some}
-use Rattle.save_format.specs.PatchText.Inside.Walking.{IsFront, Rises, SameFrom, lowest_of}
+use Rattle.save_format.specs.PatchText.Inside.Walking.{IsFirst, Rises, SameFrom, lowest_of}
 use Rattle.save_format.specs.PatchText.Numbered.{items_from, item_numbered, with_item}
 use Rattle.save_format.proofs.PatchTextLemmas.Rising.{none_below}
 
@@ -24,9 +24,9 @@ one_from : {C : Type 0} (item : ℕ → Option C) (n count after : ℕ) → coun
 unfolding items_from
 one_from item n count after e = same_from item n n count (suc after) refl e
 
-one_more : {C : Type 0} (front rest : List C) (o : Option C) → front ++ with_item o rest ≡ (front ++ with_item o []) ++ rest
-one_more front rest None = ap (λ v. v ++ rest) (sym (append-nil front))
-one_more front rest (Some x) = sym (append_assoc front (x ∷ []) rest)
+one_more : {C : Type 0} (prefix rest : List C) (o : Option C) → prefix ++ with_item o rest ≡ (prefix ++ with_item o []) ++ rest
+one_more prefix rest None = ap (λ v. v ++ rest) (sym (append-nil prefix))
+one_more prefix rest (Some x) = sym (append_assoc prefix (x ∷ []) rest)
 
 nothing_from : {C : Type 0} (item : ℕ → Option C) (n : ℕ) → items_from item n 0 ≡ []
 unfolding items_from
@@ -34,9 +34,9 @@ nothing_from item n = refl
 
 -- ---- the fronts
 
-pub front_seen : {T A : Type 0} (of : A → ℕ) (seen : T → A) (xs : List T) (o : Option ℕ) → IsFront (λ x. of (seen x)) xs o → IsFront of (map seen xs) o
-front_seen of seen [] o f = f
-front_seen of seen (x ∷ xs) o f = f
+pub first_seen : {T A : Type 0} (of : A → ℕ) (seen : T → A) (xs : List T) (o : Option ℕ) → IsFirst (λ x. of (seen x)) xs o → IsFirst of (map seen xs) o
+first_seen of seen [] o f = f
+first_seen of seen (x ∷ xs) o f = f
 
 nothing_low : (a b : Option ℕ) → None ≡ lowest_of a b → (a ≡ None) × (b ≡ None)
 nothing_low None None e = (refl, refl)
@@ -44,9 +44,9 @@ nothing_low None (Some b) e = absurd (none-some b e)
 nothing_low (Some a) None e = absurd (none-some a e)
 nothing_low (Some a) (Some b) e = absurd (none-some (min a b) e)
 
-no_front : {A : Type 0} (of : A → ℕ) (xs : List A) (o : Option ℕ) → IsFront of xs o → o ≡ None → xs ≡ []
-no_front of [] o f e = refl
-no_front of (x ∷ xs) o f e = absurd (none-some (of x) (sym e ∙ f))
+no_first : {A : Type 0} (of : A → ℕ) (xs : List A) (o : Option ℕ) → IsFirst of xs o → o ≡ None → xs ≡ []
+no_first of [] o f e = refl
+no_first of (x ∷ xs) o f e = absurd (none-some (of x) (sym e ∙ f))
 
 -- a number that no first one is below
 IsUnder : ℕ → Option ℕ → Type 0
@@ -61,10 +61,10 @@ lowest_under (Some a) (Some b) n e =
     let is : n ≡ min a b = same_Some n (min a b) e in
     (λ m f. omega (arith, is, same_Some a m f), λ m f. omega (arith, is, same_Some b m f))
 
-rises_front : {A : Type 0} (of : A → ℕ) (xs : List A) (o : Option ℕ) (least n : ℕ) → IsFront of xs o → IsUnder n o → Rises of least xs → Rises of n xs
+rises_first : {A : Type 0} (of : A → ℕ) (xs : List A) (o : Option ℕ) (least n : ℕ) → IsFirst of xs o → IsUnder n o → Rises of least xs → Rises of n xs
 unfolding IsUnder
-rises_front of [] o least n f under rises = tt
-rises_front of (x ∷ xs) o least n f under rises = (under (of x) f, rises.1)
+rises_first of [] o least n f under rises = tt
+rises_first of (x ∷ xs) o least n f under rises = (under (of x) f, rises.1)
 
 lowest_of_two : (a b : Option ℕ) (n least : ℕ) → Some n ≡ lowest_of a b → ((m : ℕ) → a ≡ Some m → least ≤ m) → ((m : ℕ) → b ≡ Some m → least ≤ m) → least ≤ n
 lowest_of_two None None n least e under_a under_b = absurd (none-some n (sym e))
@@ -72,9 +72,9 @@ lowest_of_two None (Some b) n least e under_a under_b = omega (arith, same_Some 
 lowest_of_two (Some a) None n least e under_a under_b = omega (arith, same_Some n a e, under_a a refl)
 lowest_of_two (Some a) (Some b) n least e under_a under_b = let is : n ≡ min a b = same_Some n (min a b) e in omega (arith, is, under_a a refl, under_b b refl)
 
-front_low : {A : Type 0} (of : A → ℕ) (xs : List A) (o : Option ℕ) (least : ℕ) → IsFront of xs o → Rises of least xs → (m : ℕ) → o ≡ Some m → least ≤ m
-front_low of [] o least f rises m e = absurd (none-some m (sym f ∙ e))
-front_low of (x ∷ xs) o least f rises m e = omega (arith, rises.0, same_Some (of x) m (sym f ∙ e))
+first_low : {A : Type 0} (of : A → ℕ) (xs : List A) (o : Option ℕ) (least : ℕ) → IsFirst of xs o → Rises of least xs → (m : ℕ) → o ≡ Some m → least ≤ m
+first_low of [] o least f rises m e = absurd (none-some m (sym f ∙ e))
+first_low of (x ∷ xs) o least f rises m e = omega (arith, rises.0, same_Some (of x) m (sym f ∙ e))
 
 -- ---- the walk
 
@@ -83,13 +83,13 @@ module _ {A B C : Type 0} (of_a : A → ℕ) (of_b : B → ℕ) (combine : ℕ �
   item_in base other k = combine k (item_numbered of_a base k) (item_numbered of_b other k)
 
   -- what was combined so far, and what is left of both lists, from a number on
-  pub record Walks (base : List A) (other : List B) (total : List C) (front : List C) (xs : List A) (ys : List B) (least : ℕ) : Type 0 where
+  pub record Walks (base : List A) (other : List B) (total : List C) (prefix : List C) (xs : List A) (ys : List B) (least : ℕ) : Type 0 where
     pub low : least ≤ high
     pub rises_a : Rises of_a least xs
     pub same_a : SameFrom of_a least base xs
     pub rises_b : Rises of_b least ys
     pub same_b : SameFrom of_b least other ys
-    pub so_far : front ++ items_from (item_in base other) least (high - least) ≡ total
+    pub so_far : prefix ++ items_from (item_in base other) least (high - least) ≡ total
 
   pub begins : (base : List A) (other : List B) → Rises of_a 0 base → Rises of_b 0 other → Walks base other (items_from (item_in base other) 0 high) [] base other 0
   begins base other ra rb = record {
@@ -107,13 +107,13 @@ module _ {A B C : Type 0} (of_a : A → ℕ) (of_b : B → ℕ) (combine : ℕ �
     pub rises_a : Rises of_a n xs
     pub rises_b : Rises of_b n ys
 
-  pub next_is : (xs : List A) (ys : List B) (a b : Option ℕ) (least n : ℕ) → Rises of_a least xs → Rises of_b least ys → IsFront of_a xs a → IsFront of_b ys b → Some n ≡ lowest_of a b → IsNext xs ys least n
+  pub next_is : (xs : List A) (ys : List B) (a b : Option ℕ) (least n : ℕ) → Rises of_a least xs → Rises of_b least ys → IsFirst of_a xs a → IsFirst of_b ys b → Some n ≡ lowest_of a b → IsNext xs ys least n
   next_is xs ys a b least n ra rb fa fb e =
       let under = lowest_under a b n e in
       record {
-        from = lowest_of_two a b n least e (front_low of_a xs a least fa ra) (front_low of_b ys b least fb rb);
-        rises_a = rises_front of_a xs a least n fa under.0 ra;
-        rises_b = rises_front of_b ys b least n fb under.1 rb;
+        from = lowest_of_two a b n least e (first_low of_a xs a least fa ra) (first_low of_b ys b least fb rb);
+        rises_a = rises_first of_a xs a least n fa under.0 ra;
+        rises_b = rises_first of_b ys b least n fb under.1 rb;
       }
 
   empty_at : (base : List A) (other : List B) (xs : List A) (ys : List B) (least n k : ℕ) → SameFrom of_a least base xs → SameFrom of_b least other ys → Rises of_a n xs → Rises of_b n ys → least ≤ k → k < n → item_in base other k ≡ None
@@ -121,10 +121,10 @@ module _ {A B C : Type 0} (of_a : A → ℕ) (of_b : B → ℕ) (combine : ℕ �
       ap (λ o. combine k o (item_numbered of_b other k)) (sym (sa k le) ∙ none_below of_a n k xs ra lt)
       ∙ ap (combine k None) (sym (sb k le) ∙ none_below of_b n k ys rb lt) ∙ none k
 
-  pub steps_on : (base : List A) (other : List B) (total front after : List C) (xs later_xs : List A) (ys later_ys : List B) (least n : ℕ) → n < high → IsNext xs ys least n → Walks base other total front xs ys least
+  pub steps_on : (base : List A) (other : List B) (total prefix after : List C) (xs later_xs : List A) (ys later_ys : List B) (least n : ℕ) → n < high → IsNext xs ys least n → Walks base other total prefix xs ys least
       → Rises of_a (n + 1) later_xs → SameFrom of_a (n + 1) xs later_xs → Rises of_b (n + 1) later_ys → SameFrom of_b (n + 1) ys later_ys
-      → after ≡ front ++ with_item (combine n (item_numbered of_a xs n) (item_numbered of_b ys n)) [] → Walks base other total after later_xs later_ys (n + 1)
-  steps_on base other total front after xs later_xs ys later_ys least n lt next w ra sa rb sb e =
+      → after ≡ prefix ++ with_item (combine n (item_numbered of_a xs n) (item_numbered of_b ys n)) [] → Walks base other total after later_xs later_ys (n + 1)
+  steps_on base other total prefix after xs later_xs ys later_ys least n lt next w ra sa rb sb e =
       let item = item_in base other in
       let gap : items_from item least (high - least) ≡ items_from item n (high - n) =
       skipped item (n - least) least (high - n) (high - least) (omega (arith, next.from, lt)) (λ k le below. empty_at base other xs ys least n k w.same_a w.same_b next.rises_a next.rises_b le (omega (arith, below, next.from)))
@@ -139,17 +139,17 @@ module _ {A B C : Type 0} (of_a : A → ℕ) (of_b : B → ℕ) (combine : ℕ �
         same_a = λ k le. sa k le ∙ w.same_a k (omega (arith, le, next.from));
         rises_b = rb;
         same_b = λ k le. sb k le ∙ w.same_b k (omega (arith, le, next.from));
-        so_far = ap (λ v. v ++ rest) e ∙ sym (one_more front rest (combine n (item_numbered of_a xs n) (item_numbered of_b ys n)))
-            ∙ ap (λ o. front ++ with_item o rest) (sym here) ∙ ap (λ v. front ++ v) (sym one ∙ sym gap) ∙ w.so_far;
+        so_far = ap (λ v. v ++ rest) e ∙ sym (one_more prefix rest (combine n (item_numbered of_a xs n) (item_numbered of_b ys n)))
+            ∙ ap (λ o. prefix ++ with_item o rest) (sym here) ∙ ap (λ v. prefix ++ v) (sym one ∙ sym gap) ∙ w.so_far;
       }
 
-  pub ends_there : (base : List A) (other : List B) (total front : List C) (xs : List A) (ys : List B) (least : ℕ) (a b : Option ℕ) → Walks base other total front xs ys least → IsFront of_a xs a → IsFront of_b ys b → None ≡ lowest_of a b → front ≡ total
-  ends_there base other total front xs ys least a b w fa fb e =
+  pub ends_there : (base : List A) (other : List B) (total prefix : List C) (xs : List A) (ys : List B) (least : ℕ) (a b : Option ℕ) → Walks base other total prefix xs ys least → IsFirst of_a xs a → IsFirst of_b ys b → None ≡ lowest_of a b → prefix ≡ total
+  ends_there base other total prefix xs ys least a b w fa fb e =
       let nothing = nothing_low a b e in
-      let no_xs : xs ≡ [] = no_front of_a xs a fa nothing.0 in
-      let no_ys : ys ≡ [] = no_front of_b ys b fb nothing.1 in
+      let no_xs : xs ≡ [] = no_first of_a xs a fa nothing.0 in
+      let no_ys : ys ≡ [] = no_first of_b ys b fb nothing.1 in
       let item = item_in base other in
       let none_left : items_from item least (high - least) ≡ [] =
       skipped item (high - least) least 0 (high - least) (omega arith) (λ k le lt. empty_at base other xs ys least high k w.same_a w.same_b (subst (λ v. Rises of_a high v) (sym no_xs) tt) (subst (λ v. Rises of_b high v) (sym no_ys) tt) le (omega (arith, lt, w.low)))
       ∙ nothing_from item (least + (high - least)) in
-      sym (append-nil front) ∙ ap (λ v. front ++ v) (sym none_left) ∙ w.so_far
+      sym (append-nil prefix) ∙ ap (λ v. prefix ++ v) (sym none_left) ∙ w.so_far

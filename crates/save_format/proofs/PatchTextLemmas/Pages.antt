@@ -4,11 +4,11 @@ use Rattle.std.specs.Cmp.Lexicographic.{same_text, nat_list_eq_equiv}
 use Rattle.std.proofs.lemmas.Option.{none-some, same_Some}
 use Rattle.save_format.specs.ByteFields.Spelling.{InTurn}
 use Rattle.save_format.specs.StateText.StateText.{PageText, after_page, is_page}
-use Rattle.save_format.specs.StateText.Spelled.{IsPage}
+use Rattle.save_format.specs.StateText.Encoded.{IsPage}
 use Rattle.save_format.specs.PatchText.Inside.Walking.{Rises}
 use Rattle.save_format.specs.PatchText.Numbered.{items_from, item_numbered}
 use Rattle.save_format.specs.PatchText.PatchText.{PageChange, after_change, changed_pages, bytes_changed_by, is_new, page_in, page_of, equal_contents}
-use Rattle.save_format.specs.PatchText.Spelled.{page_change_of, page_changes}
+use Rattle.save_format.specs.PatchText.Encoded.{page_change_of, page_changes}
 use Rattle.save_format.proofs.PatchTextLemmas.Rising.{has_number, item_at, items_again, items_fit}
 
 -- ---- the same, or not

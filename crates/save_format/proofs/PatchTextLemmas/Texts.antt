@@ -4,19 +4,19 @@ use Rattle.std.specs.Int.{w16, w32}
 use Rattle.std.proofs.lemmas.List.{append-nil}
 use Rattle.std.proofs.lemmas.Option.{same_Some}
 use Rattle.save_format.specs.ByteFields.Spelling.{Alike, InTurn, IsBlob, blob_text, number_text}
-use Rattle.save_format.proofs.ByteFieldsLemmas.Spells.{AreBytes, IsCut, Nothing, Spells, all_read, spells, spells_begun, spells_blob16, spells_byte, spells_bytes, spells_counted, spells_from, spells_that, spells_u32, spells_u64, one_form, then, whole_again, whole_takes}
+use Rattle.save_format.proofs.ByteFieldsLemmas.Encodes.{AreBytes, IsCut, Nothing, Encodes, all_read, encodes, encodes_begun, encodes_blob16, encodes_byte, encodes_bytes, encodes_counted, encodes_from, encodes_that, encodes_u32, encodes_u64, one_form, then, whole_again, whole_takes}
 use Rattle.mem_files.specs.Lists.{ListedFile}
 use Rattle.std.specs.Prelude.{IfOk}
 use Rattle.save_format.specs.declared.state_text.parts.StateParts.{StateParts}
 use Rattle.save_format.specs.declared.state_text.reading.TextRefusal.{TextRefusal}
 use Rattle.save_format.specs.StateText.Seen.{ReadsStateText, state_view}
 use Rattle.save_format.specs.StateText.StateText.{PageText, StateText, after_descriptor, after_file, after_page, after_run, is_page, optional_name}
-use Rattle.save_format.specs.StateText.Spelled.{IsFile, IsNameText, IsPage, IsStateText, name_bytes}
-use Rattle.save_format.proofs.StateTextLemmas.Texts.{again_named, is_named, named_bytes, short_name, spells_descriptor, spells_heap, spells_reservation, spells_run}
+use Rattle.save_format.specs.StateText.Encoded.{IsFile, IsNameText, IsPage, IsStateText, name_bytes}
+use Rattle.save_format.proofs.StateTextLemmas.Texts.{again_named, is_named, named_bytes, short_name, encodes_descriptor, encodes_heap, encodes_reservation, encodes_run}
 use Rattle.save_format.specs.declared.byte_fields.form.TextForm.TheVariants.{First, Second}
 use Rattle.save_format.specs.PatchText.Numbered.{item_numbered}
 use Rattle.save_format.specs.PatchText.PatchText.{after_change, patch_body_at, change_at, changed_pages, changed_bytes_at, content_relative_at, content_in, patched_file_at, parsed_patch, is_mark, is_new, patch_magic, marked_at, marked_content_at, new_content_at, page_bytes_at, page_in, changed_pages_at, patch_at, register_at, marked_registers_at, equal_contents}
-use Rattle.save_format.specs.PatchText.Spelled.{ArePatchedPages, IsPatched, patch_body_text, changed_bytes_text, change_text, page_changes, content_relative_text, patched_file_text, marks_of, page_changes_text, register_text, marked_registers_text, text_of_patch, values_text}
+use Rattle.save_format.specs.PatchText.Encoded.{ArePatchedPages, IsPatched, patch_body_text, changed_bytes_text, change_text, page_changes, content_relative_text, patched_file_text, marks_of, page_changes_text, register_text, marked_registers_text, text_of_patch, values_text}
 use Rattle.save_format.proofs.PatchTextLemmas.Pages.{IsChange, IsNew, changed_changes, changed_fits, changes_changed, changes_fit, same_is, same_self}
 
 -- ---- registers
@@ -32,15 +32,15 @@ not_true false e = refl
 abbrev IsRegister : ℕ → Bool → ℕ → Type 0
 IsRegister known marked value = (value < 2 ^ 64) × (marked ≡ not (known == value))
 
-spells_register : (known : ℕ) (marked : Bool) → known < 2 ^ 64 → Spells (register_at known marked) (register_text known) (IsRegister known marked)
+encodes_register : (known : ℕ) (marked : Bool) → known < 2 ^ 64 → Encodes (register_at known marked) (register_text known) (IsRegister known marked)
 unfolding register_at
-spells_register known true low =
-    spells (spells_that (λ value. not (known == value)) spells_u64)
+encodes_register known true low =
+    encodes (encodes_that (λ value. not (known == value)) encodes_u64)
     (λ value f. rw (not_true (known == value) f.1) refl)
     (λ value f. (f.0, sym f.1))
     (λ value f. (f.0, sym f.1))
-spells_register known false low =
-    spells (all_read {K = λ value. known ≡ value} known (λ value k. k) refl)
+encodes_register known false low =
+    encodes (all_read {K = λ value. known ≡ value} known (λ value k. k) refl)
     (λ value f. rw (eq-eqb known value f.0) refl)
     (λ value f. (subst IsBelow64 f.0 low, rw (eq-eqb known value f.0) refl))
     (λ value f. (equal (known == value) refl f.1, tt))
@@ -111,10 +111,10 @@ cons_is : (value : ℕ) (rest : List ℕ) (known : ℕ) (more values : List ℕ)
 cons_is value rest known more [] k = absurd (omega (arith, k.0.0))
 cons_is value rest known more (v ∷ values) k = λ i. k.0.1 i ∷ k.1 i
 
-spells_marked : (base : List ℕ) (marks : ℕ) → marks < 2 ^ length base → Alike IsBelow64 base → Spells (marked_at marks base) (values_text base) (AreMarked base marks)
+encodes_marked : (base : List ℕ) (marks : ℕ) → marks < 2 ^ length base → Alike IsBelow64 base → Encodes (marked_at marks base) (values_text base) (AreMarked base marks)
 unfolding marked_at values_text marks_of
-spells_marked [] marks lt low =
-    spells (all_read {K = λ values. [] ≡ values} [] (λ values k. k) refl)
+encodes_marked [] marks lt low =
+    encodes (all_read {K = λ values. [] ≡ values} [] (λ values k. k) refl)
     (λ values f. refl)
     (λ values f. subst (AreMarked [] marks) f.0 (record { long = refl; low = tt; marked = omega (arith, lt) }))
     (λ values f. (none values f.long, tt))
@@ -122,11 +122,11 @@ spells_marked [] marks lt low =
     none : (values : List ℕ) → length values ≡ 0 → [] ≡ values
     none [] e = refl
     none (v ∷ values) e = absurd (omega (arith, e))
-spells_marked (known ∷ more) marks lt low =
+encodes_marked (known ∷ more) marks lt low =
     let half : marks / 2 < 2 ^ length more = omega (arith, lt, pow-suc 2 (length more)) in
-    spells (
-    then {K = λ values. suc (length more) ≡ length values} head_or (spells_register known (marks % 2 == 1) low.0) (λ value f.
-    then following (spells_marked more (marks / 2) half low.1) (λ rest g.
+    encodes (
+    then {K = λ values. suc (length more) ≡ length values} head_or (encodes_register known (marks % 2 == 1) low.0) (λ value f.
+    then following (encodes_marked more (marks / 2) half low.1) (λ rest g.
     all_read (value ∷ rest) (cons_is value rest known more) ((ap suc (sym g.long), refl), refl))))
     (next_text known more marks) (next_marked known more marks) (marked_next known more marks)
 
@@ -143,13 +143,13 @@ marks_low (known ∷ more) (value ∷ values) =
 abbrev AreRegisters : List ℕ → Type 0
 AreRegisters values = (length values ≡ 31) × Alike IsBelow64 values
 
-spells_registers : (base : List ℕ) → AreRegisters base → Spells (marked_registers_at base) (marked_registers_text base) AreRegisters
+encodes_registers : (base : List ℕ) → AreRegisters base → Encodes (marked_registers_at base) (marked_registers_text base) AreRegisters
 unfolding marked_registers_at
-spells_registers base known =
-    spells (
-    then {K = Nothing} (λ values. 2 * marks_of base values) (spells_that (λ marks. marks % 2 == 0) spells_u32) (λ marks f.
+encodes_registers base known =
+    encodes (
+    then {K = Nothing} (λ values. 2 * marks_of base values) (encodes_that (λ marks. marks % 2 == 0) encodes_u32) (λ marks f.
     let even : marks % 2 ≡ 0 = eqb-true (marks % 2) 0 f.1 in
-    spells (spells_marked base (marks / 2) (subst (λ (n : ℕ). marks / 2 < 2 ^ n) (sym known.0) (omega (arith, f.0))) known.1)
+    encodes (encodes_marked base (marks / 2) (subst (λ (n : ℕ). marks / 2 < 2 ^ n) (sym known.0) (omega (arith, f.0))) known.1)
     (λ values g. refl)
     (λ values g. ((tt, omega (arith, even, g.marked)), (g.long ∙ known.0, g.low)))
     (λ values g. record { long = g.1.0 ∙ sym known.0; low = g.1.1; marked = omega (arith, g.0.1) })))
@@ -186,11 +186,11 @@ IsMarkedNew known mark found = IsNew known found × (mark ≡ mark_in found)
 abbrev PageParts : Option (List ℕ) → Option (List ℕ) → Type 0
 PageParts known found = (1 ≡ mark_in found) × ((IsCut 4096 (rest_text found) × ((is_page (rest_text found) && is_new known (rest_text found)) ≡ true)) × Unit {0})
 
-spells_page_bytes : (known : Option (List ℕ)) (mark : ℕ) → is_mark known mark ≡ true → Spells (page_bytes_at known mark) rest_text (IsMarkedNew known mark)
+encodes_page_bytes : (known : Option (List ℕ)) (mark : ℕ) → is_mark known mark ≡ true → Encodes (page_bytes_at known mark) rest_text (IsMarkedNew known mark)
 unfolding page_bytes_at
-spells_page_bytes None zero is = absurd cc
-spells_page_bytes (Some known) zero is =
-    spells (all_read {K = λ found. None ≡ found} None (λ found k. k) refl)
+encodes_page_bytes None zero is = absurd cc
+encodes_page_bytes (Some known) zero is =
+    encodes (all_read {K = λ found. None ≡ found} None (λ found k. k) refl)
     (λ found f. ap rest_text f.0)
     (λ found f. subst (IsMarkedNew (Some known) 0) f.0 (refl, refl))
     gone
@@ -198,9 +198,9 @@ spells_page_bytes (Some known) zero is =
     gone : (found : Option (List ℕ)) → IsMarkedNew (Some known) 0 found → (None ≡ found) × Unit {0}
     gone None f = (refl, tt)
     gone (Some found) f = absurd (omega (arith, f.1))
-spells_page_bytes known (suc zero) is =
-    spells (
-    then {K = λ found. 1 ≡ mark_in found} rest_text (spells_that (λ found. is_page found && is_new known found) (spells_bytes 4096)) (λ found f.
+encodes_page_bytes known (suc zero) is =
+    encodes (
+    then {K = λ found. 1 ≡ mark_in found} rest_text (encodes_that (λ found. is_page found && is_new known found) (encodes_bytes 4096)) (λ found f.
     all_read (Some found) come (refl, refl)))
     (λ found f. append-nil (rest_text found))
     to back
@@ -216,7 +216,7 @@ spells_page_bytes known (suc zero) is =
     back : (found : Option (List ℕ)) → IsMarkedNew known 1 found → PageParts known found
     back None f = absurd (omega (arith, f.1))
     back (Some found) f = (refl, ((record { long = f.0.0 }, f.0.1), tt))
-spells_page_bytes known (suc (suc more)) is = absurd (omega (arith, mark_low known (suc (suc more)) is))
+encodes_page_bytes known (suc (suc more)) is = absurd (omega (arith, mark_low known (suc (suc more)) is))
 
 -- ---- pages
 
@@ -230,23 +230,23 @@ marked_text : (found : Option (List ℕ)) → mark_in found ∷ rest_text found 
 marked_text None = refl
 marked_text (Some found) = refl
 
-spells_changed : (known : Option (List ℕ)) → Spells (changed_bytes_at known) changed_bytes_text (IsNew known)
+encodes_changed : (known : Option (List ℕ)) → Encodes (changed_bytes_at known) changed_bytes_text (IsNew known)
 unfolding changed_bytes_at
-spells_changed known =
-    spells (
-    then {G = IsNew known} {K = Nothing} mark_in (spells_that (is_mark known) spells_byte) (λ mark f.
-    spells (spells_page_bytes known mark f.1) (λ found g. refl) (λ found g. ((tt, g.1), g.0)) (λ found g. (g.1, g.0.1))))
+encodes_changed known =
+    encodes (
+    then {G = IsNew known} {K = Nothing} mark_in (encodes_that (is_mark known) encodes_byte) (λ mark f.
+    encodes (encodes_page_bytes known mark f.1) (λ found g. refl) (λ found g. ((tt, g.1), g.0)) (λ found g. (g.1, g.0.1))))
     (λ found f. marked_text found)
     (λ found f. f.1.1)
     (λ found f. (tt, (mark_of_new known found f, f)))
 
-pub spells_change : (base : List PageText) (least : ℕ) → Spells (change_at base least) change_text (IsChange base least)
+pub encodes_change : (base : List PageText) (least : ℕ) → Encodes (change_at base least) change_text (IsChange base least)
 unfolding change_at
-spells_change base least =
-    spells (
-    then {G = λ change. IsNew (page_in base change.number) change.bytes} {K = Nothing} (λ change. change.number) (spells_from least) (λ number f.
-    spells (
-    then {K = λ change. Unit {0} × (number ≡ change.number)} (λ change. change.bytes) (spells_changed (page_in base number)) (λ found g.
+encodes_change base least =
+    encodes (
+    then {G = λ change. IsNew (page_in base change.number) change.bytes} {K = Nothing} (λ change. change.number) (encodes_from least) (λ number f.
+    encodes (
+    then {K = λ change. Unit {0} × (number ≡ change.number)} (λ change. change.bytes) (encodes_changed (page_in base number)) (λ found g.
     all_read (record { number = number; bytes = found }) (λ change k. λ i. record { number = k.0.1 i; bytes = k.1 i }) ((tt, refl), refl)))
     (λ change g. refl)
     (λ change g. (g.0, subst (λ (v : ℕ). IsNew (page_in base v) change.bytes) g.0.1 g.1.0))
@@ -255,11 +255,11 @@ spells_change base least =
     (λ change f. record { from = f.1.0.from; number = f.1.0.below; new = f.1.1 })
     (λ change f. (tt, (record { from = f.from; below = f.number }, f.new)))
 
-pub spells_pages : (base : List PageText) → InTurn IsPage after_page 0 base → Spells (changed_pages_at base) (page_changes_text base) (ArePatchedPages base)
+pub encodes_pages : (base : List PageText) → InTurn IsPage after_page 0 base → Encodes (changed_pages_at base) (page_changes_text base) (ArePatchedPages base)
 unfolding changed_pages_at
-spells_pages base turn =
-    spells (
-    then {K = λ pages. InTurn IsPage after_page 0 pages} (page_changes base) (spells_counted after_change (spells_change base) 0) (λ cs f.
+encodes_pages base turn =
+    encodes (
+    then {K = λ pages. InTurn IsPage after_page 0 pages} (page_changes base) (encodes_counted after_change (encodes_change base) 0) (λ cs f.
     all_read (changed_pages base cs) (λ pages k. ap (changed_pages base) k.1 ∙ changed_changes base pages k.0) (changed_fits base cs turn f.1, sym (changes_changed base cs f.1))))
     (λ pages f. append-nil (page_changes_text base pages))
     (λ pages f. record { turn = f.0; few = f.1.0.0 })
@@ -280,21 +280,21 @@ IsKnown (Some known) = IsBlob (2 ^ 32) known
 abbrev IsMarkedContent : Option (List ℕ) → ℕ → List ℕ → Type 0
 IsMarkedContent known mark content = IsBlob (2 ^ 32) content × (mark ≡ mark_of known content)
 
-spells_new : (known : Option (List ℕ)) → Spells (new_content_at known) (blob_text w32) (λ content. IsBlob (2 ^ 32) content × (equal_contents known (Some content) ≡ false))
+encodes_new : (known : Option (List ℕ)) → Encodes (new_content_at known) (blob_text w32) (λ content. IsBlob (2 ^ 32) content × (equal_contents known (Some content) ≡ false))
 unfolding new_content_at
-spells_new known =
-    spells (
-    then {G = λ content. is_new known content ≡ true} {K = Nothing} (λ (content : List ℕ). length content) spells_u32 (λ count f.
-    spells (spells_that (is_new known) (spells_bytes count)) (λ content g. refl) (λ content g. ((tt, sym g.0.long), g.1)) (λ content g. (record { long = sym g.0.1 }, g.1))))
+encodes_new known =
+    encodes (
+    then {G = λ content. is_new known content ≡ true} {K = Nothing} (λ (content : List ℕ). length content) encodes_u32 (λ count f.
+    encodes (encodes_that (is_new known) (encodes_bytes count)) (λ content g. refl) (λ content g. ((tt, sym g.0.long), g.1)) (λ content g. (record { long = sym g.0.1 }, g.1))))
     (λ content f. refl)
     (λ content f. (record { short = f.1.0 }, not_true (equal_contents known (Some content)) f.1.1))
     (λ content f. (tt, (f.0.short, ap not f.1)))
 
-spells_marked_content : (known : Option (List ℕ)) (mark : ℕ) → IsKnown known → is_mark known mark ≡ true → Spells (marked_content_at known mark) (content_rest known) (IsMarkedContent known mark)
+encodes_marked_content : (known : Option (List ℕ)) (mark : ℕ) → IsKnown known → is_mark known mark ≡ true → Encodes (marked_content_at known mark) (content_rest known) (IsMarkedContent known mark)
 unfolding marked_content_at
-spells_marked_content None zero fits is = absurd cc
-spells_marked_content (Some known) zero fits is =
-    spells (all_read {K = λ content. known ≡ content} known (λ content k. k) refl)
+encodes_marked_content None zero fits is = absurd cc
+encodes_marked_content (Some known) zero fits is =
+    encodes (all_read {K = λ content. known ≡ content} known (λ content k. k) refl)
     (λ content f. rw (equal content f.0) refl)
     (λ content f. (subst (IsBlob (2 ^ 32)) f.0 fits, rw (equal content f.0) refl))
     (λ content f. (back content (equal_contents (Some known) (Some content)) refl f.1, tt))
@@ -305,8 +305,8 @@ spells_marked_content (Some known) zero fits is =
     back : (content : List ℕ) (b : Bool) → equal_contents (Some known) (Some content) ≡ b → ◌≡◌ {A = ℕ} 0 (cond b 0 1) → known ≡ content
     back content true e f = same_Some known content (same_is (Some known) (Some content) e)
     back content false e f = absurd (omega (arith, f))
-spells_marked_content known (suc zero) fits is =
-    spells (spells_new known)
+encodes_marked_content known (suc zero) fits is =
+    encodes (encodes_new known)
     (λ content f. rw f.1 refl)
     (λ content f. (f.0, rw f.1 refl))
     (λ content f. (f.0, other (equal_contents known (Some content)) f.1))
@@ -314,7 +314,7 @@ spells_marked_content known (suc zero) fits is =
     other : (b : Bool) → ◌≡◌ {A = ℕ} 1 (cond b 0 1) → b ≡ false
     other true e = absurd (omega (arith, e))
     other false e = refl
-spells_marked_content known (suc (suc more)) fits is = absurd (omega (arith, mark_low known (suc (suc more)) is))
+encodes_marked_content known (suc (suc more)) fits is = absurd (omega (arith, mark_low known (suc (suc more)) is))
 
 content_again : (known : Option (List ℕ)) (content : List ℕ) → mark_of known content ∷ (content_rest known content ++ []) ≡ content_relative_text known content
 content_again known content =
@@ -331,12 +331,12 @@ mark_fits (Some known) content =
       | false ↦ (omega arith, refl)
     ]
 
-pub spells_content : (known : Option (List ℕ)) → IsKnown known → Spells (content_relative_at known) (content_relative_text known) (IsBlob (2 ^ 32))
+pub encodes_content : (known : Option (List ℕ)) → IsKnown known → Encodes (content_relative_at known) (content_relative_text known) (IsBlob (2 ^ 32))
 unfolding content_relative_at
-spells_content known fits =
-    spells (
-    then {G = IsBlob (2 ^ 32)} {K = Nothing} (mark_of known) (spells_that (is_mark known) spells_byte) (λ mark f.
-    spells (spells_marked_content known mark fits f.1) (λ content g. refl) (λ content g. ((tt, g.1), g.0)) (λ content g. (g.1, g.0.1))))
+encodes_content known fits =
+    encodes (
+    then {G = IsBlob (2 ^ 32)} {K = Nothing} (mark_of known) (encodes_that (is_mark known) encodes_byte) (λ mark f.
+    encodes (encodes_marked_content known mark fits f.1) (λ content g. refl) (λ content g. ((tt, g.1), g.0)) (λ content g. (g.1, g.0.1))))
     (λ content f. ap (λ (v : List ℕ). mark_of known content ∷ v) (sym (append-nil (content_rest known content))) ∙ content_again known content)
     (λ content f. f.1.1)
     (λ content f. (tt, (mark_fits known content, f)))
@@ -347,13 +347,13 @@ spells_content known fits =
 abbrev pub AreKnown : List ListedFile → Type 0
 AreKnown base = (number : ℕ) → IsKnown (content_in base number)
 
-pub spells_file : (base : List ListedFile) → AreKnown base → (least : ℕ) → Spells (patched_file_at base least) (patched_file_text base) (IsFile least)
+pub encodes_file : (base : List ListedFile) → AreKnown base → (least : ℕ) → Encodes (patched_file_at base least) (patched_file_text base) (IsFile least)
 unfolding patched_file_at
-spells_file base known least =
-    spells (
-    then {K = Nothing} (λ p. p.number) (spells_from least) (λ number f.
-    then {G = λ p. IsNameText p.name × (IsBlob (2 ^ 32) p.content × Unit {0})} (λ p. name_bytes p.name) spells_blob16 (λ name g.
-    spells (then {K = λ p. ((Unit {0} × (number ≡ p.number)) × (name ≡ name_bytes p.name)) × IsNameText p.name} (λ p. p.content) (spells_content (content_in base number) (known number)) (λ content h.
+encodes_file base known least =
+    encodes (
+    then {K = Nothing} (λ p. p.number) (encodes_from least) (λ number f.
+    then {G = λ p. IsNameText p.name × (IsBlob (2 ^ 32) p.content × Unit {0})} (λ p. name_bytes p.name) encodes_blob16 (λ name g.
+    encodes (then {K = λ p. ((Unit {0} × (number ≡ p.number)) × (name ≡ name_bytes p.name)) × IsNameText p.name} (λ p. p.content) (encodes_content (content_in base number) (known number)) (λ content h.
     all_read (record { number = number; name = optional_name name; content = content })
     (λ p k. λ i. record { number = k.0.0.0.1 i; name = again_named p.name name k.0.1 k.0.0.1 i; content = k.1 i })
     ((((tt, refl), sym (named_bytes name)), is_named name g), refl)))
@@ -374,21 +374,21 @@ known_in (file ∷ files) least number turn =
       | false ↦ known_in files (after_file file) number turn.1
     ]
 
-pub spells_body : (base : StateText) → IsStateText base → Spells (patch_body_at base) (patch_body_text base) (IsPatched base)
+pub encodes_body : (base : StateText) → IsStateText base → Encodes (patch_body_at base) (patch_body_text base) (IsPatched base)
 unfolding patch_body_at patch_body_text
-spells_body base is =
-    spells (
-    then {K = Nothing} (λ s. s.steps) spells_u64 (λ steps f1.
-    then (λ s. s.pc) spells_u64 (λ pc f2.
-    then (λ s. s.registers) (spells_registers base.registers (is.registers, is.register)) (λ registers f3.
-    then (λ s. s.reservation) (spells_reservation Second) (λ reservation fr.
-    then (λ s. s.heap) spells_heap (λ heap f0.
-    then (λ s. s.runs) (spells_counted after_run spells_run 0) (λ runs f4.
-    then (λ s. s.pages) (spells_pages base.pages is.pages.1) (λ pages f5.
-    then (λ s. s.files) (spells_counted after_file (spells_file base.files (λ number. known_in base.files 0 number is.files.1)) 0) (λ files f6.
-    then (λ s. s.descriptors) (spells_counted after_descriptor spells_descriptor 0) (λ descriptors f7.
-    then (λ s. s.stream1) (spells_content (Some base.stream1) is.stream1) (λ stream1 f8.
-    then (λ s. s.stream2) (spells_content (Some base.stream2) is.stream2) (λ stream2 f9.
+encodes_body base is =
+    encodes (
+    then {K = Nothing} (λ s. s.steps) encodes_u64 (λ steps f1.
+    then (λ s. s.pc) encodes_u64 (λ pc f2.
+    then (λ s. s.registers) (encodes_registers base.registers (is.registers, is.register)) (λ registers f3.
+    then (λ s. s.reservation) (encodes_reservation Second) (λ reservation fr.
+    then (λ s. s.heap) encodes_heap (λ heap f0.
+    then (λ s. s.runs) (encodes_counted after_run encodes_run 0) (λ runs f4.
+    then (λ s. s.pages) (encodes_pages base.pages is.pages.1) (λ pages f5.
+    then (λ s. s.files) (encodes_counted after_file (encodes_file base.files (λ number. known_in base.files 0 number is.files.1)) 0) (λ files f6.
+    then (λ s. s.descriptors) (encodes_counted after_descriptor encodes_descriptor 0) (λ descriptors f7.
+    then (λ s. s.stream1) (encodes_content (Some base.stream1) is.stream1) (λ stream1 f8.
+    then (λ s. s.stream2) (encodes_content (Some base.stream2) is.stream2) (λ stream2 f9.
     all_read (record { steps = steps; pc = pc; registers = registers; reservation = reservation; heap = heap; runs = runs; pages = pages; files = files; descriptors = descriptors; stream1 = stream1; stream2 = stream2 })
     (λ s k. λ i. record { steps = k.0.0.0.0.0.0.0.0.0.0.1 i; pc = k.0.0.0.0.0.0.0.0.0.1 i; registers = k.0.0.0.0.0.0.0.0.1 i; reservation = k.0.0.0.0.0.0.0.1 i; heap = k.0.0.0.0.0.0.1 i; runs = k.0.0.0.0.0.1 i; pages = k.0.0.0.0.1 i; files = k.0.0.0.1 i; descriptors = k.0.0.1 i; stream1 = k.0.1 i; stream2 = k.1 i })
     (((((((((((tt, refl), refl), refl), refl), refl), refl), refl), refl), refl), refl), refl)))))))))))))
@@ -397,23 +397,23 @@ spells_body base is =
     (λ s f. (tt, (f.steps, (f.pc, ((f.registers, f.register), ((f.reservation, tt), (f.heap, (f.runs, (f.pages, (f.files, (f.descriptors, (f.stream1, (f.stream2, tt)))))))))))))
 
 -- what a patch says is spelled so against its base, and what is spelled so is read, whatever follows
-pub spells_patch : (base : StateText) → IsStateText base → Spells (patch_at base) (text_of_patch base) (IsPatched base)
+pub encodes_patch : (base : StateText) → IsStateText base → Encodes (patch_at base) (text_of_patch base) (IsPatched base)
 unfolding patch_at
-spells_patch base is =
-    spells (
-    then {K = Nothing} (λ s. tt) (spells_begun patch_magic refl) (λ begun f.
-    spells (spells_body base is) (λ s g. refl) (λ s g. ((tt, refl), g)) (λ s g. g.1)))
+encodes_patch base is =
+    encodes (
+    then {K = Nothing} (λ s. tt) (encodes_begun patch_magic refl) (λ begun f.
+    encodes (encodes_body base is) (λ s g. refl) (λ s g. ((tt, refl), g)) (λ s g. g.1)))
     (λ s f. refl) (λ s f. f.1.1) (λ s f. (tt, (tt, f)))
 
 -- ---- with nothing after it
 
 pub parsed_again : (base s : StateText) (text : List ℕ) → IsStateText base → IsPatched base s → text ≡ text_of_patch base s → parsed_patch base text ≡ Ok s
 unfolding parsed_patch
-parsed_again base s text is fits e = ap (parsed_patch base) e ∙ whole_again (one_form (spells_patch base is)) First s fits
+parsed_again base s text is fits e = ap (parsed_patch base) e ∙ whole_again (one_form (encodes_patch base is)) First s fits
 
 pub parsed_takes : (base : StateText) (text : List ℕ) (s : StateText) → IsStateText base → AreBytes text → parsed_patch base text ≡ Ok s → IsPatched base s × (text ≡ text_of_patch base s)
 unfolding parsed_patch
-parsed_takes base text s is fits e = let p = whole_takes (one_form (spells_patch base is)) text s fits e in (p.1, p.2)
+parsed_takes base text s is fits e = let p = whole_takes (one_form (encodes_patch base is)) text s fits e in (p.1, p.2)
 
 pub is_found : (base : StateText) (text : List ℕ) (r : Result StateParts TextRefusal) → IsStateText base → AreBytes text → ReadsStateText r (parsed_patch base text) → IfOk r (λ p. IsPatched base (state_view p) × (text ≡ text_of_patch base (state_view p)))
 is_found base text (Ok p) is fits given = parsed_takes base text (state_view p) is fits given

@@ -1,6 +1,6 @@
 -- What the writer's calls want of states that have a patch.
 use Rattle.std.proofs.Common.{ℕ, ◌^◌, ◌<◌, ◌≤◌, ◌≡◌, List, length, append_assoc, arith, pow_mono}
-use Rattle.save_format.specs.PatchText.Spelled.{marks_of}
+use Rattle.save_format.specs.PatchText.Encoded.{marks_of}
 use Rattle.save_format.proofs.PatchTextLemmas.Texts.{marks_low}
 
 pub ruleset written = append_assoc

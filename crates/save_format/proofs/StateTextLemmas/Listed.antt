@@ -1,5 +1,6 @@
 -- Entries by rising numbers, one after the other.
 use Rattle.std.proofs.Common.{◌≡◌, ℕ, ◌+◌, ◌<◌, ◌≤◌, true, false, cond, T, nat_le, List, [], ◌∷◌, find, Option, Some, None, refl, sym, ap, subst, ◌∙◌, arith}
+use Rattle.ddc_base.specs.Limits.{file_number_end}
 use Rattle.std.specs.List.{filter}
 use Rattle.std.specs.Ordering.{is_lt, nat_cmp}
 use Rattle.std.specs.Cmp.{ranked}
@@ -108,18 +109,18 @@ pub record Comes {A : Type 0} (from_here rest : List A) (x : A) (number at most 
   pub low : at < most
 
 pub file_next : (w : World) (number : ℕ) (view : FileView) → AreInRange (lists_of w) → Some (listed view) ≡ file_from w number
-    → Comes (files_from w number) (files_from w (view.number + 1)) (listed view) number view.number 5120
+    → Comes (files_from w number) (files_from w (view.number + 1)) (listed view) number view.number file_number_end
 file_next w number view range is = at (first_from w.files number) refl is
   where
     at : (o : Option (ℕ × List ℕ)) → first_from w.files number ≡ o → Some (listed view) ≡ option_map (listed_file w) o
-        → Comes (files_from w number) (files_from w (view.number + 1)) (listed view) number view.number 5120
+        → Comes (files_from w number) (files_from w (view.number + 1)) (listed view) number view.number file_number_end
     at None was e = absurd (none-some (listed view) (sym e))
     at (Some e) was same =
         let equal : listed view ≡ listed_file w e = same_Some (listed view) (listed_file w e) same in
         let numbered : view.number ≡ e.0 = ap (λ (f : ListedFile). f.number) equal in
         let tail : from_on number (fin.entries w.files) ≡ e ∷ from_on (e.0 + 1) (fin.entries w.files) = next_listed number e (fin.entries w.files) (fin.entries_sorted w.files) was in
         let reached : nat_le number e.0 ≡ true = found number e (fin.entries w.files) was in
-        let low : e.0 < 5120 = found_all (λ (f : ListedFile). f.number < 5120) (listed_file w) number e (fin.entries w.files) range.low_numbers was in
+        let low : e.0 < file_number_end = found_all (λ (f : ListedFile). f.number < file_number_end) (listed_file w) number e (fin.entries w.files) range.low_numbers was in
         record {
           next = ap (map (listed_file w)) tail ∙ (λ i. sym equal i ∷ files_from w (sym numbered i + 1));
           from = (let le = leb-true number e.0 reached in omega arith);
@@ -145,8 +146,8 @@ pub open_file_none : (w : World) (number : ℕ) → None ≡ open_file_from w nu
 open_file_none w number is = none_listed number (fin.entries w.open_files) (sym is)
 
 -- an item more of a list that the rest of it makes up to the whole
-pub one_more : {A : Type 0} (front : List A) (x : A) (from_here rest whole : List A) → from_here ≡ x ∷ rest → front ++ from_here ≡ whole → (front ++ x ∷ []) ++ rest ≡ whole
-one_more front x from_here rest whole next is = append_assoc front (x ∷ []) rest ∙ ap (λ l. front ++ l) (sym next) ∙ is
+pub one_more : {A : Type 0} (prefix : List A) (x : A) (from_here rest whole : List A) → from_here ≡ x ∷ rest → prefix ++ from_here ≡ whole → (prefix ++ x ∷ []) ++ rest ≡ whole
+one_more prefix x from_here rest whole next is = append_assoc prefix (x ∷ []) rest ∙ ap (λ l. prefix ++ l) (sym next) ∙ is
 
-pub all_found : {A : Type 0} (front from_here whole : List A) → from_here ≡ [] → front ++ from_here ≡ whole → front ≡ whole
-all_found front from_here whole none is = sym (append-nil front) ∙ ap (λ l. front ++ l) (sym none) ∙ is
+pub all_found : {A : Type 0} (prefix from_here whole : List A) → from_here ≡ [] → prefix ++ from_here ≡ whole → prefix ≡ whole
+all_found prefix from_here whole none is = sym (append-nil prefix) ∙ ap (λ l. prefix ++ l) (sym none) ∙ is

@@ -4,30 +4,31 @@ use Rattle.std.specs.Option.{is_some}
 use Rattle.std.specs.Prelude.{◌↔◌, IsOk, IsTrue, option_map}
 use Rattle.std.proofs.lemmas.List.Elements.{All-append, All-cons, All-head, All-nil, All-tail}
 use Rattle.std.proofs.lemmas.List.Sums.{sum_by_push}
+use Rattle.ddc_base.specs.Limits.{most_pages, page_number_end}
 use Rattle.save_format.specs.declared.byte_fields.cursor.WrongField.{WrongField}
 use Rattle.save_format.specs.declared.state_text.parts.Run.{Run}
-use Rattle.save_format.specs.declared.state_text.parts.FrontNumbers.{FrontNumbers}
+use Rattle.save_format.specs.declared.state_text.parts.HeaderNumbers.{HeaderNumbers}
 use Rattle.mem_files.specs.Lists.{ListedFile}
 use Rattle.mem_files.specs.declared.open_file.OpenFile.{OpenFile}
-use Rattle.save_format.specs.ByteFields.Reader.{Read, Reader, ◌>>=◌, counted, done, ended, placed_in, read_onward, several, whole}
-use Rattle.save_format.specs.Inside.Mapping.{IsLeftAfter, PassesRuns, Tells}
-use Rattle.save_format.specs.StateText.Mappable.{AreMappable, IsFrontOf}
+use Rattle.save_format.specs.ByteFields.Reader.{Read, Reader, ◌>>=◌, counted, done, ended, at_offset, read_onward, several, whole}
+use Rattle.save_format.specs.Inside.Mapping.{IsRemainingAfter, PassesRuns, Tells}
+use Rattle.save_format.specs.StateText.Mappable.{AreMappable, IsHeaderOf}
 use Rattle.save_format.specs.StateText.Seen.{reserved_view}
 use Rattle.save_format.specs.StateText.StateText.{PageText, StateText, after_run, run_at}
-use Rattle.save_format.proofs.ByteFieldsLemmas.Loop.{goes_on, is_done, none_before, with_front}
-use Rattle.save_format.proofs.ByteFieldsLemmas.Spells.{all_taken}
+use Rattle.save_format.proofs.ByteFieldsLemmas.Loop.{goes_on, is_done, none_before, with_prefix}
+use Rattle.save_format.proofs.ByteFieldsLemmas.Encodes.{all_taken}
 
 -- ---- one run more
 
 abbrev EndsWithin : Run → Type 0
-EndsWithin run = run.first + run.pages ≤ 2 ^ 26
+EndsWithin run = run.first + run.pages ≤ page_number_end
 
 abbrev pages_in : List Run → ℕ
 pages_in runs = sum_by (λ (run : Run). run.pages) runs
 
-front_within : (runs : List Run) (run : Run) → All EndsWithin (runs ++ run ∷ []) → All EndsWithin runs
-front_within [] run all = All-nil EndsWithin
-front_within (first ∷ runs) run all = All-cons EndsWithin first runs (All-head EndsWithin first (runs ++ run ∷ []) all) (front_within runs run (All-tail EndsWithin first (runs ++ run ∷ []) all))
+header_within : (runs : List Run) (run : Run) → All EndsWithin (runs ++ run ∷ []) → All EndsWithin runs
+header_within [] run all = All-nil EndsWithin
+header_within (first ∷ runs) run all = All-cons EndsWithin first runs (All-head EndsWithin first (runs ++ run ∷ []) all) (header_within runs run (All-tail EndsWithin first (runs ++ run ∷ []) all))
 
 last_within : (runs : List Run) (run : Run) → All EndsWithin (runs ++ run ∷ []) → EndsWithin run
 last_within [] run all = All-head EndsWithin run [] all
@@ -38,60 +39,60 @@ pages_push runs run = sum_by_push (λ (run : Run). run.pages) runs run
 
 pub none_more : (runs : List Run) (run : Run) → ¬ (AreMappable runs) → ¬ (AreMappable (runs ++ run ∷ []))
 none_more runs run not all =
-    not (record { within = front_within runs run all.within; few = omega (arith, all.few, pages_push runs run) })
+    not (record { within = header_within runs run all.within; few = omega (arith, all.few, pages_push runs run) })
 
-pub too_far : (runs : List Run) (run : Run) → 2 ^ 26 < run.first + run.pages → ¬ (AreMappable (runs ++ run ∷ []))
+pub too_far : (runs : List Run) (run : Run) → page_number_end < run.first + run.pages → ¬ (AreMappable (runs ++ run ∷ []))
 too_far runs run far all = let low = last_within runs run all.within in absurd (omega (arith, low, far))
 
-pub too_many : (runs : List Run) (run : Run) (left : ℕ) → pages_in runs + left ≡ 329_728 → left < run.pages → ¬ (AreMappable (runs ++ run ∷ []))
-too_many runs run left is more all = absurd (omega (arith, all.few, pages_push runs run, is, more))
+pub too_many : (runs : List Run) (run : Run) (remaining : ℕ) → pages_in runs + remaining ≡ most_pages → remaining < run.pages → ¬ (AreMappable (runs ++ run ∷ []))
+too_many runs run remaining is more all = absurd (omega (arith, all.few, pages_push runs run, is, more))
 
-pub one_more : (runs : List Run) (run : Run) (left : ℕ) → IsLeftAfter (Some left) runs → run.first + run.pages ≤ 2 ^ 26 → run.pages ≤ left → IsLeftAfter (Some (left - run.pages)) (runs ++ run ∷ [])
-one_more runs run left following low few =
+pub one_more : (runs : List Run) (run : Run) (remaining : ℕ) → IsRemainingAfter (Some remaining) runs → run.first + run.pages ≤ page_number_end → run.pages ≤ remaining → IsRemainingAfter (Some (remaining - run.pages)) (runs ++ run ∷ [])
+one_more runs run remaining following low few =
     (All-append EndsWithin runs (run ∷ []) following.0 (All-cons EndsWithin run [] low (All-nil EndsWithin)), omega (arith, following.1, pages_push runs run, few))
 
 -- what is left says whether all of them can be mapped
-pub left_says : (left : Option ℕ) (runs : List Run) → IsLeftAfter left runs → (some : Bool) → some ≡ is_some left → IsTrue some ↔ AreMappable runs
+pub left_says : (remaining : Option ℕ) (runs : List Run) → IsRemainingAfter remaining runs → (some : Bool) → some ≡ is_some remaining → IsTrue some ↔ AreMappable runs
 left_says None runs following some is = (λ t. absurd cc, λ all. absurd (following all))
 left_says (Some n) runs following some is = (λ t. record { within = following.0; few = omega (arith, following.1) }, λ all. is)
 
 -- ---- runs one after the other
 
 -- some runs were read before those that are still read, and so many pages are left after them
-pub record WentBy (left : Option ℕ) (least count : ℕ) (cursor : List ℕ) (total : Read (List Run)) : Type 0 where
-  pub front : List Run
-  pub read : with_front front (several run_at after_run least count cursor) ≡ total
-  pub following : IsLeftAfter left front
+pub record WentBy (remaining : Option ℕ) (least count : ℕ) (cursor : List ℕ) (total : Read (List Run)) : Type 0 where
+  pub prefix : List Run
+  pub read : with_prefix prefix (several run_at after_run least count cursor) ≡ total
+  pub following : IsRemainingAfter remaining prefix
 
-pub sets_out : (count : ℕ) (left : List ℕ) → WentBy (Some 329_728) 0 (count - 0) left (several run_at after_run 0 count left)
-sets_out count left =
+pub sets_out : (count : ℕ) (remaining : List ℕ) → WentBy (Some most_pages) 0 (count - 0) remaining (several run_at after_run 0 count remaining)
+sets_out count remaining =
     let all : count - 0 ≡ count = omega arith in
     record {
-      front = [];
-      read = none_before (several run_at after_run 0 (count - 0) left) ∙ ap (λ n. several run_at after_run 0 n left) all;
+      prefix = [];
+      read = none_before (several run_at after_run 0 (count - 0) remaining) ∙ ap (λ n. several run_at after_run 0 n remaining) all;
       following = (All-nil EndsWithin, refl);
     }
 
-pub went_on : (left after : Option ℕ) (least next count i : ℕ) (cursor following : List ℕ) (run : Run) (total : Read (List Run)) → i < count → run_at least cursor ≡ Ok (run, following) → after_run run ≡ next
-    → ((runs : List Run) → IsLeftAfter left runs → IsLeftAfter after (runs ++ run ∷ [])) → WentBy left least (count - i) cursor total → WentBy after next (count - (i + 1)) following total
-went_on left after least next count i cursor following run total lt read is more went = record {
-  front = went.front ++ run ∷ [];
-  read = goes_on run_at after_run least next went.front count i cursor run following total lt read is went.read;
-  following = more went.front went.following;
+pub went_on : (remaining after : Option ℕ) (least next count i : ℕ) (cursor following : List ℕ) (run : Run) (total : Read (List Run)) → i < count → run_at least cursor ≡ Ok (run, following) → after_run run ≡ next
+    → ((runs : List Run) → IsRemainingAfter remaining runs → IsRemainingAfter after (runs ++ run ∷ [])) → WentBy remaining least (count - i) cursor total → WentBy after next (count - (i + 1)) following total
+went_on remaining after least next count i cursor following run total lt read is more went = record {
+  prefix = went.prefix ++ run ∷ [];
+  read = goes_on run_at after_run least next went.prefix count i cursor run following total lt read is went.read;
+  following = more went.prefix went.following;
 }
 
-pub went_past : (left : Option ℕ) (least count i : ℕ) (cursor : List ℕ) (total : Read (List Run)) (some : Bool) → count ≤ i → some ≡ is_some left → WentBy left least (count - i) cursor total
+pub went_past : (remaining : Option ℕ) (least count i : ℕ) (cursor : List ℕ) (total : Read (List Run)) (some : Bool) → count ≤ i → some ≡ is_some remaining → WentBy remaining least (count - i) cursor total
     → PassesRuns (Ok some) cursor total
-went_past left least count i cursor total some le is went =
-    (went.front, is_done run_at after_run least went.front count i cursor total le went.read, left_says left went.front went.following some is)
+went_past remaining least count i cursor total some le is went =
+    (went.prefix, is_done run_at after_run least went.prefix count i cursor total le went.read, left_says remaining went.prefix went.following some is)
 
 -- ---- after the runs
 
 -- a state of numbers and lists
-abbrev said : FrontNumbers → List Run → List PageText → List ListedFile → List (ℕ × OpenFile) → List ℕ → List ℕ → StateText
-said numbers runs pages files descriptors stream1 stream2 = record { steps = numbers.steps; pc = numbers.pc; registers = numbers.registers; reservation = option_map reserved_view numbers.reservation; heap = numbers.heap; runs = runs; pages = pages; files = files; descriptors = descriptors; stream1 = stream1; stream2 = stream2 }
+abbrev parsed : HeaderNumbers → List Run → List PageText → List ListedFile → List (ℕ × OpenFile) → List ℕ → List ℕ → StateText
+parsed numbers runs pages files descriptors stream1 stream2 = record { steps = numbers.steps; pc = numbers.pc; registers = numbers.registers; reservation = option_map reserved_view numbers.reservation; heap = numbers.heap; runs = runs; pages = pages; files = files; descriptors = descriptors; stream1 = stream1; stream2 = stream2 }
 
-abbrev pub all_lists : Reader (List PageText) → Reader (List ListedFile) → Reader (List (ℕ × OpenFile)) → Reader (List ℕ) → Reader (List ℕ) → FrontNumbers → Reader StateText
+abbrev pub all_lists : Reader (List PageText) → Reader (List ListedFile) → Reader (List (ℕ × OpenFile)) → Reader (List ℕ) → Reader (List ℕ) → HeaderNumbers → Reader StateText
 all_lists pages_at files_at descriptors_at stream1_at stream2_at numbers = do
   runs ← counted run_at after_run 0
   pages ← pages_at
@@ -99,12 +100,12 @@ all_lists pages_at files_at descriptors_at stream1_at stream2_at numbers = do
   descriptors ← descriptors_at
   stream1 ← stream1_at
   stream2 ← stream2_at
-  done (said numbers runs pages files descriptors stream1 stream2)
+  done (parsed numbers runs pages files descriptors stream1 stream2)
 
 -- what is read in two steps is read in each
-pub onward : {A B : Type 0} (read : Read A) (next : A → Reader B) (b : B) (left : List ℕ) → read_onward read next ≡ Ok (b, left) → (a : A) × (l : List ℕ) × (read ≡ Ok (a, l)) × (next a l ≡ Ok (b, left))
-onward (Ok x) next b left e = (x.0, x.1, refl, e)
-onward (Err at) next b left e = absurd cc
+pub onward : {A B : Type 0} (read : Read A) (next : A → Reader B) (b : B) (remaining : List ℕ) → read_onward read next ≡ Ok (b, remaining) → (a : A) × (l : List ℕ) × (read ≡ Ok (a, l)) × (next a l ≡ Ok (b, remaining))
+onward (Ok x) next b remaining e = (x.0, x.1, refl, e)
+onward (Err at) next b remaining e = absurd cc
 
 abbrev value_or : {A : Type 0} → A → Read A → A
 value_or a (Ok x) = x.0
@@ -130,18 +131,18 @@ told_in {X = X} Part Holds make as_whole same told read tells = λ z rest e.
     subst (Holds (as_whole told)) is (same told on.0 (tells on.0 on.1 on.2))
 
 -- the numbers, and what was told of the runs behind them, are the front of what the lists are read as, whatever reads the other lists
-pub front_says : (pages : Reader (List PageText)) (files : Reader (List ListedFile)) (descriptors : Reader (List (ℕ × OpenFile))) (stream1 stream2 : Reader (List ℕ))
-    (numbers : FrontNumbers) (runs : List Run) (cursor after : List ℕ) (mappable : Bool) → counted run_at after_run 0 cursor ≡ Ok (runs, after) → (IsTrue mappable ↔ AreMappable runs)
-    → Tells IsFrontOf (Ok (record { steps = numbers.steps; pc = numbers.pc; reservation = numbers.reservation; heap = numbers.heap; mappable = mappable }))
+pub header_says : (pages : Reader (List PageText)) (files : Reader (List ListedFile)) (descriptors : Reader (List (ℕ × OpenFile))) (stream1 stream2 : Reader (List ℕ))
+    (numbers : HeaderNumbers) (runs : List Run) (cursor after : List ℕ) (mappable : Bool) → counted run_at after_run 0 cursor ≡ Ok (runs, after) → (IsTrue mappable ↔ AreMappable runs)
+    → Tells IsHeaderOf (Ok (record { steps = numbers.steps; pc = numbers.pc; reservation = numbers.reservation; heap = numbers.heap; mappable = mappable }))
     (all_lists pages files descriptors stream1 stream2 numbers cursor)
-front_says pages files descriptors stream1 stream2 numbers runs cursor after mappable read maps = λ y rest e.
+header_says pages files descriptors stream1 stream2 numbers runs cursor after mappable read maps = λ y rest e.
     let one = onward (counted run_at after_run 0 cursor) _ y rest e in
     let two = onward (pages one.1) _ y rest one.3 in
     let three = onward (files two.1) _ y rest two.3 in
     let four = onward (descriptors three.1) _ y rest three.3 in
     let five = onward (stream1 four.1) _ y rest four.3 in
     let six = onward (stream2 five.1) _ y rest five.3 in
-    let made : said numbers one.0 two.0 three.0 four.0 five.0 six.0 ≡ y = same_value _ y six.1 rest six.3 in
+    let made : parsed numbers one.0 two.0 three.0 four.0 five.0 six.0 ≡ y = same_value _ y six.1 rest six.3 in
     let same : runs ≡ y.runs = same_value runs one.0 after one.1 (sym read ∙ one.2) ∙ ap (λ s. s.runs) made in
     record {
       steps = ap (λ s. s.steps) made;
@@ -170,6 +171,6 @@ whole_told Holds field text cursor told is tells y formed = tells y [] (ap field
 pub never_wrong : {Y : Type 0} (field : Reader Y) (text cursor : List ℕ) (at : ℕ) → cursor ≡ text → field cursor ≡ Err at → IsOk (whole field text) → ⊥
 never_wrong {Y} field text cursor at is wrong formed = by (field text) (ap field (sym is) ∙ wrong) formed
   where
-    by : (read : Read Y) → read ≡ Err at → IsOk (placed_in (length text) (ended read)) → ⊥
+    by : (read : Read Y) → read ≡ Err at → IsOk (at_offset (length text) (ended read)) → ⊥
     by (Ok x) e ok = cc
-    by (Err left) e ok = cc
+    by (Err remaining) e ok = cc

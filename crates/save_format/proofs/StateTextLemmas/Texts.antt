@@ -8,7 +8,7 @@ use Rattle.save_format.specs.declared.byte_fields.form.TextForm.{TextForm}
 use Rattle.save_format.specs.declared.byte_fields.form.TextForm.TheVariants.{First, Second}
 use Rattle.save_format.specs.ByteFields.Reader.{alike, blob, byte, bytes, done, u64}
 use Rattle.save_format.specs.ByteFields.Spelling.{Alike, IsBlob, blob_text, number_text}
-use Rattle.save_format.proofs.ByteFieldsLemmas.Spells.{AreBytes, SpellsForms, by_form, whole_again, whole_takes, Nothing, Spells, all_read, spells, spells_alike, spells_blob16, spells_blob32, spells_byte, spells_begun, spells_begun_in, spells_bytes, spells_counted, spells_from, spells_that, spells_u32, spells_u64, then}
+use Rattle.save_format.proofs.ByteFieldsLemmas.Encodes.{AreBytes, EncodesForms, by_form, whole_again, whole_takes, Nothing, Encodes, all_read, encodes, encodes_alike, encodes_blob16, encodes_blob32, encodes_byte, encodes_begun, encodes_begun_in, encodes_bytes, encodes_counted, encodes_from, encodes_that, encodes_u32, encodes_u64, then}
 use Rattle.mem_files.specs.declared.open_file.Access.{Access}
 use Rattle.mem_files.specs.declared.open_file.Mode.{Mode}
 use Rattle.mem_files.specs.declared.open_file.Mode.TheVariants as mode
@@ -19,7 +19,7 @@ use Rattle.save_format.specs.declared.state_text.parts.StateParts.{StateParts}
 use Rattle.save_format.specs.declared.state_text.reading.TextRefusal.{TextRefusal}
 use Rattle.save_format.specs.StateText.Seen.{ReadsStateText, state_view}
 use Rattle.save_format.specs.StateText.StateText.{StateText, parsed_state, access_at, access_of_code, after_descriptor, after_file, after_page, after_run, are_flags, body_at, descriptor_at, file_at, heap_at, is_page, is_reserved_count, state_magic, optional_name, page_at, reservation_at, reserved_at, run_at, open_file_at, state_at, state_in}
-use Rattle.save_format.specs.StateText.Spelled.{HasPlaceIn, IsDescriptor, IsFile, IsHeap, IsNameText, IsPage, IsReserved, IsSavedRun, IsOpenFile, IsStateText, IsTextOfState, body_text, descriptor_text, file_text, flags_of, heap_text, kind_of, name_bytes, page_text, reservation_text, reserved_count, reserved_text, run_text, open_file_text, state_text_in, u64s}
+use Rattle.save_format.specs.StateText.Encoded.{HasFieldIn, IsDescriptor, IsFile, IsHeap, IsNameText, IsPage, IsReserved, IsSavedRun, IsOpenFile, IsStateText, IsTextOfState, body_text, descriptor_text, file_text, flags_of, heap_text, kind_of, name_bytes, page_text, reservation_text, reserved_count, reserved_text, run_text, open_file_text, state_text_in, u64s}
 
 -- ---- a reservation
 
@@ -65,14 +65,14 @@ address_back : (more : ℕ) (held : Option (ℕ × ℕ)) → IsReservedOf (suc m
 address_back more None f = absurd (omega (arith, f.1))
 address_back more (Some held) f = (f.1, (f.0.1, tt))
 
-spells_reserved : (count : ℕ) → is_reserved_count count ≡ true → Spells (reserved_at count) reserved_text (IsReservedOf count)
+encodes_reserved : (count : ℕ) → is_reserved_count count ≡ true → Encodes (reserved_at count) reserved_text (IsReservedOf count)
 unfolding reserved_at
-spells_reserved zero is =
-    spells (all_read {K = λ held. None ≡ held} None (λ held k. k) refl)
+encodes_reserved zero is =
+    encodes (all_read {K = λ held. None ≡ held} None (λ held k. k) refl)
     (λ held f. ap reserved_text f.0) (λ held f. subst (IsReservedOf 0) f.0 (tt, refl)) none_only
-spells_reserved (suc more) is =
-    spells (
-    then {K = λ held. suc more ≡ reserved_count held} first_address spells_u64 (λ at f.
+encodes_reserved (suc more) is =
+    encodes (
+    then {K = λ held. suc more ≡ reserved_count held} first_address encodes_u64 (λ at f.
     all_read (Some (suc more, at)) (some_is more at) (refl, refl)))
     (address_text more) (address_fits more is) (address_back more)
 
@@ -80,46 +80,46 @@ count_fits : (held : Option (ℕ × ℕ)) → IsReserved held → (reserved_coun
 count_fits None f = (omega arith, refl)
 count_fits (Some held) f = elim f.0 [ inl e ↦ (omega (arith, e), rw e refl) | inr e ↦ (omega (arith, e), rw e refl) ]
 
-pub spells_reservation : (form : TextForm) → Spells (reservation_at form) (reservation_text form) (λ held. IsReserved held × HasPlaceIn form held)
+pub encodes_reservation : (form : TextForm) → Encodes (reservation_at form) (reservation_text form) (λ held. IsReserved held × HasFieldIn form held)
 unfolding reservation_at
-spells_reservation First =
-    spells (all_read {K = λ held. None ≡ held} None (λ held k. k) refl)
+encodes_reservation First =
+    encodes (all_read {K = λ held. None ≡ held} None (λ held k. k) refl)
     (λ held f. refl) (λ held f. subst (λ (h : Option (ℕ × ℕ)). IsReserved h × (h ≡ None)) f.0 (tt, refl)) (λ held f. (sym f.1, tt))
-spells_reservation Second =
-    spells (
-    then {G = IsReserved} {K = Nothing} reserved_count (spells_that is_reserved_count spells_byte) (λ count f.
-    spells (spells_reserved count f.1) (λ held g. refl) (λ held g. ((tt, g.1), g.0)) (λ held g. (g.1, g.0.1))))
+encodes_reservation Second =
+    encodes (
+    then {G = IsReserved} {K = Nothing} reserved_count (encodes_that is_reserved_count encodes_byte) (λ count f.
+    encodes (encodes_reserved count f.1) (λ held g. refl) (λ held g. ((tt, g.1), g.0)) (λ held g. (g.1, g.0.1))))
     (λ held f. refl) (λ held f. (f.1.1, tt)) (λ held f. (tt, (count_fits held f.0, f.0)))
 
-pub spells_heap : Spells heap_at heap_text IsHeap
+pub encodes_heap : Encodes heap_at heap_text IsHeap
 unfolding heap_at
-spells_heap =
-    spells (
-    then {K = Nothing} (λ h. h.first) spells_u64 (λ first f.
-    then (λ h. h.now) spells_u64 (λ now g.
-    then (λ h. h.limit) spells_u64 (λ limit k.
+encodes_heap =
+    encodes (
+    then {K = Nothing} (λ h. h.first) encodes_u64 (λ first f.
+    then (λ h. h.now) encodes_u64 (λ now g.
+    then (λ h. h.limit) encodes_u64 (λ limit k.
     all_read (record { first = first; now = now; limit = limit }) (λ h k. λ i. record { first = k.0.0.1 i; now = k.0.1 i; limit = k.1 i }) (((tt, refl), refl), refl)))))
     (λ h f. ap (λ (v : List ℕ). number_text w64 h.first ++ (number_text w64 h.now ++ v)) (append-nil (number_text w64 h.limit)))
     (λ h f. record { first = f.1.0; now = f.1.1.0; limit = f.1.1.1.0 })
     (λ h f. (tt, (f.first, (f.now, (f.limit, tt)))))
 
-pub spells_run : (least : ℕ) → Spells (run_at least) run_text (IsSavedRun least)
+pub encodes_run : (least : ℕ) → Encodes (run_at least) run_text (IsSavedRun least)
 unfolding run_at
-spells_run least =
-    spells (
-    then {K = Nothing} (λ r. r.first) (spells_from least) (λ first f.
-    then (λ r. r.pages) (spells_from 1) (λ pages g.
+encodes_run least =
+    encodes (
+    then {K = Nothing} (λ r. r.first) (encodes_from least) (λ first f.
+    then (λ r. r.pages) (encodes_from 1) (λ pages g.
     all_read (record { first = first; pages = pages }) (λ r k. λ i. record { first = k.0.1 i; pages = k.1 i }) ((tt, refl), refl))))
     (λ r f. ap (λ (v : List ℕ). number_text w32 r.first ++ v) (append-nil (number_text w32 r.pages)))
     (λ r f. record { from = f.1.0.from; first = f.1.0.below; some = f.1.1.0.from; pages = f.1.1.0.below })
     (λ r f. (tt, (record { from = f.from; below = f.first }, (record { from = f.some; below = f.pages }, tt))))
 
-pub spells_page : (least : ℕ) → Spells (page_at least) page_text (IsPage least)
+pub encodes_page : (least : ℕ) → Encodes (page_at least) page_text (IsPage least)
 unfolding page_at
-spells_page least =
-    spells (
-    then {K = Nothing} (λ p. p.number) (spells_from least) (λ number f.
-    then (λ p. p.bytes) (spells_that is_page (spells_bytes 4096)) (λ bytes g.
+encodes_page least =
+    encodes (
+    then {K = Nothing} (λ p. p.number) (encodes_from least) (λ number f.
+    then (λ p. p.bytes) (encodes_that is_page (encodes_bytes 4096)) (λ bytes g.
     all_read (record { number = number; bytes = bytes }) (λ p k. λ i. record { number = k.0.1 i; bytes = k.1 i }) ((tt, refl), refl))))
     (λ p f. ap (λ (v : List ℕ). number_text w32 p.number ++ v) (append-nil p.bytes))
     (λ p f. record { from = f.1.0.from; number = f.1.0.below; full = f.1.1.0.0.long; some = f.1.1.0.1 })
@@ -145,16 +145,16 @@ short_name None f = record { short = omega arith }
 short_name (Some name) f = record { short = f.1 }
 
 -- a name is read of its bytes
-spells_name : Spells (blob w16) (blob_text w16) (IsBlob (2 ^ 16))
-spells_name = spells_blob16
+encodes_name : Encodes (blob w16) (blob_text w16) (IsBlob (2 ^ 16))
+encodes_name = encodes_blob16
 
-pub spells_file : (least : ℕ) → Spells (file_at least) file_text (IsFile least)
+pub encodes_file : (least : ℕ) → Encodes (file_at least) file_text (IsFile least)
 unfolding file_at
-spells_file least =
-    spells (
-    then {K = Nothing} (λ p. p.number) (spells_from least) (λ number f.
-    then {G = λ p. IsNameText p.name × (IsBlob (2 ^ 32) p.content × Unit {0})} (λ p. name_bytes p.name) spells_blob16 (λ name g.
-    spells (then {K = λ p. ((Unit {0} × (number ≡ p.number)) × (name ≡ name_bytes p.name)) × IsNameText p.name} (λ p. p.content) spells_blob32 (λ content h.
+encodes_file least =
+    encodes (
+    then {K = Nothing} (λ p. p.number) (encodes_from least) (λ number f.
+    then {G = λ p. IsNameText p.name × (IsBlob (2 ^ 32) p.content × Unit {0})} (λ p. name_bytes p.name) encodes_blob16 (λ name g.
+    encodes (then {K = λ p. ((Unit {0} × (number ≡ p.number)) × (name ≡ name_bytes p.name)) × IsNameText p.name} (λ p. p.content) encodes_blob32 (λ content h.
     all_read (record { number = number; name = optional_name name; content = content })
     (λ p k. λ i. record { number = k.0.0.0.1 i; name = again_named p.name name k.0.1 k.0.0.1 i; content = k.1 i })
     ((((tt, refl), sym (named_bytes name)), is_named name g), refl)))
@@ -197,11 +197,11 @@ meant access = by access.mode access.appends
 abbrev flag_text : Access → List ℕ
 flag_text access = flags_of access ∷ []
 
-spells_access : Spells access_at flag_text Nothing
+encodes_access : Encodes access_at flag_text Nothing
 unfolding access_at
-spells_access =
-    spells (
-    then {K = Nothing} flags_of (spells_that are_flags spells_byte) (λ flags f.
+encodes_access =
+    encodes (
+    then {K = Nothing} flags_of (encodes_that are_flags encodes_byte) (λ flags f.
     all_read (access_of_code flags) (λ access k. ap access_of_code k.1 ∙ (meant access).0) (tt, sym (flags_again flags f.1))))
     (λ access f. refl)
     (λ access f. tt)
@@ -247,9 +247,9 @@ stream2_only Stream2 f = (refl, tt)
 stream2_only (File number cursor access) f = absurd cc
 
 -- a kind that says all
-spells_only : (kind : ℕ) (r : OpenFile) → open_file_text r ≡ [] → IsOpenFileOf kind r → ((open_file : OpenFile) → IsOpenFileOf kind open_file → (r ≡ open_file) × Unit {0}) → Spells (done r) open_file_text (IsOpenFileOf kind)
-spells_only kind r none is only =
-    spells (all_read {K = λ open_file. r ≡ open_file} r (λ open_file k. k) refl)
+encodes_only : (kind : ℕ) (r : OpenFile) → open_file_text r ≡ [] → IsOpenFileOf kind r → ((open_file : OpenFile) → IsOpenFileOf kind open_file → (r ≡ open_file) × Unit {0}) → Encodes (done r) open_file_text (IsOpenFileOf kind)
+encodes_only kind r none is only =
+    encodes (all_read {K = λ open_file. r ≡ open_file} r (λ open_file k. k) refl)
     (λ open_file f. sym none ∙ ap open_file_text f.0)
     (λ open_file f. subst (IsOpenFileOf kind) f.0 is)
     only
@@ -284,23 +284,23 @@ file_back Input k = absurd (cc (k.1))
 file_back Stream1 k = absurd (cc (k.1))
 file_back Stream2 k = absurd (cc (k.1))
 
-spells_open : Spells (open_file_at 3) open_file_text (IsOpenFileOf 3)
+encodes_open : Encodes (open_file_at 3) open_file_text (IsOpenFileOf 3)
 unfolding open_file_at
-spells_open =
-    spells (
-    then {K = IsOpen} number_in spells_u32 (λ number f.
-    then file_offset_in spells_u64 (λ cursor g.
-    then access_in spells_access (λ access h.
+encodes_open =
+    encodes (
+    then {K = IsOpen} number_in encodes_u32 (λ number f.
+    then file_offset_in encodes_u64 (λ cursor g.
+    then access_in encodes_access (λ access h.
     all_read (File number cursor access) (file_is number cursor access) (((refl, refl), refl), refl)))))
     file_text_is file_fits file_back
 
-spells_open_file : (kind : ℕ) → kind ≤ 3 → Spells (open_file_at kind) open_file_text (IsOpenFileOf kind)
+encodes_open_file : (kind : ℕ) → kind ≤ 3 → Encodes (open_file_at kind) open_file_text (IsOpenFileOf kind)
 unfolding open_file_at
-spells_open_file zero le = spells_only 0 Input refl (tt, refl) input_only
-spells_open_file (suc zero) le = spells_only 1 Stream1 refl (tt, refl) stream1_only
-spells_open_file (suc (suc zero)) le = spells_only 2 Stream2 refl (tt, refl) stream2_only
-spells_open_file (suc (suc (suc zero))) le = spells_open
-spells_open_file (suc (suc (suc (suc more)))) le = absurd (omega arith)
+encodes_open_file zero le = encodes_only 0 Input refl (tt, refl) input_only
+encodes_open_file (suc zero) le = encodes_only 1 Stream1 refl (tt, refl) stream1_only
+encodes_open_file (suc (suc zero)) le = encodes_only 2 Stream2 refl (tt, refl) stream2_only
+encodes_open_file (suc (suc (suc zero))) le = encodes_open
+encodes_open_file (suc (suc (suc (suc more)))) le = absurd (omega arith)
 
 kind_below : (open_file : OpenFile) → (kind_of open_file < 256) × (nat_le (kind_of open_file) 3 ≡ true)
 kind_below Input = (omega arith, refl)
@@ -308,13 +308,13 @@ kind_below Stream1 = (omega arith, refl)
 kind_below Stream2 = (omega arith, refl)
 kind_below (File number cursor access) = (omega arith, refl)
 
-pub spells_descriptor : (least : ℕ) → Spells (descriptor_at least) descriptor_text (IsDescriptor least)
+pub encodes_descriptor : (least : ℕ) → Encodes (descriptor_at least) descriptor_text (IsDescriptor least)
 unfolding descriptor_at
-spells_descriptor least =
-    spells (
-    then {K = Nothing} (λ d. d.0) (spells_from least) (λ fd f.
-    then {G = λ d. IsOpenFile d.1 × Unit {0}} (λ d. kind_of d.1) (spells_that (λ kind. nat_le kind 3) spells_byte) (λ kind g.
-    spells (then (λ d. d.1) (spells_open_file kind (leb-true _ _ g.1)) (λ open_file h.
+encodes_descriptor least =
+    encodes (
+    then {K = Nothing} (λ d. d.0) (encodes_from least) (λ fd f.
+    then {G = λ d. IsOpenFile d.1 × Unit {0}} (λ d. kind_of d.1) (encodes_that (λ kind. nat_le kind 3) encodes_byte) (λ kind g.
+    encodes (then (λ d. d.1) (encodes_open_file kind (leb-true _ _ g.1)) (λ open_file h.
     all_read (fd, open_file) (λ d k. λ i. (k.0.0.1 i, k.1 i)) (((tt, refl), h.1), refl)))
     (λ d f. refl) (λ d f. (f.0, (f.1.0.0, tt))) (λ d f. (f.0, ((f.1.0, f.0.1), tt))))))
     (λ d f. ap (λ (v : List ℕ). number_text w32 d.0 ++ (kind_of d.1 ∷ v)) (append-nil (open_file_text d.1)))
@@ -323,24 +323,24 @@ spells_descriptor least =
 
 -- ---- the whole
 
-spells_registers : Spells (alike u64 31) u64s (λ ns. (length ns ≡ 31) × Alike (λ n. n < 2 ^ 64) ns)
-spells_registers = spells_alike spells_u64 31
+encodes_registers : Encodes (alike u64 31) u64s (λ ns. (length ns ≡ 31) × Alike (λ n. n < 2 ^ 64) ns)
+encodes_registers = encodes_alike encodes_u64 31
 
-pub spells_body : (form : TextForm) → Spells (body_at form) (body_text form) (λ s. IsStateText s × HasPlaceIn form s.reservation)
+pub encodes_body : (form : TextForm) → Encodes (body_at form) (body_text form) (λ s. IsStateText s × HasFieldIn form s.reservation)
 unfolding body_at body_text
-spells_body form =
-    spells (
-    then {K = Nothing} (λ s. s.steps) spells_u64 (λ steps f1.
-    then (λ s. s.pc) spells_u64 (λ pc f2.
-    then (λ s. s.registers) spells_registers (λ registers f3.
-    then (λ s. s.reservation) (spells_reservation form) (λ reservation f10.
-    then (λ s. s.heap) spells_heap (λ heap f0.
-    then (λ s. s.runs) (spells_counted after_run spells_run 0) (λ runs f4.
-    then (λ s. s.pages) (spells_counted after_page spells_page 0) (λ pages f5.
-    then (λ s. s.files) (spells_counted after_file spells_file 0) (λ files f6.
-    then (λ s. s.descriptors) (spells_counted after_descriptor spells_descriptor 0) (λ descriptors f7.
-    then (λ s. s.stream1) spells_blob32 (λ stream1 f8.
-    then (λ s. s.stream2) spells_blob32 (λ stream2 f9.
+encodes_body form =
+    encodes (
+    then {K = Nothing} (λ s. s.steps) encodes_u64 (λ steps f1.
+    then (λ s. s.pc) encodes_u64 (λ pc f2.
+    then (λ s. s.registers) encodes_registers (λ registers f3.
+    then (λ s. s.reservation) (encodes_reservation form) (λ reservation f10.
+    then (λ s. s.heap) encodes_heap (λ heap f0.
+    then (λ s. s.runs) (encodes_counted after_run encodes_run 0) (λ runs f4.
+    then (λ s. s.pages) (encodes_counted after_page encodes_page 0) (λ pages f5.
+    then (λ s. s.files) (encodes_counted after_file encodes_file 0) (λ files f6.
+    then (λ s. s.descriptors) (encodes_counted after_descriptor encodes_descriptor 0) (λ descriptors f7.
+    then (λ s. s.stream1) encodes_blob32 (λ stream1 f8.
+    then (λ s. s.stream2) encodes_blob32 (λ stream2 f9.
     all_read (record { steps = steps; pc = pc; registers = registers; reservation = reservation; heap = heap; runs = runs; pages = pages; files = files; descriptors = descriptors; stream1 = stream1; stream2 = stream2 })
     (λ s k. λ i. record { steps = k.0.0.0.0.0.0.0.0.0.0.1 i; pc = k.0.0.0.0.0.0.0.0.0.1 i; registers = k.0.0.0.0.0.0.0.0.1 i; reservation = k.0.0.0.0.0.0.0.1 i; heap = k.0.0.0.0.0.0.1 i; runs = k.0.0.0.0.0.1 i; pages = k.0.0.0.0.1 i; files = k.0.0.0.1 i; descriptors = k.0.0.1 i; stream1 = k.0.1 i; stream2 = k.1 i })
     (((((((((((tt, refl), refl), refl), refl), refl), refl), refl), refl), refl), refl), refl)))))))))))))
@@ -353,33 +353,33 @@ magic_long First = refl
 magic_long Second = refl
 
 -- a text of a form that is known before
-pub spells_state_in : (form : TextForm) → Spells (state_in form) (state_text_in form) (λ s. IsStateText s × HasPlaceIn form s.reservation)
+pub encodes_state_in : (form : TextForm) → Encodes (state_in form) (state_text_in form) (λ s. IsStateText s × HasFieldIn form s.reservation)
 unfolding state_in
-spells_state_in form =
-    spells (
-    then {K = Nothing} (λ s. tt) (spells_begun (state_magic form) (magic_long form)) (λ begun f.
-    spells (spells_body form) (λ s g. refl) (λ s g. ((tt, refl), g)) (λ s g. g.1)))
+encodes_state_in form =
+    encodes (
+    then {K = Nothing} (λ s. tt) (encodes_begun (state_magic form) (magic_long form)) (λ begun f.
+    encodes (encodes_body form) (λ s g. refl) (λ s g. ((tt, refl), g)) (λ s g. g.1)))
     (λ s f. refl) (λ s f. f.1.1) (λ s f. (tt, (tt, f)))
 
-pub spells_state : SpellsForms state_at state_text_in (λ form s. IsStateText s × HasPlaceIn form s.reservation)
+pub encodes_state : EncodesForms state_at state_text_in (λ form s. IsStateText s × HasFieldIn form s.reservation)
 unfolding state_at
-spells_state = by_form (spells_begun_in state_magic magic_long refl) spells_body
+encodes_state = by_form (encodes_begun_in state_magic magic_long refl) encodes_body
 
 -- ---- with nothing after it
 
-in_form : (form : TextForm) (s : StateText) (text : List ℕ) → HasPlaceIn form s.reservation → text ≡ state_text_in form s → IsTextOfState s text
+in_form : (form : TextForm) (s : StateText) (text : List ℕ) → HasFieldIn form s.reservation → text ≡ state_text_in form s → IsTextOfState s text
 in_form First s text none is = inr (none, is)
 in_form Second s text any is = inl is
 
 pub formed_again : (s : StateText) (text : List ℕ) → IsStateText s → IsTextOfState s text → parsed_state text ≡ Ok s
 unfolding parsed_state
-formed_again s text fits (inl is) = ap parsed_state is ∙ whole_again spells_state Second s (fits, tt)
-formed_again s text fits (inr old) = ap parsed_state old.1 ∙ whole_again spells_state First s (fits, old.0)
+formed_again s text fits (inl is) = ap parsed_state is ∙ whole_again encodes_state Second s (fits, tt)
+formed_again s text fits (inr old) = ap parsed_state old.1 ∙ whole_again encodes_state First s (fits, old.0)
 
-pub spelled : (text : List ℕ) (s : StateText) → AreBytes text → parsed_state text ≡ Ok s → IsStateText s × IsTextOfState s text
+pub encoded : (text : List ℕ) (s : StateText) → AreBytes text → parsed_state text ≡ Ok s → IsStateText s × IsTextOfState s text
 unfolding parsed_state
-spelled text s fits is = let p = whole_takes spells_state text s fits is in (p.1.0, in_form p.0 s text p.1.1 p.2)
+encoded text s fits is = let p = whole_takes encodes_state text s fits is in (p.1.0, in_form p.0 s text p.1.1 p.2)
 
 pub is_found : (text : List ℕ) (r : Result StateParts TextRefusal) → AreBytes text → ReadsStateText r (parsed_state text) → IfOk r (λ p. IsStateText (state_view p) × IsTextOfState (state_view p) text)
-is_found text (Ok p) fits given = spelled text (state_view p) fits given
+is_found text (Ok p) fits given = encoded text (state_view p) fits given
 is_found text (Err e) fits given = tt

@@ -5,7 +5,7 @@ use Rattle.std.proofs.lemmas.List.Elements.{All-from_recursion}
 use Rattle.save_format.specs.ByteFields.Spelling.{InTurn}
 use Rattle.save_format.specs.declared.state_text.parts.File.{File}
 use Rattle.save_format.specs.StateText.StateText.{after_file}
-use Rattle.save_format.specs.StateText.Spelled.{IsFile, IsNameText, IsShortFile, name_bytes}
+use Rattle.save_format.specs.StateText.Encoded.{IsFile, IsNameText, IsShortFile, name_bytes}
 use Rattle.save_format.specs.StateText.Seen.{file_view}
 
 pub ruleset written = append_assoc

@@ -17,18 +17,18 @@ Reader A = List ℕ → Read A
 
 abbrev pub read_onward : {A B : Type 0} → Read A → (A → Reader B) → Read B
 read_onward (Ok x) next = next x.0 x.1
-read_onward (Err left) next = Err left
+read_onward (Err remaining) next = Err remaining
 
 infixl 10 ◌>>=◌
 abbrev pub ◌>>=◌ : {A B : Type 0} → Reader A → (A → Reader B) → Reader B
-(field >>= next) left = read_onward (field left) next
+(field >>= next) remaining = read_onward (field remaining) next
 
 abbrev pub done : {A : Type 0} → A → Reader A
-done x left = Ok (x, left)
+done x remaining = Ok (x, remaining)
 
 -- a little-endian number
 unfoldable pub number_of_width : Width → Reader ℕ
-number_of_width w left = if nat_lt (length left) (byte_len w) then Err (length left) else Ok (from_le_bytes w (take (byte_len w) left), drop (byte_len w) left)
+number_of_width w remaining = if nat_lt (length remaining) (byte_len w) then Err (length remaining) else Ok (from_le_bytes w (take (byte_len w) remaining), drop (byte_len w) remaining)
 
 abbrev pub u16 : Reader ℕ
 u16 = number_of_width w16
@@ -41,19 +41,19 @@ u64 = number_of_width w64
 
 -- one byte
 unfoldable pub byte : Reader ℕ
-byte left = if nat_lt (length left) 1 then Err (length left) else Ok (slice_index left 0, drop 1 left)
+byte remaining = if nat_lt (length remaining) 1 then Err (length remaining) else Ok (slice_index remaining 0, drop 1 remaining)
 
 -- `count` bytes
 unfoldable pub bytes : ℕ → Reader (List ℕ)
-bytes count left = if nat_lt (length left) count then Err (length left) else Ok (take count left, drop count left)
+bytes count remaining = if nat_lt (length remaining) count then Err (length remaining) else Ok (take count remaining, drop count remaining)
 
 abbrev pub tested : {A : Type 0} → (A → Bool) → Read A → ℕ → Read A
 tested test (Ok x) at = if test x.0 then Ok x else Err at
-tested test (Err left) at = Err left
+tested test (Err remaining) at = Err remaining
 
 -- a field that must meet a test; otherwise it is wrong at its first byte
 abbrev pub that : {A : Type 0} → (A → Bool) → Reader A → Reader A
-that test field left = tested test (field left) (length left)
+that test field remaining = tested test (field remaining) (length remaining)
 
 -- a number of 4 bytes that is at least `least`
 abbrev pub u32_from : ℕ → Reader ℕ
@@ -98,21 +98,21 @@ counted item next s = do
 -- no bytes are left after the value
 abbrev pub ended : {A : Type 0} → Read A → Result A ℕ
 ended (Ok x) = if length x.1 == 0 then Ok x.0 else Err (length x.1)
-ended (Err left) = Err left
+ended (Err remaining) = Err remaining
 
 -- the offset at which a field begins that has this many bytes left
-abbrev pub placed_in : {A : Type 0} → ℕ → Result A ℕ → Result A ℕ
-placed_in size (Ok x) = Ok x
-placed_in size (Err left) = Err (size - left)
+abbrev pub at_offset : {A : Type 0} → ℕ → Result A ℕ → Result A ℕ
+at_offset size (Ok x) = Ok x
+at_offset size (Err remaining) = Err (size - remaining)
 
 -- the value of a whole text, or the offset of its first wrong field
 abbrev pub whole : {A : Type 0} → Reader A → List ℕ → Result A ℕ
-whole field text = placed_in (length text) (ended (field text))
+whole field text = at_offset (length text) (ended (field text))
 
 -- the value that a function returned, seen by `view`, and the bytes that it left are those of reading; or both find the same wrong field
 abbrev pub Finds : {X Y : Type 0} → (X → Y) → Result X WrongField → List ℕ → Read Y → Type 0
-Finds view (Ok x) left read = read ≡ Ok (view x, left)
-Finds view (Err field) left read = read ≡ Err field.left
+Finds view (Ok x) remaining read = read ≡ Ok (view x, remaining)
+Finds view (Err field) remaining read = read ≡ Err field.remaining
 
 -- a wrong field is the one of reading; out of memory is always allowed
 abbrev pub FailsField : {Y : Type 0} → ReadStop → Read Y → Type 0
@@ -120,5 +120,5 @@ FailsField (Wrong at) read = read ≡ Err at
 FailsField OutOfMemory read = Unit {0}
 
 abbrev pub GivesField : {X Y : Type 0} → (X → Y) → Result X ReadStop → List ℕ → Read Y → Type 0
-GivesField view (Ok x) left read = read ≡ Ok (view x, left)
-GivesField view (Err e) left read = FailsField e read
+GivesField view (Ok x) remaining read = read ≡ Ok (view x, remaining)
+GivesField view (Err e) remaining read = FailsField e read

@@ -5,9 +5,9 @@ use Rattle.ddc_base.specs.declared.digests.Digest.{Digest}
 use Rattle.save_format.specs.ByteFields.Reader.{Reader, ◌>>=◌, begun, done, whole}
 use Rattle.save_format.specs.StateText.StateText.{StateText}
 use Rattle.save_format.specs.SaveText.{SaveText, StageText, digest_at}
-use Rattle.save_format.specs.Spelled.{IsSavedDigest, digest_text}
+use Rattle.save_format.specs.Encoded.{IsSavedDigest, digest_text}
 use Rattle.save_format.specs.PatchText.PatchText.{patch_at}
-use Rattle.save_format.specs.PatchText.Spelled as patch
+use Rattle.save_format.specs.PatchText.Encoded as patch
 use Rattle.save_format.specs.DeltaText.Stages.{AreStagesRelative, stages_relative_at, stages_relative_text}
 
 -- the digest of its base's text, the finished stages, and the state of the current guest
@@ -21,8 +21,8 @@ abbrev pub delta_magic : List ℕ
 delta_magic = 100 ∷ 100 ∷ 99 ∷ 100 ∷ 101 ∷ 108 ∷ 116 ∷ 50 ∷ []
 
 -- the digest of its base, which is judged before the fields that follow
-unfoldable pub delta_front_at : Reader Digest
-delta_front_at = do
+unfoldable pub delta_header_at : Reader Digest
+delta_header_at = do
   start ← begun delta_magic
   digest_at
 

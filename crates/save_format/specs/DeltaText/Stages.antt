@@ -7,7 +7,7 @@ use Rattle.save_format.specs.ByteFields.Spelling.{list_text, number_text}
 use Rattle.report.specs.declared.types.LeftLine.{LeftLine}
 use Rattle.report.specs.declared.types.Mark.{Mark}
 use Rattle.save_format.specs.SaveText.{StageText, saved_stage_at}
-use Rattle.save_format.specs.Spelled.{IsStageText, stage_text}
+use Rattle.save_format.specs.Encoded.{IsStageText, stage_text}
 
 -- ---- two stages are the same, field by field
 

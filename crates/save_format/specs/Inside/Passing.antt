@@ -7,8 +7,8 @@ use Rattle.save_format.specs.declared.state_text.reading.TextRefusal.TheVariants
 
 -- a function skipped a field that can be read, or found it wrong
 abbrev pub GoesPast : {Y : Type 0} → Result (Unit {0}) WrongField → List ℕ → Read Y → Type 0
-GoesPast {Y} (Ok past) left read = (y : Y) × (read ≡ Ok (y, left))
-GoesPast (Err field) left read = read ≡ Err field.left
+GoesPast {Y} (Ok past) remaining read = (y : Y) × (read ≡ Ok (y, remaining))
+GoesPast (Err field) remaining read = read ≡ Err field.remaining
 
 -- whether a text is well-formed, and otherwise its first wrong field
 abbrev pub JudgesForm : {Y : Type 0} → Result (Unit {0}) TextRefusal → Result Y ℕ → Type 0

@@ -10,7 +10,7 @@ use std::marker::Model;
 /// A wrong field. `left` is how many bytes were left at its first byte.
 #[derive(Clone, Copy)]
 pub struct WrongField {
-    pub left: usize,
+    pub remaining: usize,
 }
 
 /// Why a reader that allocates stops.
@@ -22,10 +22,10 @@ pub enum ReadStop {
 }
 
 impl From<WrongField> for ReadStop {
-    ghost from_gives = { λ field e. e ≡ Wrong field.left };
+    ghost from_gives = { λ field e. e ≡ Wrong field.remaining };
 
     fn from(field: WrongField) -> ReadStop {
-        ReadStop::Wrong(field.left)
+        ReadStop::Wrong(field.remaining)
     }
 }
 
@@ -57,28 +57,28 @@ impl<T: Drop> From<AllocFailed<T>> for ReadStop {
 /// many bytes were left at the field's first byte, the cursor may be anywhere in the text.
 #[derive(Drop)]
 pub struct Cursor<'a> {
-    left: &'a [u8],
+    remaining: &'a [u8],
 }
 
 impl<'a> Model for Cursor<'a> {
     ghost Value = { List ℕ };
 
-    ghost view = { λ c. c.left.now };
+    ghost view = { λ c. c.remaining.now };
 }
 
 impl<'a> Cursor<'a> {
     /// A cursor at the start of a text.
-    pub fn new(left: &'a [u8]) -> Cursor<'a>
-        ensures { result ≡ left.now }
+    pub fn new(remaining: &'a [u8]) -> Cursor<'a>
+        ensures { result ≡ remaining.now }
     {
-        Cursor { left }
+        Cursor { remaining }
     }
 
     /// How many bytes are left.
     pub fn len(&self) -> usize
         ensures { result ≡ length self.now }
     {
-        self.left.len()
+        self.remaining.len()
     }
 
     /// The next byte.
@@ -86,13 +86,13 @@ impl<'a> Cursor<'a> {
     pub fn byte(&mut self) -> Result<u8, WrongField>
         ensures { Finds (λ x. x) result self.new (byte self.old) }
     {
-        if self.left.len() < 1 {
+        if self.remaining.len() < 1 {
             return Err(WrongField {
-                left: self.left.len(),
+                remaining: self.remaining.len(),
             });
         }
-        let value = self.left[0];
-        self.left = &self.left[1..];
+        let value = self.remaining[0];
+        self.remaining = &self.remaining[1..];
         Ok(value)
     }
 
@@ -102,14 +102,14 @@ impl<'a> Cursor<'a> {
         ensures read { Finds (λ x. x.now) result self.new (bytes count self.old) }
         ensures long { IfOk result (λ x. length x.now ≡ count) }
     {
-        if self.left.len() < count {
+        if self.remaining.len() < count {
             return Err(WrongField {
-                left: self.left.len(),
+                remaining: self.remaining.len(),
             });
         }
-        let (front, rest) = self.left.split_at(count);
-        self.left = rest;
-        Ok(front)
+        let (prefix, rest) = self.remaining.split_at(count);
+        self.remaining = rest;
+        Ok(prefix)
     }
 
     /// The eight bytes that begin each text of a format.
@@ -119,7 +119,7 @@ impl<'a> Cursor<'a> {
         let start = self.len();
         let found = self.bytes(8)?;
         if found != magic.as_slice() {
-            return Err(WrongField { left: start });
+            return Err(WrongField { remaining: start });
         }
         Ok(())
     }
@@ -140,7 +140,7 @@ impl<'a> Cursor<'a> {
         if found == second.as_slice() {
             return Ok(TextForm::Second);
         }
-        Err(WrongField { left: start })
+        Err(WrongField { remaining: start })
     }
 
     /// A number of 2 bytes.
@@ -148,14 +148,14 @@ impl<'a> Cursor<'a> {
     pub fn u16(&mut self) -> Result<u16, WrongField>
         ensures { Finds (λ x. x) result self.new (u16 self.old) }
     {
-        if self.left.len() < 2 {
+        if self.remaining.len() < 2 {
             return Err(WrongField {
-                left: self.left.len(),
+                remaining: self.remaining.len(),
             });
         }
-        let (f, rest) = self.left.split_at(2);
+        let (f, rest) = self.remaining.split_at(2);
         let number = u16::from_le_bytes([f[0], f[1]]);
-        self.left = rest;
+        self.remaining = rest;
         Ok(number)
     }
 
@@ -164,14 +164,14 @@ impl<'a> Cursor<'a> {
     pub fn u32(&mut self) -> Result<u32, WrongField>
         ensures { Finds (λ x. x) result self.new (u32 self.old) }
     {
-        if self.left.len() < 4 {
+        if self.remaining.len() < 4 {
             return Err(WrongField {
-                left: self.left.len(),
+                remaining: self.remaining.len(),
             });
         }
-        let (f, rest) = self.left.split_at(4);
+        let (f, rest) = self.remaining.split_at(4);
         let number = u32::from_le_bytes([f[0], f[1], f[2], f[3]]);
-        self.left = rest;
+        self.remaining = rest;
         Ok(number)
     }
 
@@ -182,7 +182,7 @@ impl<'a> Cursor<'a> {
         let at = self.len();
         let number = self.u32()?;
         if u64::from(number) < least {
-            return Err(WrongField { left: at });
+            return Err(WrongField { remaining: at });
         }
         Ok(number)
     }
@@ -192,14 +192,14 @@ impl<'a> Cursor<'a> {
     pub fn u64(&mut self) -> Result<u64, WrongField>
         ensures { Finds (λ x. x) result self.new (u64 self.old) }
     {
-        if self.left.len() < 8 {
+        if self.remaining.len() < 8 {
             return Err(WrongField {
-                left: self.left.len(),
+                remaining: self.remaining.len(),
             });
         }
-        let (f, rest) = self.left.split_at(8);
+        let (f, rest) = self.remaining.split_at(8);
         let number = u64::from_le_bytes([f[0], f[1], f[2], f[3], f[4], f[5], f[6], f[7]]);
-        self.left = rest;
+        self.remaining = rest;
         Ok(number)
     }
 

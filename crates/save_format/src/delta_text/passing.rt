@@ -3,21 +3,21 @@
 ghost use Rattle.std.specs.Prelude.{◌≡◌, ◌==◌, ◌&&◌, None, bytes_eq, drop, length, map, nat_le, option_map};
 ghost use Rattle.std.specs.Option.{option_copied};
 ghost use Rattle.save_format.specs.ByteFields.Reader.{Finds, counted, several};
-ghost use Rattle.save_format.specs.DeltaText.DeltaText.{delta_at, delta_front_at, parsed_delta};
-ghost use Rattle.save_format.specs.DeltaText.Front.{is_of_other_base};
+ghost use Rattle.save_format.specs.DeltaText.DeltaText.{delta_at, delta_header_at, parsed_delta};
+ghost use Rattle.save_format.specs.DeltaText.Header.{is_of_other_base};
 ghost use Rattle.save_format.specs.DeltaText.Inside.Relative.{IsLeftNext, PassesRelative};
 ghost use Rattle.save_format.specs.DeltaText.Stages.{after_further, equal_lefts, equal_marks, equal_stages, further_at, stages_relative_at};
-ghost use Rattle.save_format.specs.Inside.Fronts.{ReadsFront, stages_and_state_at};
+ghost use Rattle.save_format.specs.Inside.Headers.{ReadsHeader, stages_and_state_at};
 ghost use Rattle.save_format.specs.Inside.Passing.{GoesPast, JudgesForm};
 ghost use Rattle.save_format.specs.SaveText.{SaveText, after_left, saved_left_at, saved_stage_at};
 ghost use Rattle.save_format.specs.Seen.{save_view, stage_view};
-ghost use Rattle.save_format.specs.Spelled.{IsSaveText};
+ghost use Rattle.save_format.specs.Encoded.{IsSaveText};
 
 use crate::byte_fields::{Cursor, WrongField};
 use crate::delta_text::reading::MAGIC;
 use crate::delta_text::stages::{is_same_left, is_same_mark, kept_of, known_at};
-use crate::fields::{digest_of, line_of, pass_stage, stage_front};
-use crate::parts::{Parts, StageFront, StagePart};
+use crate::fields::{digest_of, line_of, pass_stage, stage_header};
+use crate::parts::{Parts, StageHeader, StagePart};
 use crate::patch_text::pass_patch;
 use crate::state_text::TextRefusal;
 use ddc_base::digests::Digest;
@@ -28,17 +28,17 @@ pub fn names_other_base(base: &Digest, text: &[u8]) -> bool
     ensures { result ≡ is_of_other_base base.now text.now }
 {
     let mut cursor = Cursor::new(text);
-    match front_of(&mut cursor) {
+    match header_of(&mut cursor) {
         Ok(found) => found != *base,
         Err(_) => false,
     }
 }
 
 /// The digest of a delta's base, after its magic.
-#[tactic(auto, unfolding(crate::specs::DeltaText::DeltaText::delta_front_at, crate::specs::DeltaText::DeltaText::delta_at, crate::specs::Inside::Fronts::stages_and_state_at))]
-pub(crate) fn front_of(cursor: &mut Cursor<'_>) -> Result<Digest, WrongField>
-    ensures alone { Finds (λ x. x) result cursor.new (delta_front_at cursor.old) }
-    ensures first { (base : SaveText) → ReadsFront (stages_and_state_at base) result cursor.new (delta_at base cursor.old) }
+#[tactic(auto, unfolding(crate::specs::DeltaText::DeltaText::delta_header_at, crate::specs::DeltaText::DeltaText::delta_at, crate::specs::Inside::Headers::stages_and_state_at))]
+pub(crate) fn header_of(cursor: &mut Cursor<'_>) -> Result<Digest, WrongField>
+    ensures alone { Finds (λ x. x) result cursor.new (delta_header_at cursor.old) }
+    ensures first { (base : SaveText) → ReadsHeader (stages_and_state_at base) result cursor.new (delta_at base cursor.old) }
 {
     cursor.begins_with(&MAGIC)?;
     digest_of(cursor)
@@ -83,31 +83,31 @@ fn pass_lefts(cursor: &mut Cursor<'_>, count: u32, known: &[LeftLine]) -> Result
 }
 
 /// Whether a stage of the base has these steps, marks and artefact, and `same_left` holds for the files that it left.
-fn are_same(known: &StagePart, front: StageFront, same_left: bool, made: &[u8]) -> bool
-    ensures { result ≡ (known.now.steps == front.steps && (equal_marks known.now.stream1 front.stream1
-        && (equal_marks known.now.stream2 front.stream2 && (same_left && bytes_eq known.now.made made.now)))) }
+fn are_same(known: &StagePart, header: StageHeader, same_left: bool, made: &[u8]) -> bool
+    ensures { result ≡ (known.now.steps == header.steps && (equal_marks known.now.stream1 header.stream1
+        && (equal_marks known.now.stream2 header.stream2 && (same_left && bytes_eq known.now.made made.now)))) }
 {
-    if known.steps != front.steps {
+    if known.steps != header.steps {
         return false;
     }
-    if !is_same_mark(known.stream1, front.stream1) {
+    if !is_same_mark(known.stream1, header.stream1) {
         return false;
     }
-    if !is_same_mark(known.stream2, front.stream2) {
+    if !is_same_mark(known.stream2, header.stream2) {
         return false;
     }
     are_both(same_left, known.made.as_slice() == made)
 }
 
 /// Skips a finished stage. Returns whether it is that of the base.
-#[tactic(auto, unfolding(crate::specs::Inside::Fronts::left_and_made_at))]
+#[tactic(auto, unfolding(crate::specs::Inside::Headers::left_and_made_at))]
 fn pass_relative(cursor: &mut Cursor<'_>, known: &StagePart) -> Result<bool, WrongField>
     ensures { PassesRelative (equal_stages (stage_view known.now)) result cursor.new (saved_stage_at 0 cursor.old) }
 {
-    let front = stage_front(cursor)?;
-    let same_left = pass_lefts(cursor, front.count, known.left.as_slice())?;
+    let header = stage_header(cursor)?;
+    let same_left = pass_lefts(cursor, header.count, known.left.as_slice())?;
     let made = cursor.blob32()?;
-    Ok(are_same(known, front, same_left, made))
+    Ok(are_same(known, header, same_left, made))
 }
 
 /// Skips a further stage. It is wrong if it equals the base's next stage.
@@ -120,7 +120,7 @@ fn pass_further(cursor: &mut Cursor<'_>, known: Option<&StagePart>) -> Result<()
         None => pass_stage(cursor),
         Some(known) => {
             if pass_relative(cursor, known)? {
-                return Err(WrongField { left: at });
+                return Err(WrongField { remaining: at });
             }
             Ok(())
         }
@@ -150,12 +150,12 @@ fn pass_stages_relative(cursor: &mut Cursor<'_>, base: &[StagePart]) -> Result<(
 }
 
 /// Skips a delta.
-#[tactic(auto, unfolding(crate::specs::Inside::Fronts::stages_and_state_at))]
+#[tactic(auto, unfolding(crate::specs::Inside::Headers::stages_and_state_at))]
 fn pass_delta<'a>(cursor: &mut Cursor<'a>, base: &Parts<'a>) -> Result<(), WrongField>
     requires { IsSaveText (save_view base.now) }
     ensures { GoesPast result cursor.new (delta_at (save_view base.now) cursor.old) }
 {
-    let _digest = front_of(cursor)?;
+    let _digest = header_of(cursor)?;
     pass_stages_relative(cursor, base.done.as_slice())?;
     pass_patch(cursor, &base.state)
 }
@@ -169,10 +169,10 @@ pub(crate) fn judge<'a>(base: &Parts<'a>, text: &'a [u8]) -> Result<(), TextRefu
     let mut cursor = Cursor::new(text);
     match pass_delta(&mut cursor, base) {
         Ok(()) => {}
-        Err(field) => return Err(TextRefusal::Form((text.len() - field.left) as u64)),
+        Err(field) => return Err(TextRefusal::Form((text.len() - field.remaining) as u64)),
     }
     match cursor.len() {
         0 => Ok(()),
-        left => Err(TextRefusal::Form((text.len() - left) as u64)),
+        remaining => Err(TextRefusal::Form((text.len() - remaining) as u64)),
     }
 }

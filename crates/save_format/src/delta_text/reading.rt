@@ -6,13 +6,13 @@ ghost use Rattle.save_format.specs.ByteFields.Reader.{GivesField, counted};
 ghost use Rattle.save_format.specs.DeltaText.DeltaText.{DeltaText, IsDelta, delta_at, parsed_delta, text_of_delta};
 ghost use Rattle.save_format.specs.DeltaText.Seen.{ReadsDeltaText, delta_view};
 ghost use Rattle.save_format.specs.DeltaText.Stages.{after_further, further_at, stages_relative_at};
-ghost use Rattle.save_format.specs.Inside.Fronts.{stages_and_state_at};
+ghost use Rattle.save_format.specs.Inside.Headers.{stages_and_state_at};
 ghost use Rattle.save_format.specs.Seen.{save_view, stage_view};
-ghost use Rattle.save_format.specs.Spelled.{IsSaveText};
+ghost use Rattle.save_format.specs.Encoded.{IsSaveText};
 
 use crate::byte_fields::{Cursor, ReadStop};
 use crate::delta_text::parts::DeltaParts;
-use crate::delta_text::passing::{front_of, judge};
+use crate::delta_text::passing::{header_of, judge};
 use crate::delta_text::stages::{is_other, kept_of, known_at};
 use crate::fields::stage_of;
 use crate::parts::{Parts, StagePart};
@@ -91,7 +91,7 @@ fn stages_of(
 }
 
 /// The fields after the digest of a delta's base.
-#[tactic(auto, unfolding(crate::specs::Inside::Fronts::stages_and_state_at))]
+#[tactic(auto, unfolding(crate::specs::Inside::Headers::stages_and_state_at))]
 fn after_digest<'a>(
     alloc: Global,
     cursor: &mut Cursor<'a>,
@@ -125,7 +125,7 @@ fn delta_of<'a>(
     requires { IsSaveText (save_view base) }
     ensures { GivesField delta_view result cursor.new (delta_at (save_view base.entry) cursor.old) }
 {
-    let digest = front_of(cursor)?;
+    let digest = header_of(cursor)?;
     after_digest(alloc, cursor, digest, base)
 }
 

@@ -106,7 +106,7 @@ pub(crate) fn kept_of(cursor: &mut Cursor<'_>, base: &[StagePart]) -> Result<u32
     let at = cursor.len();
     let kept = cursor.u32()?;
     if kept as usize > base.len() {
-        return Err(WrongField { left: at });
+        return Err(WrongField { remaining: at });
     }
     Ok(kept)
 }

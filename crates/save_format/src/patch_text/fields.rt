@@ -4,7 +4,7 @@ ghost use Rattle.std.specs.Option.{option_copied};
 ghost use Rattle.save_format.specs.ByteFields.Reader.{Finds, byte, bytes, that, u32, u64};
 ghost use Rattle.save_format.specs.StateText.StateText.{is_page};
 ghost use Rattle.save_format.specs.StateText.Seen.{file_view, page_view, state_view};
-ghost use Rattle.save_format.specs.Inside.Fronts.{ReadsFront, lists_relative_at};
+ghost use Rattle.save_format.specs.Inside.Headers.{ReadsHeader, lists_relative_at};
 ghost use Rattle.save_format.specs.PatchText.Inside.Walking.{Rises, SameFrom};
 ghost use Rattle.save_format.specs.PatchText.PatchText.{change_at, changed_bytes_at, content_relative_at, content_in, is_mark, is_new, marked_at, marked_content_at, marked_registers_at, new_content_at, page_bytes_at, page_in, patch_at, patched_file_at, register_at};
 ghost use Rattle.save_format.specs.PatchText.Seen.{change_view};
@@ -15,7 +15,7 @@ use crate::patch_text::merging::{are_same, bytes_of};
 use crate::patch_text::numbered::{from_number, taken};
 use crate::patch_text::reading::MAGIC;
 use crate::state_text::{
-    File, FrontNumbers, Page, StateParts, heap_of, is_zero, name_of, reservation_of,
+    File, HeaderNumbers, Page, StateParts, heap_of, is_zero, name_of, reservation_of,
 };
 
 /// A register: a value other than the base's if it is marked, otherwise the base's.
@@ -29,7 +29,7 @@ fn register_of(cursor: &mut Cursor<'_>, known: u64, marked: bool) -> Result<u64,
     let at = cursor.len();
     let value = cursor.u64()?;
     if known == value {
-        return Err(WrongField { left: at });
+        return Err(WrongField { remaining: at });
     }
     Ok(value)
 }
@@ -55,18 +55,18 @@ fn registers_of(cursor: &mut Cursor<'_>, base: &[u64; 31]) -> Result<[u64; 31], 
     let at = cursor.len();
     let marks = cursor.u32()?;
     if marks % 2 != 0 {
-        return Err(WrongField { left: at });
+        return Err(WrongField { remaining: at });
     }
     marked_of(cursor, marks / 2, base)
 }
 
 /// The magic of a patch, and the numbers after it.
-#[tactic(auto, unfolding(crate::specs::PatchText::PatchText::patch_at, crate::specs::PatchText::PatchText::patch_body_at, crate::specs::Inside::Fronts::lists_relative_at))]
+#[tactic(auto, unfolding(crate::specs::PatchText::PatchText::patch_at, crate::specs::PatchText::PatchText::patch_body_at, crate::specs::Inside::Headers::lists_relative_at))]
 pub(crate) fn numbers_of(
     cursor: &mut Cursor<'_>,
     base: &StateParts<'_>,
-) -> Result<FrontNumbers, WrongField>
-    ensures { ReadsFront (lists_relative_at (state_view base.now)) result cursor.new (patch_at (state_view base.now) cursor.old) }
+) -> Result<HeaderNumbers, WrongField>
+    ensures { ReadsHeader (lists_relative_at (state_view base.now)) result cursor.new (patch_at (state_view base.now) cursor.old) }
 {
     cursor.begins_with(&MAGIC)?;
     let steps = cursor.u64()?;
@@ -74,7 +74,7 @@ pub(crate) fn numbers_of(
     let registers = registers_of(cursor, &base.registers)?;
     let reservation = reservation_of(cursor, TextForm::Second)?;
     let heap = heap_of(cursor)?;
-    Ok(FrontNumbers {
+    Ok(HeaderNumbers {
         steps,
         pc,
         registers,
@@ -90,7 +90,7 @@ fn mark_of(cursor: &mut Cursor<'_>, known: Option<&[u8]>) -> Result<u8, WrongFie
     let at = cursor.len();
     let mark = cursor.byte()?;
     if !is_mark(known, mark) {
-        return Err(WrongField { left: at });
+        return Err(WrongField { remaining: at });
     }
     Ok(mark)
 }
@@ -131,7 +131,7 @@ fn changed_of<'a>(
             let at = cursor.len();
             let found = cursor.bytes(4096)?;
             if !is_new_page(known, found) {
-                return Err(WrongField { left: at });
+                return Err(WrongField { remaining: at });
             }
             Ok(Some(found))
         }
@@ -204,7 +204,7 @@ pub(crate) fn content<'a>(
             let at = cursor.len();
             let found = cursor.bytes(count as usize)?;
             if !is_new(known, found) {
-                return Err(WrongField { left: at });
+                return Err(WrongField { remaining: at });
             }
             Ok(found)
         }

@@ -3,15 +3,15 @@ ghost use Rattle.std.specs.Prelude.{◌≡◌, IfOk, map, option_map};
 ghost use Rattle.std.specs.Option.{option_copied};
 ghost use Rattle.save_format.specs.ByteFields.Spelling.{InTurn};
 ghost use Rattle.save_format.specs.StateText.StateText.{after_page};
-ghost use Rattle.save_format.specs.StateText.Spelled.{IsPage};
+ghost use Rattle.save_format.specs.StateText.Encoded.{IsPage};
 ghost use Rattle.save_format.specs.StateText.Seen.{page_view};
 ghost use Rattle.save_format.specs.PatchText.Inside.Walking.{IsLowest, Rises};
 ghost use Rattle.save_format.specs.PatchText.PatchText.{bytes_changed_by, changed_pages, equal_contents};
-ghost use Rattle.save_format.specs.PatchText.Spelled.{page_change_of, page_changes};
+ghost use Rattle.save_format.specs.PatchText.Encoded.{page_change_of, page_changes};
 ghost use Rattle.save_format.specs.PatchText.Seen.{bytes_in, change_view};
 
 use crate::patch_text::change::Change;
-use crate::patch_text::numbered::{front, taken};
+use crate::patch_text::numbered::{first_number, taken};
 use crate::state_text::Page;
 use ddc_base::OutOfMemory;
 use std::alloc::Global;
@@ -56,7 +56,7 @@ pub fn changes<'a>(
     let mut at = 0;
     let mut now = 0;
     let mut least = 0;
-    while let Some(number) = lowest(front(base, at), front(pages, now)) {
+    while let Some(number) = lowest(first_number(base, at), first_number(pages, now)) {
         let (known, later) = taken(base, at, number);
         let (page, later_now) = taken(pages, now, number);
         if let Some(change) = change_of(number, known, page) {
@@ -109,7 +109,7 @@ pub fn changed<'a>(
     let mut at = 0;
     let mut now = 0;
     let mut least = 0;
-    while let Some(number) = lowest(front(base, at), front(changes, now)) {
+    while let Some(number) = lowest(first_number(base, at), first_number(changes, now)) {
         let (known, later) = taken(base, at, number);
         let (change, later_now) = taken(changes, now, number);
         if let Some(bytes) = made_of(known, change) {

@@ -2,7 +2,7 @@
 ghost use Rattle.std.specs.Prelude.{◌≡◌, ◌≤◌, ◌+◌, ℕ, drop, length, map, option_map};
 ghost use Rattle.std.specs.Option.{option_copied};
 ghost use Rattle.save_format.specs.PatchText.Numbered.{item_numbered};
-ghost use Rattle.save_format.specs.PatchText.Inside.Walking.{IsFront, Rises, SameFrom};
+ghost use Rattle.save_format.specs.PatchText.Inside.Walking.{IsFirst, Rises, SameFrom};
 
 use crate::patch_text::change::Change;
 use crate::state_text::{File, Page};
@@ -107,8 +107,8 @@ pub fn taken<T: Numbered>(items: &[T], index: usize, number: u32) -> (Option<&T>
 }
 
 /// The number of the item at an index.
-pub fn front<T: Numbered>(items: &[T], index: usize) -> Option<u32>
-    ensures { IsFront (λ item. T.number_of (T.seen item)) (drop index items.now) result }
+pub fn first_number<T: Numbered>(items: &[T], index: usize) -> Option<u32>
+    ensures { IsFirst (λ item. T.number_of (T.seen item)) (drop index items.now) result }
 {
     match items.get(index) {
         None => None,

@@ -3,12 +3,12 @@ ghost use Rattle.std.specs.Prelude.{map};
 ghost use Rattle.save_format.specs.ByteFields.Reader.{counted};
 ghost use Rattle.save_format.specs.ByteFields.Spelling.{InTurn};
 ghost use Rattle.save_format.specs.StateText.StateText.{after_file, after_page};
-ghost use Rattle.save_format.specs.StateText.Spelled.{IsPage, IsStateText};
+ghost use Rattle.save_format.specs.StateText.Encoded.{IsPage, IsStateText};
 ghost use Rattle.save_format.specs.StateText.Seen.{file_view, page_view, state_view};
 ghost use Rattle.save_format.specs.PatchText.Inside.Walking.{Rises};
 ghost use Rattle.save_format.specs.PatchText.PatchText.{after_change, change_at, changed_pages_at, parsed_patch, patch_at, patched_file_at};
 ghost use Rattle.save_format.specs.Inside.Passing.{GoesPast, JudgesForm};
-ghost use Rattle.save_format.specs.Inside.Fronts.{lists_relative_at};
+ghost use Rattle.save_format.specs.Inside.Headers.{lists_relative_at};
 
 use crate::byte_fields::{Cursor, WrongField, pass_counted};
 use crate::patch_text::fields::{change_of, content, file_of, numbers_of};
@@ -48,7 +48,7 @@ fn pass_files<'a>(cursor: &mut Cursor<'a>, base: &[File<'a>]) -> Result<(), Wron
 }
 
 /// Skips a patch at the start of the remaining bytes.
-#[tactic(auto, unfolding(crate::specs::Inside::Fronts::lists_relative_at))]
+#[tactic(auto, unfolding(crate::specs::Inside::Headers::lists_relative_at))]
 pub(crate) fn pass_patch<'a>(
     cursor: &mut Cursor<'a>,
     base: &StateParts<'a>,
@@ -75,10 +75,10 @@ pub(crate) fn judge<'a>(base: &StateParts<'a>, text: &'a [u8]) -> Result<(), Tex
     let mut cursor = Cursor::new(text);
     match pass_patch(&mut cursor, base) {
         Ok(()) => {}
-        Err(field) => return Err(TextRefusal::Form((text.len() - field.left) as u64)),
+        Err(field) => return Err(TextRefusal::Form((text.len() - field.remaining) as u64)),
     }
     match cursor.len() {
         0 => Ok(()),
-        left => Err(TextRefusal::Form((text.len() - left) as u64)),
+        remaining => Err(TextRefusal::Form((text.len() - remaining) as u64)),
     }
 }

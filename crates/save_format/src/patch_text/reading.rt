@@ -3,12 +3,12 @@ ghost use Rattle.std.specs.Prelude.{◌≡◌, IfOk, Ok, map};
 ghost use Rattle.save_format.specs.ByteFields.Reader.{GivesField, counted, several};
 ghost use Rattle.save_format.specs.ByteFields.Spelling.{InTurn};
 ghost use Rattle.save_format.specs.StateText.StateText.{StateText, after_file, after_page};
-ghost use Rattle.save_format.specs.StateText.Spelled.{IsPage, IsStateText};
+ghost use Rattle.save_format.specs.StateText.Encoded.{IsPage, IsStateText};
 ghost use Rattle.save_format.specs.StateText.Seen.{ReadsStateText, file_view, page_view, state_view};
-ghost use Rattle.save_format.specs.Inside.Fronts.{lists_relative_at};
+ghost use Rattle.save_format.specs.Inside.Headers.{lists_relative_at};
 ghost use Rattle.save_format.specs.PatchText.Inside.Walking.{Rises};
 ghost use Rattle.save_format.specs.PatchText.PatchText.{after_change, change_at, changed_pages_at, parsed_patch, patch_at, patched_file_at};
-ghost use Rattle.save_format.specs.PatchText.Spelled.{IsPatched, text_of_patch};
+ghost use Rattle.save_format.specs.PatchText.Encoded.{IsPatched, text_of_patch};
 ghost use Rattle.save_format.specs.PatchText.Seen.{change_view};
 
 use crate::byte_fields::{Cursor, ReadStop, counted};
@@ -16,7 +16,7 @@ use crate::patch_text::change::Change;
 use crate::patch_text::fields::{change_of, content, file_of, numbers_of};
 use crate::patch_text::merging::changed;
 use crate::patch_text::passing::judge;
-use crate::state_text::{File, FrontNumbers, Page, StateParts, TextRefusal};
+use crate::state_text::{File, HeaderNumbers, Page, StateParts, TextRefusal};
 use std::alloc::Global;
 
 /// The eight bytes that begin the text of a patch.
@@ -83,7 +83,7 @@ fn files_relative<'a>(
 }
 
 /// The state in a patch at the start of the remaining bytes, relative to its base.
-#[tactic(auto, unfolding(crate::specs::Inside::Fronts::lists_relative_at))]
+#[tactic(auto, unfolding(crate::specs::Inside::Headers::lists_relative_at))]
 pub(crate) fn patch_of<'a>(
     alloc: Global,
     cursor: &mut Cursor<'a>,

@@ -6,10 +6,10 @@ ghost use Rattle.std.specs.Int.{w16, w32, w64};
 ghost use Rattle.save_format.specs.ByteFields.Spelling.{InTurn, blob_text, list_text, number_text};
 ghost use Rattle.save_format.specs.declared.byte_fields.form.TextForm.TheVariants.{Second};
 ghost use Rattle.save_format.specs.StateText.StateText.{after_page};
-ghost use Rattle.save_format.specs.StateText.Spelled.{IsPage, IsShortFile, IsStateText, descriptor_text, heap_text, name_bytes, reservation_text, run_text};
+ghost use Rattle.save_format.specs.StateText.Encoded.{IsPage, IsShortFile, IsStateText, descriptor_text, heap_text, name_bytes, reservation_text, run_text};
 ghost use Rattle.save_format.specs.StateText.Seen.{file_view, page_view, reserved_view, state_view};
 ghost use Rattle.save_format.specs.PatchText.Inside.Walking.{Rises};
-ghost use Rattle.save_format.specs.PatchText.Spelled.{IsPatched, change_text, changed_bytes_text, content_relative_text, marked_registers_text, marks_of, page_changes, page_changes_text, patch_body_text, patched_file_text, register_text, text_of_patch, values_text};
+ghost use Rattle.save_format.specs.PatchText.Encoded.{IsPatched, change_text, changed_bytes_text, content_relative_text, marked_registers_text, marks_of, page_changes, page_changes_text, patch_body_text, patched_file_text, register_text, text_of_patch, values_text};
 ghost use Rattle.save_format.specs.PatchText.Seen.{change_view};
 
 use crate::byte_fields::{all_or_none, put_blob16, put_blob32, put_counted, put_u32, put_u64};
@@ -31,7 +31,7 @@ fn mark_of(known: u64, value: u64) -> u32
 }
 
 /// A number whose bit i is set if the register at i differs.
-#[tactic(auto, unfolding(crate::specs::PatchText::Spelled::marks_of))]
+#[tactic(auto, unfolding(crate::specs::PatchText::Encoded::marks_of))]
 fn marks_of(base: &[u64], registers: &[u64]) -> u32
     requires { length base.now ≤ 31 }
     ensures { result ≡ marks_of base.now registers.now }
@@ -60,7 +60,7 @@ fn put_register(out: &mut Bytes, known: u64, value: u64) -> Result<(), OutOfMemo
 }
 
 /// Appends the registers that differ.
-#[tactic(auto, using(crate::proofs::PatchTextLemmas::Written::written, crate::proofs::ByteFieldsLemmas::Kept::kept), unfolding(crate::specs::PatchText::Spelled::values_text))]
+#[tactic(auto, using(crate::proofs::PatchTextLemmas::Written::written, crate::proofs::ByteFieldsLemmas::Kept::kept), unfolding(crate::specs::PatchText::Encoded::values_text))]
 fn put_values(out: &mut Bytes, base: &[u64], registers: &[u64]) -> Result<(), OutOfMemory>
     ensures ok { OnOk result (out.new ≡ out.old ++ values_text base.now registers.now) }
     ensures err { OnErr result (StartsWith out.new out.old) }
@@ -282,7 +282,7 @@ fn put_lists(
 }
 
 /// Appends all that follows the magic.
-#[tactic(auto, using(crate::proofs::PatchTextLemmas::Written::written, crate::proofs::ByteFieldsLemmas::Kept::kept), unfolding(crate::specs::PatchText::Spelled::patch_body_text))]
+#[tactic(auto, using(crate::proofs::PatchTextLemmas::Written::written, crate::proofs::ByteFieldsLemmas::Kept::kept), unfolding(crate::specs::PatchText::Encoded::patch_body_text))]
 fn put_body(
     alloc: Global,
     out: &mut Bytes,

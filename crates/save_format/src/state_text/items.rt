@@ -5,7 +5,7 @@ ghost use Rattle.std.specs.Io.{StartsWith};
 ghost use Rattle.std.specs.List.{list_all};
 ghost use Rattle.save_format.specs.ByteFields.Reader.{Finds, byte, bytes, that};
 ghost use Rattle.save_format.specs.StateText.StateText.{access_at, are_flags, is_page, mode_of_code, open_file_at};
-ghost use Rattle.save_format.specs.StateText.Spelled.{flags_of, kind_of, open_file_text};
+ghost use Rattle.save_format.specs.StateText.Encoded.{flags_of, kind_of, open_file_text};
 
 use crate::byte_fields::{Cursor, TextItem, WrongField, put_blob16, put_blob32, put_u32, put_u64};
 use crate::state_text::parts::{File, NumberedDescriptor, Page, Run};
@@ -15,7 +15,7 @@ use mem_files::{Access, Mode, OpenFile};
 impl<'a> TextItem<'a> for Run {
     ghost use Rattle.save_format.specs.declared.state_text.parts.Run.{Run};
     ghost use Rattle.save_format.specs.StateText.StateText.{after_run, run_at};
-    ghost use Rattle.save_format.specs.StateText.Spelled.{run_text};
+    ghost use Rattle.save_format.specs.StateText.Encoded.{run_text};
 
     ghost Seen = { Run };
 
@@ -49,7 +49,7 @@ impl<'a> TextItem<'a> for Run {
 
 impl<'a> TextItem<'a> for Page<'a> {
     ghost use Rattle.save_format.specs.StateText.StateText.{PageText, after_page, page_at};
-    ghost use Rattle.save_format.specs.StateText.Spelled.{page_text};
+    ghost use Rattle.save_format.specs.StateText.Encoded.{page_text};
     ghost use Rattle.save_format.specs.StateText.Seen.{page_view};
 
     ghost Seen = { PageText };
@@ -70,7 +70,7 @@ impl<'a> TextItem<'a> for Page<'a> {
         let at = cursor.len();
         let bytes = cursor.bytes(4096)?;
         if is_zero(bytes) {
-            return Err(WrongField { left: at });
+            return Err(WrongField { remaining: at });
         }
         Ok(Page { number, bytes })
     }
@@ -96,7 +96,7 @@ pub(crate) fn is_zero(bytes: &[u8]) -> bool
 impl<'a> TextItem<'a> for File<'a> {
     ghost use Rattle.mem_files.specs.Lists.{ListedFile};
     ghost use Rattle.save_format.specs.StateText.StateText.{after_file, file_at};
-    ghost use Rattle.save_format.specs.StateText.Spelled.{IsShortFile, file_text};
+    ghost use Rattle.save_format.specs.StateText.Encoded.{IsShortFile, file_text};
     ghost use Rattle.save_format.specs.StateText.Seen.{file_view};
 
     ghost Seen = { ListedFile };
@@ -152,7 +152,7 @@ impl<'a> TextItem<'a> for NumberedDescriptor {
     ghost use Rattle.std.specs.Prelude.{ℕ};
     ghost use Rattle.mem_files.specs.declared.open_file.OpenFile.{OpenFile};
     ghost use Rattle.save_format.specs.StateText.StateText.{after_descriptor, descriptor_at};
-    ghost use Rattle.save_format.specs.StateText.Spelled.{descriptor_text};
+    ghost use Rattle.save_format.specs.StateText.Encoded.{descriptor_text};
     ghost use Rattle.save_format.specs.StateText.Seen.{descriptor_view};
 
     ghost Seen = { ℕ × OpenFile };
@@ -173,7 +173,7 @@ impl<'a> TextItem<'a> for NumberedDescriptor {
         let at = cursor.len();
         let kind = cursor.byte()?;
         if kind > 3 {
-            return Err(WrongField { left: at });
+            return Err(WrongField { remaining: at });
         }
         let open_file = open_file_of(cursor, kind)?;
         Ok(NumberedDescriptor { fd, open_file })
@@ -201,11 +201,11 @@ fn open_file_of(cursor: &mut Cursor<'_>, kind: u8) -> Result<OpenFile, WrongFiel
         2 => Ok(OpenFile::Stream2),
         _ => {
             let number = cursor.u32()?;
-            let place = cursor.u64()?;
+            let offset = cursor.u64()?;
             let access = access_of(cursor)?;
             Ok(OpenFile::File {
                 number,
-                file_offset: place,
+                file_offset: offset,
                 access,
             })
         }
@@ -230,7 +230,7 @@ fn access_of(cursor: &mut Cursor<'_>) -> Result<Access, WrongField>
             appends: flags >= 4,
         })
     } else {
-        Err(WrongField { left: at })
+        Err(WrongField { remaining: at })
     }
 }
 

@@ -2,9 +2,9 @@
 
 ghost use Rattle.save_format.specs.ByteFields.Law.{IsReadInForms};
 ghost use Rattle.save_format.specs.StateText.StateText.{state_at};
-ghost use Rattle.save_format.specs.StateText.Spelled.{HasPlaceIn, IsStateText, state_text_in};
+ghost use Rattle.save_format.specs.StateText.Encoded.{HasFieldIn, IsStateText, state_text_in};
 
 /// Parsing an encoded state returns it, and every accepted text is the encoding of its state, in either format.
-pub fn states_are_read_as_spelled()
-    ensures { IsReadInForms state_at state_text_in (λ form s. IsStateText s × HasPlaceIn form s.reservation) }
+pub fn states_are_read_as_encoded()
+    ensures { IsReadInForms state_at state_text_in (λ form s. IsStateText s × HasFieldIn form s.reservation) }
 {}

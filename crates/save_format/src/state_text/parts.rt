@@ -47,7 +47,7 @@ pub struct NumberedDescriptor {
 
 /// The numbers before the lists of a state.
 #[derive(Clone, Copy)]
-pub(crate) struct FrontNumbers {
+pub(crate) struct HeaderNumbers {
     pub steps: u64,
     pub pc: u64,
     pub registers: [u64; 31],

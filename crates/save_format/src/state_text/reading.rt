@@ -1,14 +1,14 @@
 ghost use Rattle.std.specs.Prelude.{option_map, IfOk, Ok, Err};
 ghost use Rattle.save_format.specs.ByteFields.Reader.{Finds, GivesField, alike, begun, u64};
 ghost use Rattle.save_format.specs.StateText.StateText.{StateText, body_at, parsed_state, heap_at, reservation_at, state_at, state_in, state_magic};
-ghost use Rattle.save_format.specs.StateText.Spelled.{IsStateText, IsTextOfState};
+ghost use Rattle.save_format.specs.StateText.Encoded.{IsStateText, IsTextOfState};
 ghost use Rattle.save_format.specs.StateText.Seen.{ReadsStateText, reserved_view, state_view};
 ghost use Rattle.save_format.specs.Inside.Passing.{GoesPast, JudgesForm};
-ghost use Rattle.save_format.specs.Inside.Fronts.{ReadsFront, lists_at};
+ghost use Rattle.save_format.specs.Inside.Headers.{ReadsHeader, lists_at};
 
 use crate::byte_fields::{Cursor, ReadStop, TextForm, WrongField, counted, pass_counted};
 use crate::state_text::parts::{
-    File, FrontNumbers, NumberedDescriptor, Page, Reserved, Run, StateParts,
+    File, HeaderNumbers, NumberedDescriptor, Page, Reserved, Run, StateParts,
 };
 use linux_calls::Heap;
 use paged_mem::Width;
@@ -49,12 +49,12 @@ pub(crate) fn reservation_of(
     if form == TextForm::First {
         return Ok(None);
     }
-    let left = cursor.len();
+    let remaining = cursor.len();
     let width = match cursor.byte()? {
         0 => return Ok(None),
         4 => Width::W4,
         8 => Width::W8,
-        _ => return Err(WrongField { left }),
+        _ => return Err(WrongField { remaining }),
     };
     let at = cursor.u64()?;
     Ok(Some(Reserved { width, at }))
@@ -71,19 +71,19 @@ pub(crate) fn heap_of(cursor: &mut Cursor<'_>) -> Result<Heap, WrongField>
 }
 
 /// The numbers after the magic of a format.
-#[tactic(auto, unfolding(crate::specs::StateText::StateText::body_at, crate::specs::Inside::Fronts::lists_at))]
+#[tactic(auto, unfolding(crate::specs::StateText::StateText::body_at, crate::specs::Inside::Headers::lists_at))]
 pub(crate) fn numbers_of(
     cursor: &mut Cursor<'_>,
     form: TextForm,
-) -> Result<FrontNumbers, WrongField>
-    ensures { ReadsFront lists_at result cursor.new (body_at form cursor.old) }
+) -> Result<HeaderNumbers, WrongField>
+    ensures { ReadsHeader lists_at result cursor.new (body_at form cursor.old) }
 {
     let steps = cursor.u64()?;
     let pc = cursor.u64()?;
     let registers = registers_of(cursor)?;
     let reservation = reservation_of(cursor, form)?;
     let heap = heap_of(cursor)?;
-    Ok(FrontNumbers {
+    Ok(HeaderNumbers {
         steps,
         pc,
         registers,
@@ -93,7 +93,7 @@ pub(crate) fn numbers_of(
 }
 
 /// All fields after the magic of a format.
-#[tactic(auto, unfolding(crate::specs::Inside::Fronts::lists_at))]
+#[tactic(auto, unfolding(crate::specs::Inside::Headers::lists_at))]
 fn body_of<'a>(
     alloc: Global,
     cursor: &mut Cursor<'a>,
@@ -157,7 +157,7 @@ fn parts_at<'a>(alloc: Global, cursor: &mut Cursor<'a>) -> Result<StateParts<'a>
 }
 
 /// Skips all fields after the magic of a format.
-#[tactic(auto, unfolding(crate::specs::Inside::Fronts::lists_at))]
+#[tactic(auto, unfolding(crate::specs::Inside::Headers::lists_at))]
 fn pass_body(cursor: &mut Cursor<'_>, form: TextForm) -> Result<(), WrongField>
     ensures { GoesPast result cursor.new (body_at form cursor.old) }
 {
@@ -197,11 +197,11 @@ fn judge(text: &[u8]) -> Result<(), TextRefusal>
     let mut cursor = Cursor::new(text);
     match pass_state(&mut cursor) {
         Ok(()) => {}
-        Err(field) => return Err(TextRefusal::Form((text.len() - field.left) as u64)),
+        Err(field) => return Err(TextRefusal::Form((text.len() - field.remaining) as u64)),
     }
     match cursor.len() {
         0 => Ok(()),
-        left => Err(TextRefusal::Form((text.len() - left) as u64)),
+        remaining => Err(TextRefusal::Form((text.len() - remaining) as u64)),
     }
 }
 

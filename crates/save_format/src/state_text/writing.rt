@@ -3,7 +3,7 @@ ghost use Rattle.std.specs.Io.{StartsWith};
 ghost use Rattle.std.specs.Int.{w64};
 ghost use Rattle.save_format.specs.ByteFields.Spelling.{list_text, number_text};
 ghost use Rattle.save_format.specs.declared.byte_fields.form.TextForm.TheVariants.{Second};
-ghost use Rattle.save_format.specs.StateText.Spelled.{IsShortFile, IsStateText, body_text, descriptor_text, file_text, heap_text, page_text, reservation_text, run_text, text_of_state, u64s};
+ghost use Rattle.save_format.specs.StateText.Encoded.{IsShortFile, IsStateText, body_text, descriptor_text, file_text, heap_text, page_text, reservation_text, run_text, text_of_state, u64s};
 ghost use Rattle.save_format.specs.StateText.Seen.{file_view, reserved_view, state_view};
 
 use crate::byte_fields::{all_or_none, put_blob32, put_counted, put_u64};
@@ -98,7 +98,7 @@ fn put_lists(out: &mut Bytes, parts: &StateParts<'_>) -> Result<(), OutOfMemory>
 }
 
 /// Appends all that follows the magic.
-#[tactic(auto, using(crate::proofs::StateTextLemmas::Written::written, crate::proofs::ByteFieldsLemmas::Kept::kept), unfolding(crate::specs::StateText::Spelled::body_text))]
+#[tactic(auto, using(crate::proofs::StateTextLemmas::Written::written, crate::proofs::ByteFieldsLemmas::Kept::kept), unfolding(crate::specs::StateText::Encoded::body_text))]
 fn put_body(out: &mut Bytes, parts: &StateParts<'_>) -> Result<(), OutOfMemory>
     requires { IsStateText (state_view parts.now) }
     ensures ok { OnOk result (out.new ≡ out.old ++ body_text Second (state_view parts.now)) }

@@ -15,13 +15,18 @@ as_stage_word word = if has_no_zero_byte word then Some word else None
 abbrev pub as_prefix : List ℕ → Option (List ℕ)
 as_prefix word = if is_prefix word then Some word else None
 
+-- the words `FROM TO`
+abbrev pub segment_words : List (List ℕ) → Option (List ℕ × List ℕ)
+segment_words (from ∷ to ∷ []) = as_two_files from to
+segment_words _ = None
+
 -- the words `RECIPE STAGE`
-abbrev pub place_of : Option (List ℕ) → Option (List ℕ) → Option StageWords
-place_of (Some recipe) (Some stage) = Some (record { recipe = recipe; stage = stage })
-place_of _ _ = None
+abbrev pub target_of : Option (List ℕ) → Option (List ℕ) → Option StageWords
+target_of (Some recipe) (Some stage) = Some (record { recipe = recipe; stage = stage })
+target_of _ _ = None
 
 abbrev pub named_stage : List ℕ → List ℕ → Option StageWords
-named_stage recipe stage = place_of (as_file_name recipe) (as_stage_word stage)
+named_stage recipe stage = target_of (as_file_name recipe) (as_stage_word stage)
 
 abbrev pub stage_words : List (List ℕ) → Option StageWords
 stage_words (recipe ∷ stage ∷ []) = named_stage recipe stage
@@ -30,7 +35,7 @@ stage_words _ = None
 -- the words `RECIPE STAGE FILE OUT`
 abbrev pub left_of : Option (List ℕ × List ℕ) → Option (List ℕ) → Option (List ℕ) → Option LeftWords
 left_of (Some files) (Some stage) (Some file) =
-    Some (record { place = record { recipe = files.0; stage = stage }; wanted = record { file = file; out = files.1 } })
+    Some (record { target = record { recipe = files.0; stage = stage }; wanted = record { file = file; out = files.1 } })
 left_of _ _ _ = None
 
 unfoldable pub named_left : List ℕ → List ℕ → List ℕ → List ℕ → Option LeftWords
@@ -42,7 +47,7 @@ left_words _ = None
 
 -- the words `RECIPE STAGE EVERY PREFIX`
 abbrev pub cut_of : Option ℕ → Option StageWords → Option (List ℕ) → Option CutWords
-cut_of (Some every) (Some place) (Some prefix) = Some (record { place = place; spacing = record { every = every; prefix = prefix } })
+cut_of (Some every) (Some target) (Some prefix) = Some (record { target = target; spacing = record { every = every; prefix = prefix } })
 cut_of _ _ _ = None
 
 abbrev pub cut_words : List (List ℕ) → Option CutWords
@@ -51,7 +56,7 @@ cut_words _ = None
 
 -- the words `RECIPE STAGE PREFIX COUNT`
 abbrev pub ends_of : Option ℕ → Option StageWords → Option (List ℕ) → Option EndsWords
-ends_of (Some count) (Some place) (Some prefix) = Some (record { place = place; prefix = prefix; states = count })
+ends_of (Some count) (Some target) (Some prefix) = Some (record { target = target; prefix = prefix; states = count })
 ends_of _ _ _ = None
 
 abbrev pub ends_words : List (List ℕ) → Option EndsWords

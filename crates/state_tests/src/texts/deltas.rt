@@ -13,7 +13,7 @@ use std::process::Abort;
 use std::test::Fail;
 
 /// A delta by its fields, up to the patch: the base's stage is kept, and a further one is done.
-static FRONT: &[Piece] = &[
+static PREFIX: &[Piece] = &[
     Text(b"ddcdelt2"),
     Piece::Digest(9),
     N4(1),
@@ -52,7 +52,7 @@ static CHANGES: &[Change] = &[
 ];
 
 fn delta(alloc: Global) -> Result<Vec<Piece>, AllocError> {
-    let mut pieces = Vec::from_slice(alloc, FRONT)?;
+    let mut pieces = Vec::from_slice(alloc, PREFIX)?;
     pieces.extend_from_slice(NOTHING)?;
     Ok(pieces)
 }

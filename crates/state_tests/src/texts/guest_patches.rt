@@ -148,11 +148,11 @@ fn answer_at(
     alloc: Global,
     known: &Guest<RunRam>,
     patch: &[u8],
-    place: usize,
+    offset: usize,
     byte: u8,
 ) -> Result<(u8, u64), AllocError> {
     let mut text = Vec::from_slice(alloc, patch)?;
-    if let Some(at) = text.get_mut(place) {
+    if let Some(at) = text.get_mut(offset) {
         *at = byte;
     }
     Ok(answer(alloc, known, &text))
@@ -164,9 +164,9 @@ fn check_bytes(
     known: &Guest<RunRam>,
     patch: &[u8],
 ) -> Result<(), AllocError> {
-    for (place, byte, want) in BYTES {
-        let answer = answer_at(alloc, known, patch, *place, *byte)?;
-        assert_eq!(rt; answer, *want, "{place}");
+    for (offset, byte, want) in BYTES {
+        let answer = answer_at(alloc, known, patch, *offset, *byte)?;
+        assert_eq!(rt; answer, *want, "{offset}");
     }
     Ok(())
 }

@@ -249,8 +249,8 @@ pub fn pieces(alloc: Global) -> Result<Vec<Piece>, AllocError> {
 
 /// Puts pieces in the places of some.
 fn set_all(pieces: &mut [Piece], changes: &[(usize, Piece)]) {
-    for (place, piece) in changes {
-        set(pieces, *place, *piece);
+    for (index, piece) in changes {
+        set(pieces, *index, *piece);
     }
 }
 
@@ -291,8 +291,8 @@ fn answer_to(alloc: Global, changes: &[(usize, Piece)]) -> Result<u8, AllocError
 
 #[test]
 fn each_rule_has_its_refusal(rt: HostRuntime) -> Result<(), Fail> {
-    for (place, piece, want) in ROWS {
-        let changes = [(*place, *piece)];
+    for (index, piece, want) in ROWS {
+        let changes = [(*index, *piece)];
         assert_eq!(rt; answer_to(rt.alloc(), &changes)?, *want, "{changes:?}");
     }
     Ok(())

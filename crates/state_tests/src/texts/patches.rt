@@ -1,8 +1,8 @@
 //! States relative to the state of `states`: what is expected comes from docs/reference/delta.md.
 
 ghost use Rattle.save_format.specs.StateText.Seen.{state_view};
-ghost use Rattle.save_format.specs.StateText.Spelled.{IsStateText};
-ghost use Rattle.save_format.specs.PatchText.Spelled.{IsPatched};
+ghost use Rattle.save_format.specs.StateText.Encoded.{IsStateText};
+ghost use Rattle.save_format.specs.PatchText.Encoded.{IsPatched};
 
 use crate::texts::pieces::Piece::*;
 use crate::texts::pieces::*;
@@ -200,13 +200,13 @@ fn is_page(parts: &StateParts<'_>, index: usize, number: u32, last: u8) -> bool 
     }
 }
 
-fn has_numbers(parts: &StateParts<'_>, said: &RecipeContents) -> bool {
+fn has_numbers(parts: &StateParts<'_>, parsed: &RecipeContents) -> bool {
     let x = (parts.registers[0], parts.registers[1], parts.registers[30]);
-    (parts.steps, parts.pc) == said.numbers && x == said.x
+    (parts.steps, parts.pc) == parsed.numbers && x == parsed.x
 }
 
-fn has_pages(parts: &StateParts<'_>, said: &RecipeContents) -> bool {
-    let [(first, end), (second, last)] = said.pages;
+fn has_pages(parts: &StateParts<'_>, parsed: &RecipeContents) -> bool {
+    let [(first, end), (second, last)] = parsed.pages;
     parts.pages.len() == 2 && is_page(parts, 0, first, end) && is_page(parts, 1, second, last)
 }
 
@@ -224,11 +224,11 @@ fn put_contents(out: &mut Bytes, parts: &StateParts<'_>) -> Result<(), OutOfMemo
 fn has_contents(
     alloc: Global,
     parts: &StateParts<'_>,
-    said: &RecipeContents,
+    parsed: &RecipeContents,
 ) -> Result<bool, OutOfMemory> {
     let mut out = Bytes::new(alloc);
     put_contents(&mut out, parts)?;
-    Ok(out.as_slice() == said.contents)
+    Ok(out.as_slice() == parsed.contents)
 }
 
 /// Whether a patch relative to a state has this text.
@@ -252,26 +252,26 @@ fn has_parts(
     known: &StateParts<'_>,
     parts: &StateParts<'_>,
     text: &[u8],
-    said: &RecipeContents,
+    parsed: &RecipeContents,
 ) -> Result<bool, OutOfMemory>
     requires base { IsStateText (state_view known.now) }
     requires parts { IsPatched (state_view known.now) (state_view parts.now) }
 {
-    let has_contents = has_contents(alloc, parts, said)?;
+    let has_contents = has_contents(alloc, parts, parsed)?;
     let is_written = is_written(alloc, known, parts, text)?;
-    Ok(has_numbers(parts, said) && has_pages(parts, said) && has_contents && is_written)
+    Ok(has_numbers(parts, parsed) && has_pages(parts, parsed) && has_contents && is_written)
 }
 
 fn says_relative<'a>(
     alloc: Global,
     known: &StateParts<'a>,
     text: &'a [u8],
-    said: &RecipeContents,
+    parsed: &RecipeContents,
 ) -> Result<bool, OutOfMemory>
     requires { IsStateText (state_view known.now) }
 {
     match patch_text::read(alloc, known, text) {
-        Ok(parts) => has_parts(alloc, known, &parts, text, said),
+        Ok(parts) => has_parts(alloc, known, &parts, text, parsed),
         Err(_) => Ok(false),
     }
 }
@@ -280,22 +280,22 @@ fn says_relative_text<'a>(
     alloc: Global,
     base: &'a [u8],
     text: &'a [u8],
-    said: &RecipeContents,
+    parsed: &RecipeContents,
 ) -> Result<bool, OutOfMemory> {
     match state_text::read(alloc, base) {
-        Ok(known) => says_relative(alloc, &known, text, said),
+        Ok(known) => says_relative(alloc, &known, text, parsed),
         Err(_) => Ok(false),
     }
 }
 
 /// Whether the patch of these pieces says this relative to the state, and is written for it.
-fn says(alloc: Global, pieces: &[Piece], said: &RecipeContents) -> Result<bool, OutOfMemory> {
+fn says(alloc: Global, pieces: &[Piece], parsed: &RecipeContents) -> Result<bool, OutOfMemory> {
     let base = text_of(alloc, STATE)?;
     let text = text_of(alloc, pieces)?;
-    says_relative_text(alloc, &base, &text, said)
+    says_relative_text(alloc, &base, &text, parsed)
 }
 
-static PATCH_SAID: RecipeContents = RecipeContents {
+static PATCH_PARSED: RecipeContents = RecipeContents {
     numbers: (9, 0x10004),
     x: (100, 2, 200),
     pages: [(17, 3), (18, 8)],
@@ -304,14 +304,14 @@ static PATCH_SAID: RecipeContents = RecipeContents {
 
 #[test]
 fn what_stays_is_the_bases(rt: HostRuntime) -> Result<(), Fail> {
-    assert!(rt; says(rt.alloc(), PATCH, &PATCH_SAID)?);
+    assert!(rt; says(rt.alloc(), PATCH, &PATCH_PARSED)?);
     Ok(())
 }
 
 #[test]
 fn a_reservation_is_written_again(rt: HostRuntime) -> Result<(), Fail> {
     let patch = with_reservation(rt.alloc())?;
-    assert!(rt; says(rt.alloc(), &patch, &PATCH_SAID)?);
+    assert!(rt; says(rt.alloc(), &patch, &PATCH_PARSED)?);
     Ok(())
 }
 
@@ -355,7 +355,7 @@ pub static NOTHING: &[Piece] = &[
     N1(0),
 ];
 
-static NOTHING_SAID: RecipeContents = RecipeContents {
+static NOTHING_PARSED: RecipeContents = RecipeContents {
     numbers: (5, 0x10000),
     x: (1, 2, 31),
     pages: [(16, 7), (18, 9)],
@@ -364,6 +364,6 @@ static NOTHING_SAID: RecipeContents = RecipeContents {
 
 #[test]
 fn a_state_differs_from_itself_in_nothing(rt: HostRuntime) -> Result<(), Fail> {
-    assert!(rt; says(rt.alloc(), NOTHING, &NOTHING_SAID)?);
+    assert!(rt; says(rt.alloc(), NOTHING, &NOTHING_PARSED)?);
     Ok(())
 }

@@ -50,8 +50,8 @@ fn len(piece: Piece) -> usize {
 }
 
 /// Puts a piece in the place of one.
-pub fn set(pieces: &mut [Piece], place: usize, piece: Piece) {
-    if let Some(at) = pieces.get_mut(place) {
+pub fn set(pieces: &mut [Piece], slot: usize, piece: Piece) {
+    if let Some(at) = pieces.get_mut(slot) {
         *at = piece;
     }
 }
@@ -107,12 +107,12 @@ pub fn text_of_replaced(
 /// Where a field begins.
 pub fn start(pieces: &[Piece], index: usize) -> u64 {
     let mut at = 0usize;
-    let mut place = 0usize;
+    let mut slot = 0usize;
     for piece in pieces {
-        if place == index {
+        if slot == index {
             return at as u64;
         }
-        place = place.saturating_add(1);
+        slot = slot.saturating_add(1);
         at = at.saturating_add(len(*piece));
     }
     at as u64

@@ -108,13 +108,13 @@ fn pieces_are_checked(rt: HostRuntime) -> Result<(), Fail> {
 }
 
 /// A text's first bytes.
-fn front(text: &[u8], count: usize) -> &[u8] {
+fn prefix(text: &[u8], count: usize) -> &[u8] {
     text.get(..count).unwrap_or(text)
 }
 
 fn check_forms(rt: &impl Abort, alloc: Global, start: &[u8], first: &[u8], old: &[u8]) {
     let form = StateFault::Form(8);
-    let cut = front(first, 8);
+    let cut = prefix(first, 8);
     assert!(rt; check(alloc, cut, b"") == SegmentAnswer::No(SegmentFault::From(form)));
     assert!(rt; check(alloc, start, cut) == SegmentAnswer::No(SegmentFault::To(form)));
     // A text of the first form says the same state.
@@ -153,7 +153,7 @@ fn check_starts(
 ) -> Result<(), OutOfMemory> {
     assert!(rt; answer_to_start(alloc, program(), start)? == StartAnswer::Yes);
     assert!(rt; answer_to_start(alloc, program(), first)? == StartAnswer::Differs(8));
-    let cut = front(start, 16);
+    let cut = prefix(start, 16);
     let refused = StartAnswer::NotState(StateFault::Form(16));
     assert!(rt; answer_to_start(alloc, program(), cut)? == refused);
     let short = StartAnswer::Start(StartFault::Elf(ElfRefusal::Short));
@@ -203,7 +203,7 @@ fn last_texts_are_checked(rt: HostRuntime) -> Result<(), Fail> {
     let second = text(rt.alloc(), SECOND)?;
     assert!(rt; exits(rt.alloc(), &second, 3) && exits(rt.alloc(), &second, 0xffff_ffff));
     assert!(rt; is_over(rt.alloc(), &second, 2) && is_over(rt.alloc(), &second, 0));
-    assert!(rt; is_refused(rt.alloc(), front(&second, 16)));
+    assert!(rt; is_refused(rt.alloc(), prefix(&second, 16)));
     assert!(rt; first_text_ends(rt.alloc())?);
     Ok(())
 }

@@ -1,5 +1,5 @@
 ghost use Rattle.save_format.specs.Seen.{save_view};
-ghost use Rattle.save_format.specs.Spelled.{IsSaveText};
+ghost use Rattle.save_format.specs.Encoded.{IsSaveText};
 
 use crate::texts::pieces::Piece::*;
 use crate::texts::pieces::*;
@@ -13,7 +13,7 @@ use std::process::Abort;
 use std::test::Fail;
 
 /// A save's text by its fields, up to the state.
-static FRONT: &[Piece] = &[
+static PREFIX: &[Piece] = &[
     Text(b"ddcsave2"),
     // The digest of the recipe, and those of two inputs.
     Digest(1),
@@ -71,7 +71,7 @@ static CHANGES: &[Change] = &[
 
 /// The text of a save.
 pub fn save(alloc: Global) -> Result<Vec<Piece>, AllocError> {
-    let mut pieces = Vec::from_slice(alloc, FRONT)?;
+    let mut pieces = Vec::from_slice(alloc, PREFIX)?;
     pieces.extend_from_slice(STATE)?;
     Ok(pieces)
 }
@@ -130,7 +130,7 @@ fn put_state_again(out: &mut Bytes, parts: &Parts<'_>) -> Result<(), OutOfMemory
 }
 
 /// Adds the text of a save again, all but its state.
-fn put_front(rt: &impl Abort, out: &mut Bytes, parts: &Parts<'_>) -> Result<(), OutOfMemory> {
+fn put_prefix(rt: &impl Abort, out: &mut Bytes, parts: &Parts<'_>) -> Result<(), OutOfMemory> {
     out.extend(&MAGIC)?;
     out.extend(&parts.recipe.0)?;
     put_u32(out, 2)?;
@@ -157,7 +157,7 @@ fn state_again(alloc: Global, text: &[u8]) -> Result<Bytes, OutOfMemory> {
 fn again(rt: &impl Abort, alloc: Global, text: &[u8]) -> Result<Bytes, OutOfMemory> {
     let mut out = Bytes::new(alloc);
     if let Ok(parts) = read(alloc, text) {
-        put_front(rt, &mut out, &parts)?;
+        put_prefix(rt, &mut out, &parts)?;
         put_state_again(&mut out, &parts)?;
     }
     Ok(out)
@@ -193,9 +193,9 @@ fn says_the_same(alloc: Global, text: &[u8]) -> Result<bool, OutOfMemory> {
 }
 
 /// Whether the first form with this piece in its place is wrong where the state begins.
-fn is_mixed(alloc: Global, place: usize, piece: Piece) -> Result<bool, AllocError> {
+fn is_mixed(alloc: Global, index: usize, piece: Piece) -> Result<bool, AllocError> {
     let mut pieces = old(alloc)?;
-    set(&mut pieces, place, piece);
+    set(&mut pieces, index, piece);
     is_wrong_at::<SaveForm>(alloc, &pieces, Some(22))
 }
 

@@ -216,7 +216,7 @@ fn is_wrong_before_the_pages(alloc: Global) -> Result<bool, AllocError> {
 }
 
 #[test]
-fn an_old_text_has_no_place_for_a_reservation(rt: HostRuntime) -> Result<(), Fail> {
+fn an_old_text_has_no_field_for_a_reservation(rt: HostRuntime) -> Result<(), Fail> {
     assert!(rt; is_wrong_before_the_pages(rt.alloc())?);
     Ok(())
 }

@@ -12,6 +12,11 @@ use Rattle.tool_commands.specs.declared.words.KaemWords.{KaemWords}
 use Rattle.tool_commands.specs.declared.words.RunWords.{RunWords}
 use Rattle.tool_commands.specs.declared.words.ScriptWords.{ScriptWords}
 
+-- the word `BINARY`
+abbrev pub binary_word : List (List ℕ) → Option (List ℕ)
+binary_word (binary ∷ []) = as_file_name binary
+binary_word _ = None
+
 -- the words `SOURCE BINARY`
 abbrev pub hex0_of_names : Option (List ℕ) → Option (List ℕ) → Option Hex0Words
 hex0_of_names (Some source) (Some binary) = Some (record { source = source; binary = binary })

@@ -7,7 +7,7 @@ use Rattle.verifier.specs.declared.part.Part.{Part}
 use Rattle.verifier.specs.declared.part.Verdict.{Verdict}
 use Rattle.verifier.specs.declared.part.Verdict.TheVariants.{Yes, TrueButDiffers, Refuted, OutOfMemory}
 use Rattle.verifier.specs.Faults.{stages_fault}
-use Rattle.verifier.specs.Verdicts.{StandsAtPart}
+use Rattle.verifier.specs.Verdicts.{IsAtPart}
 
 -- the first fault of all stages, and then of the last part
 abbrev pub whole_fault : RecipeContents → List (List ℕ) → List StageLine → (Contents → Option (Part × ℕ)) → Option (Part × ℕ)
@@ -18,6 +18,6 @@ abbrev pub Replays : RecipeContents → List (List ℕ) → List StageLine → R
 Replays recipe inputs lines (Ok artefacts) =
     (last : Contents → Option (Part × ℕ)) → whole_fault recipe inputs lines last ≡ last (record { inputs = inputs; artefacts = artefacts })
 Replays recipe inputs lines (Err (Refuted part place)) = (last : Contents → Option (Part × ℕ)) → whole_fault recipe inputs lines last ≡ Some (part, place)
-Replays recipe inputs lines (Err (OutOfMemory stage part)) = StandsAtPart recipe inputs lines stage part
+Replays recipe inputs lines (Err (OutOfMemory stage part)) = IsAtPart recipe inputs lines stage part
 Replays recipe inputs lines (Err Yes) = ⊥
 Replays recipe inputs lines (Err TrueButDiffers) = ⊥

@@ -2,7 +2,7 @@
 -- law of an `impl` among the definitions.
 use Rattle.std.proofs.Common.{◌≡◌, ℕ, Option, Some, List, sym, ap, ◌∙◌, subst}
 use Rattle.std.proofs.lemmas.Option.{same_Some}
-use Rattle.mem_files.specs.Outputs.{OutputPlace, out}
+use Rattle.mem_files.specs.Outputs.{OutputLocation, out}
 use Rattle.mem_files.specs.World.{World}
 use Rattle.guest_run.specs.Program.{ProgramRun}
 use Rattle.guest_run.specs.Setting.{Setting}
@@ -19,7 +19,7 @@ HasOneRun =
 -- a source prescribes at most one content at an output
 abbrev pub IsFixed : Prescribes → Type 0
 IsFixed prescribes =
-    (source : SourceText) (box : Setting) (output : OutputPlace) (one other : List ℕ)
+    (source : SourceText) (box : Setting) (output : OutputLocation) (one other : List ℕ)
     → prescribes source box output one → prescribes source box output other → one ≡ other
 
 pub fixed-program : (program_of : SourceText → Option (List ℕ)) → HasOneRun → IsFixed (ProgramLeaves program_of)

@@ -21,6 +21,6 @@ pub returns : goal.returns
 returns g c = λ p text on keeps.
     let place = c.place-stage.result in
     let name = c.stage_name.ensures ∙ ap (λ (recipe : RecipeContents). stage_name recipe.stages place.0) c.recipe.ensures in
-    sets_kept c.args.audit.now.recipe text c.args.name.now c.args.audit.now.stands _ _ _ c.in_ok-text.text c.in_ok-line.line place p on
+    sets_kept c.args.audit.now.recipe text c.args.name.now c.args.audit.now.current _ _ _ c.in_ok-text.text c.in_ok-line.line place p on
     (c.in_ok-text.ensures p text on keeps) c.place-stage.ensures (c.in_ok-line.ensures ∙ ap (λ stage. paused_line stage place.1) name)
     (rw c.as_slice.ensures at c.keep.ensures)

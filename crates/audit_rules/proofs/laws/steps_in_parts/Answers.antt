@@ -5,5 +5,5 @@ use Rattle.audit_rules.proofs.laws.steps_in_parts.Goals as goal
 pub returns-clause-position : goal.returns-clause-position
 returns-clause-position c = forward-sum
 
-pub returns-clause-standing : goal.returns-clause-standing
-returns-clause-standing c = λ recipe inputs from first more. forward_from-sum recipe inputs from first more (first + more) refl
+pub returns-clause-phase : goal.returns-clause-phase
+returns-clause-phase c = λ recipe inputs from first more. forward_from-sum recipe inputs from first more (first + more) refl

@@ -10,8 +10,8 @@ start_stage-requires-clause-stage c = next-rules c.args.recipe.now c.args.done.n
 pub start_stage-requires-clause-done : goal.start_stage-requires-clause-done
 start_stage-requires-clause-done c = made c.args.recipe.now c.args.done.now c.requires.done
 
-pub run_out-requires-clause-stands : goal.run_out-requires-clause-stands
-run_out-requires-clause-stands c =
+pub run_out-requires-clause-current : goal.run_out-requires-clause-current
+run_out-requires-clause-current c =
     starts-at c.args.recipe.now c.args.inputs.now c.args.done.now c.args.stage.now _ c.in-Ok.guest c.requires.kept c.requires.given c.requires.done c.requires.next
     (subst (Begins _) c.in-Ok.is c.in_ok-guest.ensures.begins)
 

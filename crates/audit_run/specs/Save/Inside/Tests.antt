@@ -4,6 +4,7 @@ use Rattle.std.specs.Prelude.{ℕ, ◌^◌, Bool, true, false, ◌&&◌, ◌==�
 use Rattle.std.specs.List.{list_all, list_any}
 use Rattle.checkpoints.specs.Inside.Tests.{are_bytes, is_content, is_in_range, is_joined}
 use Rattle.ddc_base.specs.declared.digests.Digest.{Digest}
+use Rattle.ddc_base.specs.Limits.{most_artefacts, most_names}
 use Rattle.mem_files.specs.Names.{is_stripped_name}
 use Rattle.recipe.specs.declared.contents.RecipeContents.{RecipeContents}
 use Rattle.recipe.specs.declared.parts.Output.{Output}
@@ -54,7 +55,7 @@ is_finished stage f =
     && (nat_le f.steps stage.steps
     && (is_small_mark f.stream1
     && (is_small_mark f.stream2
-    && (list_all is_left_line f.left && (nat_le (length f.left) 4_096 && (ascend f.left && (is_content f.made && has_mark stage.output f)))))))
+    && (list_all is_left_line f.left && (nat_le (length f.left) most_names && (ascend f.left && (is_content f.made && has_mark stage.output f)))))))
 
 abbrev pub are_finished : List Stage → List Finished → Bool
 are_finished stages [] = true
@@ -62,7 +63,7 @@ are_finished [] (f ∷ done) = false
 are_finished (stage ∷ stages) (f ∷ done) = is_finished stage f && are_finished stages done
 
 unfoldable pub are_done : RecipeContents → List Finished → Bool
-are_done recipe done = are_finished recipe.stages done && nat_le (artefact_bytes done) 1_073_741_824
+are_done recipe done = are_finished recipe.stages done && nat_le (artefact_bytes done) most_artefacts
 
 -- saves
 

@@ -2,7 +2,7 @@ use Rattle.std.proofs.Common.{◌≡◌, ◌^◌, ◌<◌, subst}
 use Rattle.std.specs.Prelude.{IfOk}
 use Rattle.guest_run.specs.State.{GuestState}
 use Rattle.guest_run.specs.Valid.{IsValid}
-use Rattle.save_format.specs.PatchText.Spelled.{text_of_patch}
+use Rattle.save_format.specs.PatchText.Encoded.{text_of_patch}
 use Rattle.save_format.specs.StateText.StateText.{StateText}
 use Rattle.checkpoints.specs.Checkpoint.{IsReadAs, state_of}
 use Rattle.checkpoints.specs.Patching.{AppliesPatchTo}

@@ -1,7 +1,7 @@
 use Rattle.std.proofs.Common.{subst, sym}
-use Rattle.save_format.specs.PatchText.Spelled.{IsPatched}
+use Rattle.save_format.specs.PatchText.Encoded.{IsPatched}
 use Rattle.save_format.specs.StateText.Seen.{state_view}
-use Rattle.save_format.specs.StateText.Spelled.{IsStateText}
+use Rattle.save_format.specs.StateText.Encoded.{IsStateText}
 use Rattle.checkpoints.proofs.PatchCounts.{has_patch}
 use Rattle.checkpoints.proofs.patching.put_patch_of.Goals as goal
 

@@ -2,7 +2,7 @@ use Rattle.std.proofs.Common.{ℕ}
 use Rattle.mem_files.specs.declared.open_file.OpenFile.{OpenFile}
 use Rattle.mem_files.specs.declared.open_file.OpenFile.TheVariants.{Input}
 use Rattle.save_format.specs.declared.state_text.parts.NumberedDescriptor.{NumberedDescriptor}
-use Rattle.save_format.specs.StateText.Spelled.{IsDescriptor}
+use Rattle.save_format.specs.StateText.Encoded.{IsDescriptor}
 use Rattle.save_format.specs.StateText.Seen.{descriptor_view}
 use Rattle.checkpoints.proofs.Restored.{below}
 use Rattle.checkpoints.proofs.restoring.push_descriptors.Goals as goal

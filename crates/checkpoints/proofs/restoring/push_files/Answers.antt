@@ -1,7 +1,7 @@
 use Rattle.std.proofs.Common.{None, []}
 use Rattle.mem_files.specs.Lists.{ListedFile}
 use Rattle.save_format.specs.declared.state_text.parts.File.{File}
-use Rattle.save_format.specs.StateText.Spelled.{IsFile}
+use Rattle.save_format.specs.StateText.Encoded.{IsFile}
 use Rattle.save_format.specs.StateText.Seen.{file_view}
 use Rattle.checkpoints.proofs.Restored.{below}
 use Rattle.checkpoints.proofs.restoring.push_files.Goals as goal

@@ -4,8 +4,8 @@ use Rattle.mem_files.specs.Lists.{AreInRange, lists_of}
 use Rattle.mem_files.specs.World.{World}
 use Rattle.checkpoints.proofs.FilePartsLemmas.GoodLists.{good_range}
 use Rattle.checkpoints.specs.MemoryParts.Canonical.{pages_of, runs_of}
-use Rattle.save_format.specs.StateText.Spelled.{IsStateText}
-use Rattle.checkpoints.proofs.States.{is_text, said}
+use Rattle.save_format.specs.StateText.Encoded.{IsStateText}
+use Rattle.checkpoints.proofs.States.{is_text, parsed}
 use Rattle.checkpoints.proofs.writing.parts_of.Goals as goal
 
 pub files_of-requires : goal.files_of-requires
@@ -20,7 +20,7 @@ returns-clause-seen g c =
     let world = c.files-files.ensures in
     let one = c.ram.ensures ∙ ap (λ (h : HartState). h.memory) hart in
     let two = c.ram-2.ensures ∙ ap (λ (h : HartState). h.memory) hart in
-    said c.args.guest.now _ c.steps-steps.ensures.value
+    parsed c.args.guest.now _ c.steps-steps.ensures.value
     (c.pc.ensures.value ∙ ap (λ (h : HartState). h.pc) hart)
     (c.registers_of.ensures ∙ ap (λ (h : HartState). drop 1 h.registers) hart)
     (c.reserved_of.ensures ∙ ap (λ (h : HartState). h.reservation) hart)

@@ -6,7 +6,7 @@ use Rattle.std.specs.Borrow.{Bor}
 use Rattle.mem_files.specs.declared.view.FileView.{FileView}
 use Rattle.mem_files.specs.declared.open_file.OpenFile.{OpenFile}
 use Rattle.mem_files.specs.declared.open_file.OpenFile.TheVariants.{Input, Stream1, Stream2, File}
-use Rattle.mem_files.specs.Limits.{most_content, most_total, most_descriptors, most_names}
+use Rattle.ddc_base.specs.Limits.{file_number_end, most_content, most_descriptors, most_names, most_total}
 use Rattle.mem_files.specs.Names.{is_stripped_name}
 use Rattle.mem_files.specs.Lists.{ListedFile, FileLists, named, is_listed, is_used}
 
@@ -15,7 +15,7 @@ is_good_name None = true
 is_good_name (Some name) = is_stripped_name name
 
 abbrev pub is_good_file : ListedFile → Bool
-is_good_file file = nat_lt file.number 5120 && is_good_name file.name && nat_le (length file.content) most_content
+is_good_file file = nat_lt file.number file_number_end && is_good_name file.name && nat_le (length file.content) most_content
 
 abbrev pub is_open_file_at : ℕ → OpenFile → Bool
 is_open_file_at fd Input = fd == 0

@@ -2,4 +2,4 @@ use Rattle.ddc_app.proofs.Scripting.{kaem_folds}
 use Rattle.ddc_app.proofs.laws.scripts_fold.Goals as goal
 
 pub returns : goal.returns
-returns c = λ script list report steps files said listed holds. kaem_folds script list report files said listed holds steps
+returns c = λ script list report steps files parsed listed holds. kaem_folds script list report files parsed listed holds steps

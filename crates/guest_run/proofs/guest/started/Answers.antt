@@ -1,17 +1,18 @@
 use Rattle.std.proofs.Common.{◌≡◌, ◌-◌, ◌<◌, None, length, replicate, ap, ◌∙◌, sym, subst, arith}
 use Rattle.std.specs.Prelude.{AllPairs, slice_set}
 use Rattle.std.proofs.lemmas.List.Elements.{All-from_get_or}
+use Rattle.ddc_base.specs.Limits.{stack_size}
 use Rattle.paged_mem.specs.Memory.{IsFree}
 use Rattle.rv64_machine.specs.Hart.{HartState, with_register}
 use Rattle.elf_load.specs.Segments.{AreApart}
-use Rattle.guest_run.specs.Stack.{stack_bytes, stack_end, stack_pointer, stack_size}
+use Rattle.guest_run.specs.Stack.{stack_bytes, stack_end, stack_pointer}
 use Rattle.guest_run.specs.Placed.{with_segments, with_stack}
 use Rattle.guest_run.specs.Start.{start_state, start_world}
 use Rattle.guest_run.specs.State.{GuestState}
 use Rattle.guest_run.specs.Valid.{IsValid}
 use Rattle.guest_run.proofs.Beginnings.{stack_length}
 use Rattle.guest_run.proofs.StartLaw.{start-valid}
-use Rattle.guest_run.proofs.Places.{stack_free}
+use Rattle.guest_run.proofs.SegmentAddresses.{stack_free}
 use Rattle.guest_run.proofs.guest.started.Goals as goal
 
 pub place_segments-requires-clause-apart : goal.place_segments-requires-clause-apart

@@ -3,7 +3,7 @@ use Rattle.std.proofs.lemmas.Result.{on_ok_weaker}
 use Rattle.paged_mem.specs.Memory.{with_bytes, zeros}
 use Rattle.elf_load.specs.Segments.{first_page}
 use Rattle.guest_run.specs.Placed.{segment_bytes, with_segment}
-use Rattle.guest_run.proofs.Places.{first_page-is, pages-are, placed_low, maps-within, segment_within, length-segment_bytes}
+use Rattle.guest_run.proofs.SegmentAddresses.{first_page-is, pages-are, placed_low, maps-within, segment_within, length-segment_bytes}
 use Rattle.guest_run.proofs.placing.place_segment.Goals as goal
 
 pub overflow_add-end : goal.overflow_add-end

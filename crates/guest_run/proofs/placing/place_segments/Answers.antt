@@ -1,4 +1,4 @@
-use Rattle.guest_run.proofs.Places.{free_ahead}
+use Rattle.guest_run.proofs.SegmentAddresses.{free_ahead}
 use Rattle.guest_run.proofs.placing.place_segments.Goals as goal
 
 pub place_segment-requires-clause-free : goal.place_segment-requires-clause-free

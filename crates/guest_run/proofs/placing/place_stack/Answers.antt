@@ -2,7 +2,7 @@ use Rattle.std.proofs.Common.{length, ap, ◌∙◌, arith}
 use Rattle.std.proofs.lemmas.Result.{on_ok_weaker}
 use Rattle.paged_mem.specs.Memory.{with_bytes}
 use Rattle.guest_run.specs.Placed.{with_stack}
-use Rattle.guest_run.proofs.Places.{maps-within}
+use Rattle.guest_run.proofs.SegmentAddresses.{maps-within}
 use Rattle.guest_run.proofs.placing.place_stack.Goals as goal
 
 pub write_mapped-requires : goal.write_mapped-requires

@@ -9,6 +9,6 @@ returns-in-None c = fits-first c.args.args.now c.args.env.now c.in-None.ensures
 
 pub returns-in-Some : goal.returns-in-Some
 returns-in-Some c =
-    c.is_some.ensures ∙ some_le _ _ _ _ c.left_after-in-Some.ensures
+    c.is_some.ensures ∙ some_le _ _ _ _ c.remaining_after-in-Some.ensures
     ∙ ap (nat_le (sum_by cost c.args.env.now)) c.in-Some.ensures.1
     ∙ fits-second c.args.args.now c.args.env.now c.in-Some.ensures.0

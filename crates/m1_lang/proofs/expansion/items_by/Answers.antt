@@ -1,5 +1,5 @@
 use Rattle.std.proofs.Common.{◌∙◌, ap, sym, arith, length}
-use Rattle.hex_langs.specs.Items.Reading.{formed, Reading, with_front, word_end}
+use Rattle.hex_langs.specs.Items.Reading.{formed, Reading, with_prefix, word_end}
 use Rattle.m1_lang.specs.declared.words.meaning.WordFault.{WordFault}
 use Rattle.m1_lang.specs.Words.Words.{Word, word_list}
 use Rattle.m1_lang.specs.Expansion.{items_unless_refused}
@@ -15,7 +15,7 @@ loop-at-preserved-then-is_define c =
     let step = reading-define values c.args.source.now c.loop-at.at c.in-Word.after c.after_definition-at.result word c.in-Word.ensures.0 (sym c.if-is_define.ensures)
     c.after_definition-at.ensures.0 in
     record {
-      whole = c.loop-at.invariant.whole ∙ ap (λ (r : Reading WordFault). with_front c.loop-at.items (formed c.loop-at.word r)) step;
+      whole = c.loop-at.invariant.whole ∙ ap (λ (r : Reading WordFault). with_prefix c.loop-at.items (formed c.loop-at.word r)) step;
       few = c.loop-at.invariant.few;
       within = c.after_definition-at.ensures.2;
     }
@@ -26,7 +26,7 @@ loop-at-preserved-in-Ok c =
     let word : Word = record { at = c.in-Word.start; text = c.in-Word.text.now } in
     let step = reading-word values c.args.source.now c.loop-at.at c.in-Word.after word c.in-Word.ensures.0 (sym c.if-is_define.ensures) in
     record {
-      whole = c.loop-at.invariant.whole ∙ ap (λ (r : Reading WordFault). with_front c.loop-at.items (formed c.loop-at.word r)) step
+      whole = c.loop-at.invariant.whole ∙ ap (λ (r : Reading WordFault). with_prefix c.loop-at.items (formed c.loop-at.word r)) step
           ∙ c.in-Ok.ensures.takes (reading_at values c.args.source.now c.in-Word.after);
       few = c.in-Ok.ensures.few;
       within = c.in-Word.ensures.2;
@@ -38,7 +38,7 @@ returns-in-Err c =
     let word : Word = record { at = c.in-Word.start; text = c.in-Word.text.now } in
     let step = reading-word values c.args.source.now c.loop-at.at c.in-Word.after word c.in-Word.ensures.0 (sym c.if-is_define.ensures) in
     refused-word c.in-Err.why values c.loop-at.word c.in-Word.start c.in-Word.text.now c.loop-at.items c.take_word.new.items (reading_at values c.args.source.now c.in-Word.after) _
-    (c.loop-at.invariant.whole ∙ ap (λ (r : Reading WordFault). with_front c.loop-at.items (formed c.loop-at.word r)) step) c.in-Err.ensures.takes
+    (c.loop-at.invariant.whole ∙ ap (λ (r : Reading WordFault). with_prefix c.loop-at.items (formed c.loop-at.word r)) step) c.in-Err.ensures.takes
 
 pub loop-at-preserved : goal.loop-at-preserved
 loop-at-preserved c =
@@ -47,7 +47,7 @@ loop-at-preserved c =
     let none = no-word c.next_word.result source c.loop-at.at c.next_word.ensures c.in_default.not-Word in
     let step = reading-over values source c.loop-at.at none ∙ sym (reading-over values source (length source) (ap word_list (words-end source (length source) (omega arith)))) in
     record {
-      whole = c.loop-at.invariant.whole ∙ ap (λ (r : Reading WordFault). with_front c.loop-at.items (formed c.loop-at.word r)) step;
+      whole = c.loop-at.invariant.whole ∙ ap (λ (r : Reading WordFault). with_prefix c.loop-at.items (formed c.loop-at.word r)) step;
       few = c.loop-at.invariant.few;
       within = omega arith;
     }

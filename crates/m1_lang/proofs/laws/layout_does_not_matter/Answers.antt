@@ -1,5 +1,5 @@
 use Rattle.std.proofs.Common.{ap, sym}
-use Rattle.m1_lang.proofs.Unplaced.{gives-too, parts_expansion, same-texts}
+use Rattle.m1_lang.proofs.WithoutOffsets.{gives-too, parts_expansion, same-texts}
 use Rattle.m1_lang.proofs.laws.layout_does_not_matter.Goals as goal
 
 pub returns : goal.returns

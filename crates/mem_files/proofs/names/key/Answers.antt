@@ -1,5 +1,5 @@
 use Rattle.std.proofs.Common.{◌∙◌, ap, take}
-use Rattle.mem_files.specs.Limits.{most_name}
+use Rattle.ddc_base.specs.Limits.{most_name}
 use Rattle.mem_files.proofs.After.{take_min}
 use Rattle.mem_files.proofs.names.key.Goals as goal
 

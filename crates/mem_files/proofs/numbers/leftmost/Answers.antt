@@ -5,7 +5,7 @@ use Rattle.mem_files.proofs.numbers.leftmost.Goals.{then-full-node, else-full-no
 use Rattle.mem_files.proofs.numbers.leftmost.Goals as goal
 
 pub loop-depth-init : goal.loop-depth-init
-loop-depth-init c = at_root c.args.full.now c.args.height c.requires.sized c.requires.right c.requires.room
+loop-depth-init c = at_root c.args.full.now c.args.height c.requires.sized c.requires.right c.requires.capacity
 
 pub overflow_mul-node : goal.overflow_mul-node
 overflow_mul-node c =

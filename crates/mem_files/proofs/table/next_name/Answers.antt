@@ -1,7 +1,7 @@
 use Rattle.std.proofs.Common.{sym, ap, ◌∙◌, Some}
 use Rattle.std.specs.Option.{option_copied}
 use Rattle.mem_files.specs.Calls.{is_after}
-use Rattle.mem_files.specs.Limits.{most_name}
+use Rattle.ddc_base.specs.Limits.{most_name}
 use Rattle.mem_files.proofs.After.{first_passes, in_range, none_passes}
 use Rattle.mem_files.proofs.table.next_name.Goals as goal
 

@@ -1,14 +1,14 @@
 use Rattle.std.proofs.Common.{arith, sym}
 use Rattle.paged_mem.specs.Ram.{count_of}
-use Rattle.paged_mem.proofs.Accessed.{count_some, few_entries, placed, read_near}
+use Rattle.paged_mem.proofs.Accessed.{count_some, few_entries, index_within, read_near}
 use Rattle.paged_mem.proofs.access.load_near.Goals as goal
 
 pub bounds-entries-index : goal.bounds-entries-index
-bounds-entries-index c = placed c.args._pages.now c.args.entries.now c.requires.pages _ c.in-Some.index (c.in-Some.ensures c.args._pages.now c.requires.pages.sound.rising c.requires.rows)
+bounds-entries-index c = index_within c.args._pages.now c.args.entries.now c.requires.pages _ c.in-Some.index (c.in-Some.ensures c.args._pages.now c.requires.pages.sound.rising c.requires.rows)
 
 pub offset_bounds-entries-index : goal.offset_bounds-entries-index
 offset_bounds-entries-index c =
-    let within = placed c.args._pages.now c.args.entries.now c.requires.pages _ c.in-Some.index (c.in-Some.ensures c.args._pages.now c.requires.pages.sound.rising c.requires.rows) in
+    let within = index_within c.args._pages.now c.args.entries.now c.requires.pages _ c.in-Some.index (c.in-Some.ensures c.args._pages.now c.requires.pages.sound.rising c.requires.rows) in
     omega (arith, within, few_entries c.args._pages.now c.args.entries.now c.requires.pages)
 
 pub returns-in-Some-clause-value : goal.returns-in-Some-clause-value

@@ -1,5 +1,5 @@
 use Rattle.std.proofs.Common.{◌/◌, arith}
-use Rattle.paged_mem.specs.Inside.Wholeness.{place-some}
+use Rattle.paged_mem.specs.Inside.Wholeness.{page_index-some}
 use Rattle.paged_mem.proofs.Spans.{span_in_page}
 use Rattle.paged_mem.proofs.access.start_of.Goals as goal
 
@@ -10,10 +10,10 @@ returns-in-Some c =
 
 pub overflow_mul-result : goal.overflow_mul-result
 overflow_mul-result c =
-    let there = place-some c.args.pages.now (c.args.at / 4096) c.in-Some.index (c.in-Some.ensures c.args.pages.now c.requires.rising c.requires.rows) in
+    let there = page_index-some c.args.pages.now (c.args.at / 4096) c.in-Some.index (c.in-Some.ensures c.args.pages.now c.requires.rising c.requires.rows) in
     omega (arith, there.0, c.requires.few)
 
 pub overflow_add-result : goal.overflow_add-result
 overflow_add-result c =
-    let there = place-some c.args.pages.now (c.args.at / 4096) c.in-Some.index (c.in-Some.ensures c.args.pages.now c.requires.rising c.requires.rows) in
+    let there = page_index-some c.args.pages.now (c.args.at / 4096) c.in-Some.index (c.in-Some.ensures c.args.pages.now c.requires.rising c.requires.rows) in
     omega (arith, there.0, c.requires.few)

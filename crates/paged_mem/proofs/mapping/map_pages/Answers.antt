@@ -1,7 +1,7 @@
 use Rattle.std.proofs.Common.{◌≡◌, ◌+◌, ◌*◌, ◌≤◌, ◌++◌, length, take, drop, replicate, ℕ, sym, ap, subst, ◌∙◌, arith}
 use Rattle.std.proofs.lemmas.List.{length-replicate}
 use Rattle.paged_mem.specs.Inside.Flat.{memory_of, AreFlatPages}
-use Rattle.paged_mem.proofs.Rooms.{gap_closed}
+use Rattle.paged_mem.proofs.InsertedRanges.{gap_closed}
 use Rattle.paged_mem.proofs.Moves.{sound_after_map, memory_after_map}
 use Rattle.paged_mem.proofs.mapping.map_pages.Goals as goal
 

@@ -1,6 +1,6 @@
 use Rattle.std.proofs.Common.{Ok, Err, arith}
 use Rattle.std.proofs.lemmas.List.Sorted.{searched}
-use Rattle.paged_mem.proofs.Places.{never_falls, rank_found}
+use Rattle.paged_mem.proofs.PageIndices.{never_falls, rank_found}
 use Rattle.paged_mem.proofs.pages.rank.Goals as goal
 
 pub returns-in-Ok : goal.returns-in-Ok

@@ -1,5 +1,5 @@
 use Rattle.std.proofs.Common.{◌<◌, ◌-◌, ◌+◌, ◌/◌, ◌^◌, sym, arith}
-use Rattle.paged_mem.specs.Inside.Wholeness.{place-some}
+use Rattle.paged_mem.specs.Inside.Wholeness.{page_index-some}
 use Rattle.paged_mem.proofs.Spans.{slot_past, span_found, span_ends}
 use Rattle.paged_mem.proofs.pages.span.Goals as goal
 use Rattle.paged_mem.proofs.pages.span.Goals.{else-more-pages-via-then-more-pages+else-pages-page, else-more-pages-via-else-more-pages}
@@ -11,7 +11,7 @@ returns-in_default c =
 
 pub overflow_sub-pages : goal.overflow_sub-pages
 overflow_sub-pages c =
-    let found = place-some c.args.pages.now (c.args.at / 4096) c.in-Some-find.page (sym c.in-Some-find.ensures) in
+    let found = page_index-some c.args.pages.now (c.args.at / 4096) c.in-Some-find.page (sym c.in-Some-find.ensures) in
     omega (arith, found.0)
 
 pub returns-then-pages-page : goal.returns-then-pages-page

@@ -3,4 +3,4 @@ use Rattle.recipe.proofs.TextLemmas.Walks.{Passes}
 use Rattle.recipe.proofs.references.programs_have_sources.Given as goal
 
 abbrev pub invariant-loop-stage : goal.invariant-loop-stage
-invariant-loop-stage l = Passes (program_has_source l.said) l.stages l.stage-index l.number
+invariant-loop-stage l = Passes (program_has_source l.parsed) l.stages l.stage-index l.number

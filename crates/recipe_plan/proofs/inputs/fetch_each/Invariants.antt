@@ -1,4 +1,5 @@
 use Rattle.std.proofs.Common.{◌≡◌, All, List, ℕ, length, drop, map}
+use Rattle.ddc_base.specs.Limits.{most_content}
 use Rattle.mem_files.specs.Outputs.{IsContent}
 use Rattle.recipe.specs.declared.parts.Input.{Input}
 use Rattle.command_plan.specs.Plan.{needs_all}
@@ -14,6 +15,6 @@ pub record Fetched (led : Type 0) (contents : List (List ℕ)) (index : ℕ) : T
 abbrev pub invariant-loop-input : goal.invariant-loop-input
 invariant-loop-input g l =
     Fetched
-    (LeadsOn (needs_all 268_435_456 l.fn.room (map (λ (input : Input). input.path) l.inputs))
-    (rest_of 268_435_456 l.room l.contents (drop l.input-index (map (λ (input : Input). input.path) l.inputs))) (g.S.Shelf.state l.fn.shelf) (g.S.Shelf.state l.shelf))
+    (LeadsOn (needs_all most_content l.fn.budget (map (λ (input : Input). input.path) l.inputs))
+    (rest_of most_content l.budget l.contents (drop l.input-index (map (λ (input : Input). input.path) l.inputs))) (g.S.Shelf.state l.fn.shelf) (g.S.Shelf.state l.shelf))
     l.contents l.input-index

@@ -1,11 +1,11 @@
 use Rattle.std.proofs.Common.{◌≤◌, ◌+◌, length}
-use Rattle.report.specs.Inside.LineByLine.{Stands}
+use Rattle.report.specs.Inside.LineByLine.{HasRead}
 use Rattle.report.specs.Inside.Reading.{report_reader}
 use Rattle.report.proofs.reading.read_lines.Given as goal
 
 abbrev pub invariant-loop-rest : goal.invariant-loop-rest
 invariant-loop-rest l = record {
-  stands : Stands report_reader l.bytes l.number l.state l.rest;
+  has_read : HasRead report_reader l.bytes l.number l.state l.rest;
   few : l.number + length l.rest ≤ length l.bytes;
 }
 

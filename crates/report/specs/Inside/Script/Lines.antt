@@ -1,6 +1,7 @@
 -- One line of a script's report, read by itself. To read the promises, this file is not needed.
-use Rattle.std.specs.Prelude.{ℕ, ◌^◌, ◌&&◌, nat_le, List, Option, Some, None, codes, bytes_eq, if◌then◌else◌}
+use Rattle.std.specs.Prelude.{ℕ, ◌&&◌, nat_le, List, Option, Some, None, codes, bytes_eq, if◌then◌else◌}
 use Rattle.ddc_base.specs.Decimals.{as_decimal}
+use Rattle.ddc_base.specs.Limits.{most_steps}
 use Rattle.report.specs.Inside.Cuts.{◌>>=◌, cut_at}
 use Rattle.report.specs.Inside.Fields.{digest_of, file_line_of, stream_line_of}
 use Rattle.report.specs.declared.script.line.ScriptLine.{ScriptLine}
@@ -23,7 +24,7 @@ file_of fields = do
 unfoldable pub steps_of : List ℕ → Option ℕ
 steps_of text = do
   steps ← as_decimal text
-  if nat_le 1 steps && nat_le steps (2 ^ 48) then Some steps else None
+  if nat_le 1 steps && nat_le steps most_steps then Some steps else None
 
 unfoldable pub command_of : List ℕ → Option ScriptLine
 command_of fields = do

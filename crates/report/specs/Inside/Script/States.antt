@@ -1,5 +1,6 @@
 -- Which line of a script's report may follow which. To read the promises, this file is not needed.
 use Rattle.std.specs.Prelude.{◌+◌, ◌==◌, nat_lt, [], ◌∷◌, ◌++◌, length, Option, Some, None, if◌then◌else◌}
+use Rattle.ddc_base.specs.Limits.{most_commands, most_files, most_names}
 use Rattle.report.specs.Inside.States.{follows}
 use Rattle.report.specs.declared.types.LeftLine.{LeftLine}
 use Rattle.report.specs.declared.script.line.ScriptLine.{ScriptLine}
@@ -24,17 +25,17 @@ unfoldable pub step : ScriptState → ScriptLine → Option ScriptState
 step Start Header = Some Titled
 step Titled (Script digest) = Some (Body (record { script = digest; files = []; commands = []; left = [] }))
 step (Body report) (File file) =
-    if nat_lt (length report.files) 4096
+    if nat_lt (length report.files) most_files
     then (if length report.commands + length report.left == 0 then Some (Body (with_file report file)) else None)
     else None
 step (Body report) (Command steps) =
-    if nat_lt (length report.commands) 4096
+    if nat_lt (length report.commands) most_commands
     then (if length report.left == 0 then Some (Named report steps) else None)
     else None
 step (Named report steps) (Stream1 mark) = Some (Heard report steps mark)
 step (Heard report steps stream1) (Stream2 mark) = Some (Body (with_command report (record { steps = steps; stream1 = stream1; stream2 = mark })))
 step (Body report) (Left file) =
-    if nat_lt (length report.left) 4096
+    if nat_lt (length report.left) most_names
     then (if follows report.left file.name then Some (Body (with_left report file)) else None)
     else None
 step (Body report) End = Some (Ended report)

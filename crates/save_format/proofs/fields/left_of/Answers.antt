@@ -9,7 +9,7 @@ use Rattle.save_format.proofs.fields.left_of.Goals as goal
 pub returns-in_err-name : goal.returns-in_err-name
 returns-in_err-name c =
     let p = err_from_is_err_and c.from_residual.result c.from_residual.ensures.1 in
-    rw (p.1, p.2) (stops saved_left_at after_left (option_copied c.loop.last) c.in_err-name.field-0.0.left c.loop.lines c.args.count c.loop.counter c.loop.cursor _ c.loop-test.true c.in_err-name.ensures c.loop.invariant)
+    rw (p.1, p.2) (stops saved_left_at after_left (option_copied c.loop.last) c.in_err-name.field-0.0.remaining c.loop.lines c.args.count c.loop.counter c.loop.cursor _ c.loop-test.true c.in_err-name.ensures c.loop.invariant)
 
 pub loop-preserved : goal.loop-preserved
 loop-preserved c =

@@ -12,7 +12,7 @@ loop-init c = sets_out saved_left_at after_left None c.args.count _
 pub returns-in_err-name : goal.returns-in_err-name
 returns-in_err-name c =
     let p = err_from_is_err_and c.from_residual.result c.from_residual.ensures.1 in
-    rw (p.1, p.2) (went_wrong saved_left_at after_left (option_copied c.loop.last) c.in_err-name.field-0.0.left c.args.count c.loop.counter c.loop.cursor _ c.loop-test.true c.in_err-name.ensures c.loop.invariant)
+    rw (p.1, p.2) (went_wrong saved_left_at after_left (option_copied c.loop.last) c.in_err-name.field-0.0.remaining c.args.count c.loop.counter c.loop.cursor _ c.loop-test.true c.in_err-name.ensures c.loop.invariant)
 
 pub loop-preserved : goal.loop-preserved
 loop-preserved c =

@@ -10,7 +10,7 @@ loop-init c = sets_out saved_stage_at (λ stage. 0) 0 c.args.count _
 pub returns-in_err-pass_stage : goal.returns-in_err-pass_stage
 returns-in_err-pass_stage c =
     let p = err_from_is_err_and c.from_residual.result c.from_residual.ensures.1 in
-    rw (p.1, p.2) (went_wrong saved_stage_at (λ stage. 0) 0 c.in_err-pass_stage.field-0.0.left c.args.count c.loop.counter c.loop.cursor _ c.loop-test.true c.in_err-pass_stage.ensures c.loop.invariant)
+    rw (p.1, p.2) (went_wrong saved_stage_at (λ stage. 0) 0 c.in_err-pass_stage.field-0.0.remaining c.args.count c.loop.counter c.loop.cursor _ c.loop-test.true c.in_err-pass_stage.ensures c.loop.invariant)
 
 pub loop-preserved : goal.loop-preserved
 loop-preserved c = went_on saved_stage_at (λ stage. 0) 0 0 c.args.count c.loop.counter c.loop.cursor c.in_ok-pass_stage.ensures.0 c.pass_stage.new.cursor _ c.loop-test.true c.in_ok-pass_stage.ensures.1 refl c.loop.invariant

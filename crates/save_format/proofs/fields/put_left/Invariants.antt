@@ -2,7 +2,7 @@ use Rattle.std.proofs.Common.{◌≡◌, ◌++◌, length, take}
 use Rattle.std.specs.List.{flat_map}
 use Rattle.std.specs.Int.{w32}
 use Rattle.save_format.specs.ByteFields.Spelling.{number_text}
-use Rattle.save_format.specs.Spelled.{left_text}
+use Rattle.save_format.specs.Encoded.{left_text}
 use Rattle.save_format.proofs.fields.put_left.Given as goal
 
 abbrev pub invariant-loop-file : goal.invariant-loop-file

@@ -12,9 +12,9 @@ abbrev pub SameFrom : {A : Type 0} → (A → ℕ) → ℕ → List A → List A
 SameFrom of number xs ys = (k : ℕ) → number ≤ k → item_numbered of ys k ≡ item_numbered of xs k
 
 -- the number of the first item
-abbrev pub IsFront : {T : Type 0} → (T → ℕ) → List T → Option ℕ → Type 0
-IsFront number [] result = result ≡ None
-IsFront number (x ∷ xs) result = result ≡ Some (number x)
+abbrev pub IsFirst : {T : Type 0} → (T → ℕ) → List T → Option ℕ → Type 0
+IsFirst number [] result = result ≡ None
+IsFirst number (x ∷ xs) result = result ≡ Some (number x)
 
 abbrev pub lowest_of : Option ℕ → Option ℕ → Option ℕ
 lowest_of None second = second

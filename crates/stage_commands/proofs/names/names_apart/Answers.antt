@@ -1,4 +1,5 @@
 use Rattle.std.proofs.Common.{◌≡◌, suc, ◌+◌, ◌-◌, Ok, Err, subst, ◌∙◌, arith}
+use Rattle.ddc_base.specs.Limits.{most_states}
 use Rattle.command_plan.specs.Steps.{Obtains}
 use Rattle.command_plan.proofs.Obtaining.{stops_with, wants_at_once}
 use Rattle.recipe_plan.specs.Recipes.{needs_apart}
@@ -14,9 +15,9 @@ returns-in_err-name c = λ shelf. stops_with c.from_residual.ensures.1 (wants_at
 
 pub returns-in_err-apart : goal.returns-in_err-apart
 returns-in_err-apart c = λ shelf.
-    let more : 1_000 ≡ suc c.loop-number.number + (1_000 - suc c.loop-number.number) = omega (arith, c.loop-number-test.true) in
+    let more : most_states ≡ suc c.loop-number.number + (most_states - suc c.loop-number.number) = omega (arith, c.loop-number-test.true) in
     stops_with c.from_residual-in_err-apart.ensures.1
-    (ends_at_name (needs_apart c.args.recipe.now) c.args.prefix.now shelf (suc c.loop-number.number) (1_000 - suc c.loop-number.number) 1_000 c.in_err-apart.field-0.0 more
+    (ends_at_name (needs_apart c.args.recipe.now) c.args.prefix.now shelf (suc c.loop-number.number) (most_states - suc c.loop-number.number) most_states c.in_err-apart.field-0.0 more
     (one_judged (needs_apart c.args.recipe.now) c.args.prefix.now shelf c.loop-number.number (Err c.in_err-apart.field-0.0) (c.loop-number.invariant.1 shelf)
     (subst (λ name. Obtains (needs_apart c.args.recipe.now name) shelf shelf (Err c.in_err-apart.field-0.0)) (c.of.ensures ∙ c.as_str.ensures.value ∙ c.in_ok-name.ensures.name) (c.in_err-apart.ensures shelf))))
 
@@ -32,5 +33,5 @@ loop-number-preserved c = (
 
 pub returns : goal.returns
 returns c = λ shelf.
-    let all : c.loop-number.number ≡ 1_000 = omega (arith, c.loop-number-test.false, c.loop-number.invariant.0) in
+    let all : c.loop-number.number ≡ most_states = omega (arith, c.loop-number-test.false, c.loop-number.invariant.0) in
     subst (λ count. Obtains (each_name (needs_apart c.args.recipe.now) c.args.prefix.now count) shelf shelf (Ok tt)) all (c.loop-number.invariant.1 shelf)

@@ -1,4 +1,4 @@
-use Rattle.step_debug.proofs.Standing.{again}
+use Rattle.step_debug.proofs.Positions.{again}
 use Rattle.step_debug.proofs.laws.back_and_on_again.Goals as goal
 
 pub returns : goal.returns

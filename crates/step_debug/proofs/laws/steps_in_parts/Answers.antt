@@ -1,4 +1,4 @@
-use Rattle.step_debug.proofs.Standing.{in_parts}
+use Rattle.step_debug.proofs.Positions.{in_parts}
 use Rattle.step_debug.proofs.laws.steps_in_parts.Goals as goal
 
 pub returns : goal.returns

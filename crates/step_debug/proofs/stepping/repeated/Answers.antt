@@ -1,4 +1,4 @@
-use Rattle.step_debug.proofs.Standing.{no_other, the_same}
+use Rattle.step_debug.proofs.Positions.{no_other, the_same}
 use Rattle.step_debug.proofs.stepping.repeated.Goals as goal
 
 pub unreachable-requires : goal.unreachable-requires

@@ -1,5 +1,5 @@
-use Rattle.tool_commands.proofs.TokenPlacing.{stands_at_its_token}
+use Rattle.tool_commands.proofs.TokenPlacing.{is_at_its_token}
 use Rattle.tool_commands.proofs.laws.items_stand_at_their_tokens.Goals as goal
 
 pub returns : goal.returns
-returns c = stands_at_its_token
+returns c = is_at_its_token

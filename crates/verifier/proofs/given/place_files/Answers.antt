@@ -1,7 +1,7 @@
 use Rattle.std.proofs.Common.{◌≤◌, ◌∙◌, ℕ, List, length, arith, sym, ap, subst}
 use Rattle.std.specs.FinMap as finite
 use Rattle.std.specs.List.{fold}
-use Rattle.mem_files.specs.Limits.{most_content}
+use Rattle.ddc_base.specs.Limits.{most_content}
 use Rattle.guest_run.specs.Setting.{Setting}
 use Rattle.audit_rules.specs.Contents.{with_stage_file}
 use Rattle.audit_rules.proofs.GivenBoxes.{content-is}

@@ -11,7 +11,7 @@ use Rattle.verifier.specs.Faults.{replayed, stages_fault}
 use Rattle.verifier.specs.declared.part.Part.TheVariants as part
 use Rattle.verifier.specs.Verdicts.{AreReplayed, CanWantAt}
 use Rattle.verifier.proofs.DoneStages.{can-check, replayed-content}
-use Rattle.verifier.proofs.Looping.{among, at_stage, goes_on, no_line, replayed_on, stands}
+use Rattle.verifier.proofs.Looping.{among, at_stage, goes_on, no_line, replayed_on, denotes}
 use Rattle.verifier.proofs.judging.replay_all.Goals as goal
 
 pub returns-in-Err : goal.returns-in-Err
@@ -22,7 +22,7 @@ returns-in-Err c =
     slice_get-get_or c.args.stages.now c.loop-index.index c.in-Some.stage.now look.3.0 ∙ ap Some (sym look.1) in
     let right : replayed c.args.recipe.now all c.in-Some.stage.now c.index-lines-index.result ≡ Ok c.in-Ok.made =
     ap (λ a. replayed c.args.recipe.now (record { inputs = c.args.inputs.now; artefacts = a }) c.in-Some.stage.now c.index-lines-index.result) (sym c.as_slice.ensures) ∙ c.in-Ok.ensures.value in
-    stands c.args.recipe.now c.args.inputs.now c.args.stages.now c.args.lines.now c.loop-index.index _ all c.in-Some.stage.now c.index-lines-index.result part.Assembled
+    denotes c.args.recipe.now c.args.inputs.now c.args.stages.now c.args.lines.now c.loop-index.index _ all c.in-Some.stage.now c.index-lines-index.result part.Assembled
     c.requires.stages refl found (omega arith) c.index-lines-index.is c.loop-index.invariant.5
     (can-check c.args.recipe.now all c.in-Some.stage.now c.index-lines-index.result c.in-Ok.made right)
 
@@ -33,7 +33,7 @@ returns-in-Err-OutOfMemory c =
     let found : slice_get c.args.stages.now c.loop-index.index ≡ Some c.in-Some.stage.now =
     slice_get-get_or c.args.stages.now c.loop-index.index c.in-Some.stage.now look.3.0 ∙ ap Some (sym look.1) in
     rw c.in-Err-OutOfMemory.field-0-is
-    (stands c.args.recipe.now c.args.inputs.now c.args.stages.now c.args.lines.now c.loop-index.index _ all c.in-Some.stage.now c.index-lines-index.result c.in-Err-OutOfMemory.part
+    (denotes c.args.recipe.now c.args.inputs.now c.args.stages.now c.args.lines.now c.loop-index.index _ all c.in-Some.stage.now c.index-lines-index.result c.in-Err-OutOfMemory.part
     c.requires.stages refl found (omega arith) c.index-lines-index.is c.loop-index.invariant.5
     (subst (λ a. CanWantAt c.args.recipe.now (record { inputs = c.args.inputs.now; artefacts = a }) c.in-Some.stage.now c.index-lines-index.result c.in-Err-OutOfMemory.part) c.as_slice.ensures
     (rw c.in-Err-OutOfMemory.field-0-is at c.in-Err-OutOfMemory.ensures.memory)))

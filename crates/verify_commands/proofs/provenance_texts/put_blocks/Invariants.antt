@@ -4,4 +4,4 @@ use Rattle.verify_commands.specs.Provenance.{block_text}
 use Rattle.verify_commands.proofs.provenance_texts.put_blocks.Given as goal
 
 abbrev pub invariant-loop-line : goal.invariant-loop-line
-invariant-loop-line l = l.text ≡ l.fn.text ++ flat_map (block_text l.recipe l.report) (take l.line-index l.lines)
+invariant-loop-line l = l.text ≡ l.fn.text ++ flat_map (block_text l.audit.recipe.now l.audit.inputs.now l.audit.report.now) (take l.line-index l.lines)

@@ -27,9 +27,9 @@ pub loop-stage-preserved : goal.loop-stage-preserved
 loop-stage-preserved c =
     let recipe = c.args.recipe.now in
     let line = stage_assumption (trusts recipe c.args.trusted.now) recipe in
-    let front = filter_map (input_assumption (trusts recipe c.args.trusted.now) recipe) recipe.inputs in
+    let prefix = filter_map (input_assumption (trusts recipe c.args.trusted.now) recipe) recipe.inputs in
     c.in_ok-push_line-2.ensures
     ∙ ap₂ (λ l o. l ++ cons_option o []) c.loop-stage.invariant c.stage_line.ensures
-    ∙ append_assoc front (filter_map line (take c.loop-stage.stage-index recipe.stages)) (cons_option (line c.stage-item.result) [])
-    ∙ ap (λ l. front ++ l) (line_more line c.as_slice-stage-items.result.now recipe.stages c.loop-stage.stage-index c.stage-item.result
+    ∙ append_assoc prefix (filter_map line (take c.loop-stage.stage-index recipe.stages)) (cons_option (line c.stage-item.result) [])
+    ∙ ap (λ l. prefix ++ l) (line_more line c.as_slice-stage-items.result.now recipe.stages c.loop-stage.stage-index c.stage-item.result
     (c.as_slice-stage-items.ensures ∙ c.stages.ensures.value) c.loop-stage-test.true c.stage-item.is)

@@ -5,7 +5,7 @@ use Rattle.audit_run.proofs.audit.Audit.resume_delta.Goals as goal
 pub returns-clause-found : goal.returns-clause-found
 returns-clause-found c = (
   c.in_ok-position.position,
-  c.standing_at.ensures,
+  c.phase_at.ensures,
   c.in_ok-position.ensures.position,
   subst (λ (inputs : List (List ℕ)). HasDelta c.args.recipe inputs c.args.base.now c.args.delta.now c.in_ok-position.position) c.as_slice.ensures c.in_ok-position.ensures.found,
 )
@@ -13,6 +13,6 @@ returns-clause-found c = (
 pub returns-clause-exact : goal.returns-clause-exact
 returns-clause-exact c = (
   c.in_ok-position.position,
-  c.standing_at.ensures,
+  c.phase_at.ensures,
   subst (λ (inputs : List (List ℕ)). ResumesRelative c.args.recipe inputs c.args.base.now c.args.delta.now (Ok c.in_ok-position.position)) c.as_slice.ensures c.in_ok-position.ensures.exact,
 )

@@ -1,6 +1,6 @@
 use Rattle.std.proofs.Common.{sym, subst}
 use Rattle.save_format.specs.Seen.{stage_view}
-use Rattle.save_format.specs.Spelled.{IsShortStage}
+use Rattle.save_format.specs.Encoded.{IsShortStage}
 use Rattle.save_format.specs.declared.parts.StagePart.{StagePart}
 use Rattle.audit_run.proofs.delta.base.put_stages.Goals as goal
 

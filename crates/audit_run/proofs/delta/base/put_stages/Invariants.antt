@@ -3,7 +3,7 @@ use Rattle.std.specs.List.{flat_map}
 use Rattle.std.specs.Int.{w32}
 use Rattle.save_format.specs.ByteFields.Spelling.{number_text}
 use Rattle.save_format.specs.Seen.{stage_view}
-use Rattle.save_format.specs.Spelled.{stage_text}
+use Rattle.save_format.specs.Encoded.{stage_text}
 use Rattle.audit_run.proofs.delta.base.put_stages.Given as goal
 
 abbrev pub invariant-loop-stage : goal.invariant-loop-stage

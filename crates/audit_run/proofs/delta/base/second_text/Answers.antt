@@ -1,8 +1,8 @@
 use Rattle.std.proofs.Common.{◌<◌, ◌^◌, List, All, length, map, sym, subst}
 use Rattle.save_format.specs.Seen.{stage_view}
-use Rattle.save_format.specs.Spelled.{IsShortStage}
+use Rattle.save_format.specs.Encoded.{IsShortStage}
 use Rattle.save_format.specs.declared.parts.StagePart.{StagePart}
-use Rattle.audit_run.proofs.SaveLemmas.PositionSaid.{all_of}
+use Rattle.audit_run.proofs.SaveLemmas.PositionParsed.{all_of}
 use Rattle.audit_run.proofs.DeltaLemmas.Bases.{few_parts, short_parts}
 use Rattle.audit_run.proofs.delta.base.second_text.Goals as goal
 

@@ -9,7 +9,7 @@ known_of-requires c = is_read c.args.so_far.now.recipe.now c.args.so_far.now.inp
 
 pub relative-requires-clause-pages : goal.relative-requires-clause-pages
 relative-requires-clause-pages c =
-    few_pages c.args.so_far.now.recipe.now c.args.so_far.now.inputs.now c.args.base.now c.show_rules.ensures c.args.so_far.now.given c.requires.base.0 c.requires.base.1 (save_view c.in_ok-known.known) c.in_ok-known.ensures.said
+    few_pages c.args.so_far.now.recipe.now c.args.so_far.now.inputs.now c.args.base.now c.show_rules.ensures c.args.so_far.now.given c.requires.base.0 c.requires.base.1 (save_view c.in_ok-known.known) c.in_ok-known.ensures.parsed
 
 pub relative-requires-clause-few : goal.relative-requires-clause-few
 relative-requires-clause-few c = few_stages c.args.so_far.now.recipe.now (at c.args.so_far.now.done.now c.args.guest.now) c.show_rules.ensures c.requires.position
@@ -20,4 +20,4 @@ relative-requires-clause-short c = short_done c.args.so_far.now.recipe.now (at c
 pub returns : goal.returns
 returns c =
     deltas_are c.args.so_far.now.recipe.now c.args.so_far.now.inputs.now c.args.base.now (save_view c.in_ok-known.known) (at c.args.so_far.now.done.now c.args.guest.now) c.relative.result c.show_rules.ensures c.args.so_far.now.given
-    c.in_ok-known.ensures.said c.relative.ensures
+    c.in_ok-known.ensures.parsed c.relative.ensures

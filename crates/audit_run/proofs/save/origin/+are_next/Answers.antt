@@ -18,4 +18,4 @@ returns-else-not-is_digest_of t c =
 pub returns-in-Err : goal.returns-in-Err
 returns-in-Err t c =
     subst (λ inputs. Tells inputs false c.args.cursor.now) (split c.args.inputs.now c.input-item.result c.in-len1-up.len_at_least c.input-item.is)
-    (wrong_next c.input-item.result _ c.args.cursor.now c.in-Err.field-0.left false c.in-Err.ensures)
+    (wrong_next c.input-item.result _ c.args.cursor.now c.in-Err.field-0.remaining false c.in-Err.ensures)

@@ -1,5 +1,5 @@
 use Rattle.std.proofs.Common.{◌≡◌, ◌∙◌, false, refl, sym, true}
-use Rattle.audit_run.proofs.SaveLemmas.Origins.{no_front, other_count, other_recipe, same_count}
+use Rattle.audit_run.proofs.SaveLemmas.Origins.{no_header, other_count, other_recipe, same_count}
 use Rattle.audit_run.proofs.save.origin.is_text_of.Goals as goal
 
 pub returns-then-not-is_same : goal.returns-then-not-is_same
@@ -18,4 +18,4 @@ returns-else-count-inputs c = λ save formed.
 
 pub returns-in-Err : goal.returns-in-Err
 returns-in-Err c = λ save formed.
-    no_front c.args.text.now c.new-cursor.result c.new-cursor.ensures save formed c.in-Err.field-0.left c.in-Err.ensures false c.args.recipe.now c.args.inputs.now
+    no_header c.args.text.now c.new-cursor.result c.new-cursor.ensures save formed c.in-Err.field-0.remaining c.in-Err.ensures false c.args.recipe.now c.args.inputs.now

@@ -3,7 +3,7 @@ use Rattle.checkpoints.proofs.PatchCounts.{patched_bare}
 use Rattle.save_format.specs.Seen.{input_view, save_view, stage_view}
 use Rattle.save_format.specs.StateText.Seen.{state_view}
 use Rattle.audit_run.proofs.SaveLemmas.Exactly.{are_digests, same_digests, stood}
-use Rattle.audit_run.proofs.SaveLemmas.PositionSaid.{all_of}
+use Rattle.audit_run.proofs.SaveLemmas.PositionParsed.{all_of}
 use Rattle.audit_run.proofs.save.reading.judged.Goals as goal
 
 pub position_of-requires-clause-stages : goal.position_of-requires-clause-stages
@@ -26,4 +26,4 @@ returns-clause-resumes c =
     let is = c.if-not-is_of.ensures.0 refl in
     stood c.args.recipe.now c.args.inputs.now c.args.text.now (save_view c.in-Ok.parts) c.position_of.result c.in-Ok.ensures.exact
     (record { same_recipe = is.0 ∙ c.digest-digest.ensures.value; same_inputs = same_digests c.in-Ok.parts.inputs.items c.args.inputs.now is.1 })
-    (c.position_of.ensures.stands c.in-Ok.parts.recipe (map input_view c.in-Ok.parts.inputs.items))
+    (c.position_of.ensures.current c.in-Ok.parts.recipe (map input_view c.in-Ok.parts.inputs.items))

@@ -1,6 +1,6 @@
 use Rattle.std.proofs.Common.{sym, subst}
 use Rattle.audit_rules.specs.declared.answer.Finished.{Finished}
-use Rattle.save_format.specs.Spelled.{IsShortStage}
+use Rattle.save_format.specs.Encoded.{IsShortStage}
 use Rattle.audit_run.specs.Save.Saves.{stage_of}
 use Rattle.audit_run.proofs.save.writing.put_done.Goals as goal
 

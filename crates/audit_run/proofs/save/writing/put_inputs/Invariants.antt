@@ -2,7 +2,7 @@ use Rattle.std.proofs.Common.{◌≡◌, ◌++◌, length, map, take}
 use Rattle.std.specs.List.{flat_map}
 use Rattle.std.specs.Int.{w32}
 use Rattle.save_format.specs.ByteFields.Spelling.{number_text}
-use Rattle.save_format.specs.Spelled.{digest_text}
+use Rattle.save_format.specs.Encoded.{digest_text}
 use Rattle.audit_run.specs.Save.Saves.{digest_of}
 use Rattle.audit_run.proofs.save.writing.put_inputs.Given as goal
 

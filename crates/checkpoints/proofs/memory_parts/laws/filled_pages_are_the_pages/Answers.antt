@@ -1,6 +1,7 @@
 use Rattle.std.proofs.Common.{◌≡◌, ℕ, ◌/◌, ◌^◌, Bool, true, false, cond, Option, None, Some, List, ◌⊎◌, inl, inr, refl, ap, ◌∙◌, arith}
 use Rattle.std.specs.Ordering.{nat_cmp}
 use Rattle.std.specs.FinMap.{get, empty, get-empty}
+use Rattle.ddc_base.specs.Limits.{page_number_end}
 use Rattle.save_format.specs.declared.state_text.parts.Run.{Run}
 use Rattle.checkpoints.specs.MemoryParts.Canonical.{mapped_runs}
 use Rattle.checkpoints.proofs.MemoryPartsLemmas.RunsAgain.{get-mapped_runs, in_runs}
@@ -15,4 +16,4 @@ zeroed runs a = both (in_runs runs (a / 4096)) (get (mapped_runs empty runs) a) 
     both false o e = inl e
 
 pub returns : goal.returns
-returns c = λ runs pages placed shown. pages_again (mapped_runs empty runs) pages 0 0 (2 ^ 26) (zeroed runs) shown (omega arith) refl
+returns c = λ runs pages placed shown. pages_again (mapped_runs empty runs) pages 0 0 page_number_end (zeroed runs) shown (omega arith) refl

@@ -16,15 +16,15 @@ pub loop-i-preserved : goal.loop-i-preserved
 loop-i-preserved g c =
     let m : Memory = g.R.Ram.bytes c.args.ram.now in
     let number : ℕ = c.args.first + c.loop-i.i in
-    let front : List PageText = map page_view c.loop-i.found.items in
-    let more = page_more m front (map page_view c.match-listed_bytes.found.items) (map page_view c.args.found.now.items) c.args.first c.loop-i.i number refl in
+    let prefix : List PageText = map page_view c.loop-i.found.items in
+    let more = page_more m prefix (map page_view c.match-listed_bytes.found.items) (map page_view c.args.found.now.items) c.args.first c.loop-i.i number refl in
     elim c.match-listed_bytes.branch [
       | in-Some+in_ok-push w ↦
-          let now_is : map page_view c.match-listed_bytes.found.items ≡ front ++ listed_page number (bytes_at m (4096 * number) 4096) =
-          ap (map page_view) (ap (λ v. v.items) w.found-is ∙ w.in_ok-push.ensures.items) ∙ map_push page_view c.loop-i.found.items _ ∙ ap (λ (v : List PageText). front ++ v) (sym w.in-Some.ensures) in
+          let now_is : map page_view c.match-listed_bytes.found.items ≡ prefix ++ listed_page number (bytes_at m (4096 * number) 4096) =
+          ap (map page_view) (ap (λ v. v.items) w.found-is ∙ w.in_ok-push.ensures.items) ∙ map_push page_view c.loop-i.found.items _ ∙ ap (λ (v : List PageText). prefix ++ v) (sym w.in-Some.ensures) in
           more now_is c.loop-i.invariant
       | in_default w ↦
-          let now_is : map page_view c.match-listed_bytes.found.items ≡ front ++ listed_page number (bytes_at m (4096 * number) 4096) =
-          ap (map page_view) (ap (λ v. v.items) w.found-is) ∙ sym (append-nil front) ∙ ap (λ (v : List PageText). front ++ v) (sym w.in_default.ensures) in
+          let now_is : map page_view c.match-listed_bytes.found.items ≡ prefix ++ listed_page number (bytes_at m (4096 * number) 4096) =
+          ap (map page_view) (ap (λ v. v.items) w.found-is) ∙ sym (append-nil prefix) ∙ ap (λ (v : List PageText). prefix ++ v) (sym w.in_default.ensures) in
           more now_is c.loop-i.invariant
     ]

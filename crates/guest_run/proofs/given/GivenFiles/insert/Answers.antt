@@ -2,7 +2,7 @@ use Rattle.std.proofs.Common.{◌+◌, ◌<◌, ap, ◌∙◌, sym, length, subs
 use Rattle.std.specs.FinMap as fin
 use Rattle.std.proofs.lemmas.List.Elements.{All-from_get_or}
 use Rattle.mem_files.specs.Inside.Cells.{keyed}
-use Rattle.mem_files.specs.Limits.{most_names}
+use Rattle.ddc_base.specs.Limits.{most_names}
 use Rattle.mem_files.proofs.Directory.{keyed-insert}
 use Rattle.guest_run.specs.Inside.Given.{IsGiven}
 use Rattle.guest_run.proofs.GivenLists.{absent-given, each-given, given_more, len-given, put-given}

@@ -6,7 +6,7 @@ use Rattle.hex_langs.proofs.items.items.add_item.Goals as goal
 
 pub returns-in_ok-add_byte-in-Byte-clause-packed : goal.returns-in_ok-add_byte-in-Byte-clause-packed
 returns-in_ok-add_byte-in-Byte-clause-packed c =
-    rw c.in_ok-add_byte-in-Byte.ensures.ok (packed-byte c.args.codes.now.items c.args.others.now.items c.in-Byte.byte c.add_byte.ensures.byte c.requires.room c.requires.packed)
+    rw c.in_ok-add_byte-in-Byte.ensures.ok (packed-byte c.args.codes.now.items c.args.others.now.items c.in-Byte.byte c.add_byte.ensures.byte c.requires.capacity c.requires.packed)
 
 pub returns-in_ok-add_byte-in-Byte-clause-ok : goal.returns-in_ok-add_byte-in-Byte-clause-ok
 returns-in_ok-add_byte-in-Byte-clause-ok c =
@@ -21,7 +21,7 @@ returns-in_ok-add_other-in_default c =
     let codes = c.args.codes.now.items in
     let others = c.args.others.now.items in
     record {
-      packed = rw (c.in_ok-add_other-in_default.ensures.ok_codes, c.in_ok-add_other-in_default.ensures.ok_others) (packed-other codes others c.args.item c.requires.room c.requires.packed);
+      packed = rw (c.in_ok-add_other-in_default.ensures.ok_codes, c.in_ok-add_other-in_default.ensures.ok_others) (packed-other codes others c.args.item c.requires.capacity c.requires.packed);
       ok = rw (c.in_ok-add_other-in_default.ensures.ok_codes, c.in_ok-add_other-in_default.ensures.ok_others) (pushed-other codes others c.args.item c.requires.packed);
       err = tt;
     }

@@ -1,7 +1,7 @@
 use Rattle.std.proofs.Common.{arith, ap, sym, ◌∙◌, ◌≡◌, ◌+◌, ◌-◌, ◌∷◌, drop, take, get_or, length, ℕ, refl, None, Some, suc}
 use Rattle.std.proofs.lemmas.List.{drop_all, length-drop, length-take}
 use Rattle.hex_langs.specs.Items.Tokens.{gap_length}
-use Rattle.hex_langs.proofs.ItemsLemmas.Readings.{front_is, rest_is}
+use Rattle.hex_langs.proofs.ItemsLemmas.Readings.{prefix_is, rest_is}
 use Rattle.m1_lang.specs.Words.Words.{word_more, words_from}
 use Rattle.m1_lang.proofs.WordsLemmas.Splits.{no-gap-following, past-gap, split-unclosed, split-word}
 use Rattle.m1_lang.proofs.words.splitting.next_word.Goals as goal
@@ -32,7 +32,7 @@ returns-in-Some c =
     let found : word_more (get_or source start 0) (drop (start + 1) source) ≡ Some more = ap (word_more (get_or source start 0)) (sym (rest_is source (start + 1))) ∙ sym c.in-Some.ensures.value in
     let count : start + 1 + more - start ≡ suc more = omega arith in
     let text : take (start + 1 + more - start) (drop start source) ≡ get_or source start 0 ∷ take more (drop (start + 1) source) =
-    ap (λ (n : ℕ). take n (drop start source)) count ∙ ap (take (suc more)) (front_is source start (omega arith)) in (
+    ap (λ (n : ℕ). take n (drop start source)) count ∙ ap (take (suc more)) (prefix_is source start (omega arith)) in (
       past-gap source c.args.at c.gap_length.result size
           ∙ split-word source (take (start + 1 + more - start) (drop start source)) start more (start + 1 + more) (omega arith) (no-gap-following source c.args.at c.gap_length.result size (omega arith)) found refl text,
       omega arith,

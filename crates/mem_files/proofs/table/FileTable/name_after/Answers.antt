@@ -1,7 +1,7 @@
 use Rattle.std.proofs.Common.{◌∙◌, ap, sym, find}
 use Rattle.std.specs.Option.{option_copied}
 use Rattle.mem_files.specs.Calls.{is_after}
-use Rattle.mem_files.specs.Limits.{most_name}
+use Rattle.ddc_base.specs.Limits.{most_name}
 use Rattle.mem_files.proofs.After.{all_short}
 use Rattle.mem_files.proofs.Directory.{keys-keyed}
 use Rattle.mem_files.proofs.Changes.{keys-is, held_short}

@@ -38,22 +38,22 @@ invariant_of-self-2 c =
     let there = file_within _ _ c.self.view_is c.self.invariant c.args.number c.requires.held in
     let now = get_or_read c.self.inside.files.items c.args.number c.index_mut.result.now there c.index_mut.ensures.value None in
     let old = content-is _ _ c.self.view_is c.self.invariant c.args.number c.index_mut.result.now now in
-    set_file-consistent _ _ c.self.view_is c.self.invariant c.args.number c.overwrite.new.cell (written_over (content_of c.args.self.now c.args.number) c.args.place c.args.bytes.now) _ there c.requires.held
-    (c.in_ok-added.ensures.ok ∙ ap (λ l. Some (written_over l c.args.place c.args.bytes.now)) (sym old)) (c.in_ok-added.ensures.name ∙ ap name_in now)
-    (omega (arith, c.in_ok-added.ensures.added, ap length old, length-written_over (content_of c.args.self.now c.args.number) c.args.place c.args.bytes.now))
+    set_file-consistent _ _ c.self.view_is c.self.invariant c.args.number c.overwrite.new.cell (written_over (content_of c.args.self.now c.args.number) c.args.offset c.args.bytes.now) _ there c.requires.held
+    (c.in_ok-added.ensures.ok ∙ ap (λ l. Some (written_over l c.args.offset c.args.bytes.now)) (sym old)) (c.in_ok-added.ensures.name ∙ ap name_in now)
+    (omega (arith, c.in_ok-added.ensures.added, ap length old, length-written_over (content_of c.args.self.now c.args.number) c.args.offset c.args.bytes.now))
 
 pub returns-clause-ok : goal.returns-clause-ok
 returns-clause-ok c =
     let there = file_within _ _ c.self.view_is c.self.invariant c.args.number c.requires.held in
     let now = get_or_read c.self.inside.files.items c.args.number c.index_mut.result.now there c.index_mut.ensures.value None in
     let old = content-is _ _ c.self.view_is c.self.invariant c.args.number c.index_mut.result.now now in
-    set_file-world _ _ c.self.view_is c.self.invariant c.args.number c.overwrite.new.cell (written_over (content_of c.args.self.now c.args.number) c.args.place c.args.bytes.now) there
-    (c.in_ok-added.ensures.ok ∙ ap (λ l. Some (written_over l c.args.place c.args.bytes.now)) (sym old))
+    set_file-world _ _ c.self.view_is c.self.invariant c.args.number c.overwrite.new.cell (written_over (content_of c.args.self.now c.args.number) c.args.offset c.args.bytes.now) there
+    (c.in_ok-added.ensures.ok ∙ ap (λ l. Some (written_over l c.args.offset c.args.bytes.now)) (sym old))
 
 pub returns-in_err-added-clause-short : goal.returns-in_err-added-clause-short
 returns-in_err-added-clause-short c =
     let there = file_within _ _ c.self.view_is c.self.invariant c.args.number c.requires.held in
     let now = get_or_read c.self.inside.files.items c.args.number c.index_mut.result.now there c.index_mut.ensures.value None in
     let old = content-is _ _ c.self.view_is c.self.invariant c.args.number c.index_mut.result.now now in
-    let short : length (content_of c.args.self.now c.args.number) < c.args.place + length c.args.bytes.now = omega (arith, c.in_err-added.ensures.short, ap length old) in
+    let short : length (content_of c.args.self.now c.args.number) < c.args.offset + length c.args.bytes.now = omega (arith, c.in_err-added.ensures.short, ap length old) in
     on_err _ short

@@ -1,4 +1,5 @@
 use Rattle.std.proofs.Common.{ap, sym, ◌∙◌, ◌+◌, ◌≡◌, ◌<◌, ◌≤◌, take, map, sum_by, length, arith, get_or, None, []}
+use Rattle.ddc_base.specs.Limits.{file_number_end}
 use Rattle.std.specs.FinMap as map
 use Rattle.mem_files.specs.World.{World, total}
 use Rattle.mem_files.specs.declared.view.FileView.{FileView}
@@ -19,7 +20,7 @@ put_file-requires-clause-unused c =
     ap (λ (w : World). map.get w.files (get_or c.args.files.now c.loop-file.file-index blank).number) c.loop-file.invariant.world ∙ next_unused c.args.files.now c.loop-file.file-index blank c.loop-file-test.true c.requires.rise c.requires.distinct
 
 pub put_file-requires-clause-low : goal.put_file-requires-clause-low
-put_file-requires-clause-low c = next_holds c.args.files.now c.loop-file.file-index blank c.loop-file-test.true (λ file. file.number < 5120) c.requires.low
+put_file-requires-clause-low c = next_holds c.args.files.now c.loop-file.file-index blank c.loop-file-test.true (λ file. file.number < file_number_end) c.requires.low
 
 pub put_file-requires-clause-absent : goal.put_file-requires-clause-absent
 put_file-requires-clause-absent c = if_some _ _ (λ name is.

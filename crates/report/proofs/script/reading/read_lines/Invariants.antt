@@ -1,11 +1,11 @@
 use Rattle.std.proofs.Common.{◌≤◌, ◌+◌, length}
-use Rattle.report.specs.Inside.LineByLine.{Stands}
+use Rattle.report.specs.Inside.LineByLine.{HasRead}
 use Rattle.report.specs.Inside.Script.Reading.{script_reader}
 use Rattle.report.proofs.script.reading.read_lines.Given as goal
 
 abbrev pub invariant-loop-rest : goal.invariant-loop-rest
 invariant-loop-rest l = record {
-  stands : Stands script_reader l.bytes l.number l.state l.rest;
+  has_read : HasRead script_reader l.bytes l.number l.state l.rest;
   few : l.number + length l.rest ≤ length l.bytes;
 }
 

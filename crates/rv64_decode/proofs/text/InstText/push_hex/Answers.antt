@@ -17,10 +17,10 @@ push-requires-in-loop-i c = let so_far = written c.loop-i.self c.args.self.now c
 
 pub loop-i-preserved : goal.loop-i-preserved
 loop-i-preserved c =
-    let place = c.args.number / 2 ^ (4 * (c.args.count - 1 - c.loop-i.i)) in
-    let digit : c.hex_digit.result ≡ hex_digit (place % 16) = c.hex_digit.ensures ∙ ap hex_digit (and_mask place 4) in
+    let shifted = c.args.number / 2 ^ (4 * (c.args.count - 1 - c.loop-i.i)) in
+    let digit : c.hex_digit.result ≡ hex_digit (shifted % 16) = c.hex_digit.ensures ∙ ap hex_digit (and_mask shifted 4) in
     rw (c.push-in-loop-i.ensures, c.loop-i.invariant, digit, hex_digits-more c.args.count c.loop-i.i c.args.number c.loop-i-test.true)
-    (append_assoc (c.args.self.now ++ c.args.before.now) _ (hex_digit (place % 16) ∷ []))
+    (append_assoc (c.args.self.now ++ c.args.before.now) _ (hex_digit (shifted % 16) ∷ []))
 
-pub returns-clause-room : goal.returns-clause-room
-returns-clause-room c = let all = written c.loop-i.self c.args.self.now c.args.before.now c.loop-i.i _ c.loop-i.invariant in omega (arith, all)
+pub returns-clause-capacity : goal.returns-clause-capacity
+returns-clause-capacity c = let all = written c.loop-i.self c.args.self.now c.args.before.now c.loop-i.i _ c.loop-i.invariant in omega (arith, all)

@@ -7,7 +7,7 @@ use Rattle.save_format.proofs.byte_fields.item.items.Goals as goal
 pub returns-in_err-item : goal.returns-in_err-item
 returns-in_err-item g c =
     let p = err_from_is_err_and c.from_residual.result c.from_residual.ensures.1 in
-    rw (p.1, p.2) (stops g.T.TextItem.read_from g.T.TextItem.next_least c.loop.least c.in_err-item.field-0.0.left (map g.T.TextItem.seen c.loop.items.items) c.args.count c.loop.counter c.loop.cursor _ c.loop-test.true c.in_err-item.ensures c.loop.invariant)
+    rw (p.1, p.2) (stops g.T.TextItem.read_from g.T.TextItem.next_least c.loop.least c.in_err-item.field-0.0.remaining (map g.T.TextItem.seen c.loop.items.items) c.args.count c.loop.counter c.loop.cursor _ c.loop-test.true c.in_err-item.ensures c.loop.invariant)
 
 pub loop-preserved : goal.loop-preserved
 loop-preserved g c =

@@ -9,7 +9,7 @@ loop-init g c = rw c.in_ok-count.ensures (sets_out g.T.TextItem.read_from g.T.Te
 pub returns-in_err-item : goal.returns-in_err-item
 returns-in_err-item g c =
     let p = err_from_is_err_and c.from_residual-in_err-item.result c.from_residual-in_err-item.ensures.1 in
-    rw (p.1, p.2) (went_wrong g.T.TextItem.read_from g.T.TextItem.next_least c.loop.least c.in_err-item.field-0.0.left c.in_ok-count.count c.loop.counter c.loop.cursor _ c.loop-test.true c.in_err-item.ensures c.loop.invariant)
+    rw (p.1, p.2) (went_wrong g.T.TextItem.read_from g.T.TextItem.next_least c.loop.least c.in_err-item.field-0.0.remaining c.in_ok-count.count c.loop.counter c.loop.cursor _ c.loop-test.true c.in_err-item.ensures c.loop.invariant)
 
 pub loop-preserved : goal.loop-preserved
 loop-preserved g c = went_on g.T.TextItem.read_from g.T.TextItem.next_least c.loop.least _ c.in_ok-count.count c.loop.counter c.loop.cursor (g.T.TextItem.seen c.in_ok-item.item) c.take.new.cursor _ c.loop-test.true c.in_ok-item.ensures (sym c.least_after-least.ensures) c.loop.invariant

@@ -14,7 +14,7 @@ pub returns-in_err-name : goal.returns-in_err-name
 returns-in_err-name c =
     let p = err_from_is_err_and c.from_residual.result c.from_residual.ensures.1 in
     let b = c.loop-index.invariant in
-    rw (p.1, p.2) (stops saved_left_at after_left (option_copied c.loop-index.last) c.in_err-name.field-0.0.left b.front c.args.count c.loop-index.index c.loop-index.cursor _ c.loop-index-test.true c.in_err-name.ensures b.read)
+    rw (p.1, p.2) (stops saved_left_at after_left (option_copied c.loop-index.last) c.in_err-name.field-0.0.remaining b.prefix c.args.count c.loop-index.index c.loop-index.cursor _ c.loop-index-test.true c.in_err-name.ensures b.read)
 
 pub loop-index-preserved : goal.loop-index-preserved
 loop-index-preserved c =

@@ -13,7 +13,7 @@ loop-init c = rw c.in_ok-count.ensures (sets_out further_at after_further (optio
 pub returns-in_err-pass_further : goal.returns-in_err-pass_further
 returns-in_err-pass_further c =
     let p = err_from_is_err_and c.from_residual-in_err-pass_further.result c.from_residual-in_err-pass_further.ensures.1 in
-    rw (p.1, p.2) (went_wrong further_at after_further (option_map stage_view (option_copied c.loop.relative)) c.in_err-pass_further.field-0.0.left c.in_ok-count.count c.loop.counter c.loop.cursor _ c.loop-test.true c.in_err-pass_further.ensures c.loop.invariant)
+    rw (p.1, p.2) (went_wrong further_at after_further (option_map stage_view (option_copied c.loop.relative)) c.in_err-pass_further.field-0.0.remaining c.in_ok-count.count c.loop.counter c.loop.cursor _ c.loop-test.true c.in_err-pass_further.ensures c.loop.invariant)
 
 pub loop-preserved : goal.loop-preserved
 loop-preserved c = went_on further_at after_further (option_map stage_view (option_copied c.loop.relative)) None c.in_ok-count.count c.loop.counter c.loop.cursor c.in_ok-pass_further.ensures.0 c.pass_further.new.cursor _ c.loop-test.true c.in_ok-pass_further.ensures.1 refl c.loop.invariant

@@ -2,7 +2,7 @@ use Rattle.std.proofs.Common.{ap, sym, ◌∙◌}
 use Rattle.save_format.specs.DeltaText.DeltaText.{delta_at, parsed_delta}
 use Rattle.save_format.specs.DeltaText.Seen.{delta_view}
 use Rattle.save_format.specs.Seen.{save_view}
-use Rattle.save_format.proofs.ByteFieldsLemmas.Spells.{formed_so}
+use Rattle.save_format.proofs.ByteFieldsLemmas.Encodes.{formed_so}
 use Rattle.save_format.proofs.delta_text.reading.all.Goals as goal
 
 pub returns-in-Ok : goal.returns-in-Ok

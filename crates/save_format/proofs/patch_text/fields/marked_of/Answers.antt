@@ -9,7 +9,7 @@ pub returns-in_err-registers : goal.returns-in_err-registers
 returns-in_err-registers c =
     let p = err_from_is_err_and c.from_residual.result c.from_residual.ensures.1 in
     let lt : c.loop-index.index < length c.args.base.now = omega (arith, c.loop-index-test.true, c.told-base) in
-    rw (p.1, p.2) (stops c.args.base.now c.loop-index.higher c.loop-index.index c.in_err-registers.field-0.0.left (take c.loop-index.index c.loop-index.registers) c.loop-index.cursor _ lt c.in_err-registers.ensures c.loop-index.invariant.read)
+    rw (p.1, p.2) (stops c.args.base.now c.loop-index.higher c.loop-index.index c.in_err-registers.field-0.0.remaining (take c.loop-index.index c.loop-index.registers) c.loop-index.cursor _ lt c.in_err-registers.ensures c.loop-index.invariant.read)
 
 pub loop-index-preserved : goal.loop-index-preserved
 loop-index-preserved c =
@@ -27,4 +27,4 @@ returns c =
     let long = c.loop-index.invariant.long in
     let past : length c.args.base.now ≤ c.loop-index.index = omega (arith, c.loop-index-test.false, c.told-base) in
     let all : take c.loop-index.index c.loop-index.registers ≡ c.loop-index.registers = take_all c.loop-index.index c.loop-index.registers (omega (arith, long, c.loop-index-test.false)) in
-    is_done c.args.base.now c.loop-index.higher c.loop-index.index (take c.loop-index.index c.loop-index.registers) c.loop-index.cursor _ past c.loop-index.invariant.read ∙ ap (λ front. Ok (front, c.loop-index.cursor)) all
+    is_done c.args.base.now c.loop-index.higher c.loop-index.index (take c.loop-index.index c.loop-index.registers) c.loop-index.cursor _ past c.loop-index.invariant.read ∙ ap (λ prefix. Ok (prefix, c.loop-index.cursor)) all

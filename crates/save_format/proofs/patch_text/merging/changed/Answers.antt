@@ -6,7 +6,7 @@ use Rattle.save_format.specs.PatchText.Numbered.{item_numbered, with_item}
 use Rattle.save_format.specs.PatchText.PatchText.{PageChange, changed_pages, bytes_changed_by, page_of}
 use Rattle.save_format.specs.PatchText.Seen.{change_view}
 use Rattle.save_format.proofs.PatchTextLemmas.Combined.{bytes_seen, no_page, page_from, put_after, put_nothing}
-use Rattle.save_format.proofs.PatchTextLemmas.Merged.{begins, ends_there, front_seen, next_is, steps_on}
+use Rattle.save_format.proofs.PatchTextLemmas.Merged.{begins, ends_there, first_seen, next_is, steps_on}
 use Rattle.save_format.proofs.PatchTextLemmas.Pages.{change_number, page_number, pages_rise}
 use Rattle.save_format.proofs.patch_text.merging.changed.Goals as goal
 use Rattle.save_format.proofs.patch_text.merging.changed.Goals.{in-Some-made_of+in_ok-push, in_default-made_of}
@@ -25,9 +25,9 @@ loop-number-preserved c =
     let n : ℕ = c.in-Some.number in
     let xs : List PageText = map page_view (drop c.loop-number.at c.args.base.now) in
     let ys : List PageChange = map change_view (drop c.loop-number.now c.args.changes.now) in
-    let next = next_is page_number change_number page_from no_page (2 ^ 32) xs ys c.front.result c.front-in-loop-number.result c.loop-number.least n w.rises_a w.rises_b
-    (front_seen page_number page_view (drop c.loop-number.at c.args.base.now) c.front.result c.front.ensures)
-    (front_seen change_number change_view (drop c.loop-number.now c.args.changes.now) c.front-in-loop-number.result c.front-in-loop-number.ensures) c.in-Some.ensures in
+    let next = next_is page_number change_number page_from no_page (2 ^ 32) xs ys c.first_number.result c.first_number-in-loop-number.result c.loop-number.least n w.rises_a w.rises_b
+    (first_seen page_number page_view (drop c.loop-number.at c.args.base.now) c.first_number.result c.first_number.ensures)
+    (first_seen change_number change_view (drop c.loop-number.now c.args.changes.now) c.first_number-in-loop-number.result c.first_number-in-loop-number.ensures) c.in-Some.ensures in
     let made : page_of n (option_copied c.made_of.result) ≡ page_from n (item_numbered page_number xs n) (item_numbered change_number ys n) =
     ap (page_of n) (c.made_of.ensures
     ∙ ap₂ bytes_changed_by (bytes_seen c.taken-later.result.0 ∙ ap (option_map (λ (page : PageText). page.bytes)) c.taken-later.ensures.here) c.taken-later_now.ensures.here) in
@@ -47,6 +47,6 @@ loop-number-preserved c =
 pub returns : goal.returns
 returns c =
     let w = c.loop-number.invariant.walks in
-    ends_there page_number change_number page_from no_page (2 ^ 32) _ _ _ _ _ _ c.loop-number.least c.front.result c.front-in-loop-number.result w
-    (front_seen page_number page_view (drop c.loop-number.at c.args.base.now) c.front.result c.front.ensures)
-    (front_seen change_number change_view (drop c.loop-number.now c.args.changes.now) c.front-in-loop-number.result c.front-in-loop-number.ensures) c.in_default.ensures
+    ends_there page_number change_number page_from no_page (2 ^ 32) _ _ _ _ _ _ c.loop-number.least c.first_number.result c.first_number-in-loop-number.result w
+    (first_seen page_number page_view (drop c.loop-number.at c.args.base.now) c.first_number.result c.first_number.ensures)
+    (first_seen change_number change_view (drop c.loop-number.now c.args.changes.now) c.first_number-in-loop-number.result c.first_number-in-loop-number.ensures) c.in_default.ensures

@@ -3,9 +3,9 @@ use Rattle.save_format.specs.StateText.StateText.{PageText}
 use Rattle.save_format.specs.StateText.Seen.{page_view}
 use Rattle.save_format.specs.PatchText.Numbered.{item_numbered, with_item}
 use Rattle.save_format.specs.PatchText.Seen.{change_view}
-use Rattle.save_format.specs.PatchText.Spelled.{page_change_of, page_changes}
+use Rattle.save_format.specs.PatchText.Encoded.{page_change_of, page_changes}
 use Rattle.save_format.proofs.PatchTextLemmas.Combined.{bytes_seen, change_from, no_change, put_after, put_nothing}
-use Rattle.save_format.proofs.PatchTextLemmas.Merged.{begins, ends_there, front_seen, next_is, steps_on}
+use Rattle.save_format.proofs.PatchTextLemmas.Merged.{begins, ends_there, first_seen, next_is, steps_on}
 use Rattle.save_format.proofs.PatchTextLemmas.Pages.{page_number, pages_rise}
 use Rattle.save_format.proofs.patch_text.merging.changes.Goals as goal
 use Rattle.save_format.proofs.patch_text.merging.changes.Goals.{in-Some-change_of+in_ok-push, in_default-change_of}
@@ -23,9 +23,9 @@ loop-number-smaller c =
     let w = c.loop-number.invariant.walks in
     let xs : List PageText = map page_view (drop c.loop-number.at c.args.base.now) in
     let ys : List PageText = map page_view (drop c.loop-number.now c.args.pages.now) in
-    let next = next_is page_number page_number change_from no_change (2 ^ 32) xs ys c.front.result c.front-in-loop-number.result c.loop-number.least c.in-Some.number w.rises_a w.rises_b
-    (front_seen page_number page_view (drop c.loop-number.at c.args.base.now) c.front.result c.front.ensures)
-    (front_seen page_number page_view (drop c.loop-number.now c.args.pages.now) c.front-in-loop-number.result c.front-in-loop-number.ensures) c.in-Some.ensures in
+    let next = next_is page_number page_number change_from no_change (2 ^ 32) xs ys c.first_number.result c.first_number-in-loop-number.result c.loop-number.least c.in-Some.number w.rises_a w.rises_b
+    (first_seen page_number page_view (drop c.loop-number.at c.args.base.now) c.first_number.result c.first_number.ensures)
+    (first_seen page_number page_view (drop c.loop-number.now c.args.pages.now) c.first_number-in-loop-number.result c.first_number-in-loop-number.ensures) c.in-Some.ensures in
     omega (arith, next.from, c.from-least.ensures, w.low)
 
 pub loop-number-preserved : goal.loop-number-preserved
@@ -34,9 +34,9 @@ loop-number-preserved c =
     let n : ℕ = c.in-Some.number in
     let xs : List PageText = map page_view (drop c.loop-number.at c.args.base.now) in
     let ys : List PageText = map page_view (drop c.loop-number.now c.args.pages.now) in
-    let next = next_is page_number page_number change_from no_change (2 ^ 32) xs ys c.front.result c.front-in-loop-number.result c.loop-number.least n w.rises_a w.rises_b
-    (front_seen page_number page_view (drop c.loop-number.at c.args.base.now) c.front.result c.front.ensures)
-    (front_seen page_number page_view (drop c.loop-number.now c.args.pages.now) c.front-in-loop-number.result c.front-in-loop-number.ensures) c.in-Some.ensures in
+    let next = next_is page_number page_number change_from no_change (2 ^ 32) xs ys c.first_number.result c.first_number-in-loop-number.result c.loop-number.least n w.rises_a w.rises_b
+    (first_seen page_number page_view (drop c.loop-number.at c.args.base.now) c.first_number.result c.first_number.ensures)
+    (first_seen page_number page_view (drop c.loop-number.now c.args.pages.now) c.first_number-in-loop-number.result c.first_number-in-loop-number.ensures) c.in-Some.ensures in
     let made : option_map change_view c.change_of.result ≡ change_from n (item_numbered page_number xs n) (item_numbered page_number ys n) =
     c.change_of.ensures
     ∙ ap₂ (page_change_of n) (bytes_seen c.taken-later.result.0 ∙ ap (option_map (λ (page : PageText). page.bytes)) c.taken-later.ensures.here)
@@ -57,6 +57,6 @@ loop-number-preserved c =
 pub returns : goal.returns
 returns c =
     let w = c.loop-number.invariant.walks in
-    ends_there page_number page_number change_from no_change (2 ^ 32) _ _ _ _ _ _ c.loop-number.least c.front.result c.front-in-loop-number.result w
-    (front_seen page_number page_view (drop c.loop-number.at c.args.base.now) c.front.result c.front.ensures)
-    (front_seen page_number page_view (drop c.loop-number.now c.args.pages.now) c.front-in-loop-number.result c.front-in-loop-number.ensures) c.in_default.ensures
+    ends_there page_number page_number change_from no_change (2 ^ 32) _ _ _ _ _ _ c.loop-number.least c.first_number.result c.first_number-in-loop-number.result w
+    (first_seen page_number page_view (drop c.loop-number.at c.args.base.now) c.first_number.result c.first_number.ensures)
+    (first_seen page_number page_view (drop c.loop-number.now c.args.pages.now) c.first_number-in-loop-number.result c.first_number-in-loop-number.ensures) c.in_default.ensures

@@ -1,7 +1,7 @@
 use Rattle.std.proofs.Common.{◌≤◌, ◌-◌, ◌^◌, drop, length, map}
 use Rattle.save_format.specs.StateText.Seen.{page_view}
 use Rattle.save_format.specs.PatchText.Seen.{change_view}
-use Rattle.save_format.specs.PatchText.Spelled.{page_changes}
+use Rattle.save_format.specs.PatchText.Encoded.{page_changes}
 use Rattle.save_format.proofs.PatchTextLemmas.Combined.{change_from, no_change}
 use Rattle.save_format.proofs.PatchTextLemmas.Merged.{Walks}
 use Rattle.save_format.proofs.PatchTextLemmas.Pages.{page_number}

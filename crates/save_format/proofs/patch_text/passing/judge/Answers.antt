@@ -1,17 +1,17 @@
 use Rattle.std.proofs.Common.{ap, sym, subst, length, ◌≤◌, arith}
 use Rattle.save_format.specs.StateText.Seen.{state_view}
-use Rattle.save_format.proofs.ByteFieldsLemmas.Spells.{AreBytes, one_form, rest_within}
-use Rattle.save_format.proofs.PatchTextLemmas.Texts.{spells_patch}
+use Rattle.save_format.proofs.ByteFieldsLemmas.Encodes.{AreBytes, one_form, rest_within}
+use Rattle.save_format.proofs.PatchTextLemmas.Texts.{encodes_patch}
 use Rattle.save_format.proofs.patch_text.passing.judge.Goals as goal
 
 pub overflow_sub-result : goal.overflow_sub-result
 overflow_sub-result c =
     let fits : AreBytes c.args.text.now = λ i. omega (arith, c.type_inv.text i) in
-    let within : c.in-Err.field.left ≤ length c.new-cursor.result = (spells_patch (state_view c.args.base.now) c.requires).within c.new-cursor.result c.in-Err.field.left (subst AreBytes (sym c.new-cursor.ensures) fits) c.in-Err.ensures in
+    let within : c.in-Err.field.remaining ≤ length c.new-cursor.result = (encodes_patch (state_view c.args.base.now) c.requires).within c.new-cursor.result c.in-Err.field.remaining (subst AreBytes (sym c.new-cursor.ensures) fits) c.in-Err.ensures in
     omega (arith, within, ap length c.new-cursor.ensures)
 
 pub overflow_sub-result-in_default : goal.overflow_sub-result-in_default
 overflow_sub-result-in_default c =
     let fits : AreBytes c.args.text.now = λ i. omega (arith, c.type_inv.text i) in
-    let within : length c.pass_patch.new.cursor ≤ length c.new-cursor.result = rest_within (one_form (spells_patch (state_view c.args.base.now) c.requires)) c.new-cursor.result c.in-Ok.ensures.0 c.pass_patch.new.cursor (subst AreBytes (sym c.new-cursor.ensures) fits) c.in-Ok.ensures.1 in
+    let within : length c.pass_patch.new.cursor ≤ length c.new-cursor.result = rest_within (one_form (encodes_patch (state_view c.args.base.now) c.requires)) c.new-cursor.result c.in-Ok.ensures.0 c.pass_patch.new.cursor (subst AreBytes (sym c.new-cursor.ensures) fits) c.in-Ok.ensures.1 in
     omega (arith, within, c.len.ensures, ap length c.new-cursor.ensures)

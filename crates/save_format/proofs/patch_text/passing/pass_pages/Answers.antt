@@ -27,7 +27,7 @@ returns-in_err-change c =
     rw (
       p.1,
       p.2,
-      went_wrong (change_at (map page_view c.args.base.now)) after_change c.loop.least c.in_err-change.field-0.0.left c.in_ok-count.count c.loop.counter c.loop.cursor _ c.loop-test.true
+      went_wrong (change_at (map page_view c.args.base.now)) after_change c.loop.least c.in_err-change.field-0.0.remaining c.in_ok-count.count c.loop.counter c.loop.cursor _ c.loop-test.true
           (sym (change_alike (map page_view c.args.base.now) (map page_view (drop c.loop.at c.args.base.now)) c.loop.least c.loop.cursor c.loop.invariant.same) ∙ c.in_err-change.ensures.read) c.loop.invariant.went,
     ) refl
 

@@ -1,7 +1,7 @@
 use Rattle.std.proofs.Common.{map, refl}
 use Rattle.std.specs.Prelude.{option_map}
 use Rattle.save_format.specs.StateText.Seen.{file_view, reserved_view}
-use Rattle.save_format.specs.Inside.Fronts.{lists_relative_at}
+use Rattle.save_format.specs.Inside.Headers.{lists_relative_at}
 use Rattle.save_format.proofs.PatchTextLemmas.Listing.{files_rise}
 use Rattle.save_format.proofs.patch_text.passing.pass_patch.Goals as goal
 

@@ -15,7 +15,7 @@ file_of-requires-clause-rises c = rises_lower file_number c.loop.least 0 _ (omeg
 pub returns-in_err-file : goal.returns-in_err-file
 returns-in_err-file c =
     let p = err_from_is_err_and c.from_residual-in_err-file.result c.from_residual-in_err-file.ensures.1 in
-    rw (p.1, p.2) (stops (patched_file_at (map file_view c.args.base.now)) after_file c.loop.least c.in_err-file.field-0.0.left (map file_view c.loop.files.items) c.in_ok-count.count c.loop.counter c.loop.cursor _ c.loop-test.true
+    rw (p.1, p.2) (stops (patched_file_at (map file_view c.args.base.now)) after_file c.loop.least c.in_err-file.field-0.0.remaining (map file_view c.loop.files.items) c.in_ok-count.count c.loop.counter c.loop.cursor _ c.loop-test.true
     (sym (file_alike (map file_view c.args.base.now) (map file_view (drop c.loop.at c.args.base.now)) c.loop.least c.loop.cursor c.loop.invariant.same) ∙ c.in_err-file.ensures.read) c.loop.invariant.read)
 
 pub loop-preserved : goal.loop-preserved

@@ -16,7 +16,7 @@ change_of-requires-clause-rises c = rises_lower page_number c.loop.least 0 _ (om
 pub returns-in_err-change : goal.returns-in_err-change
 returns-in_err-change c =
     let p = err_from_is_err_and c.from_residual.result c.from_residual.ensures.1 in
-    rw (p.1, p.2) (stops (change_at (map page_view c.args.base.now)) after_change c.loop.least c.in_err-change.field-0.0.left (map change_view c.loop.changes.items) c.args.count c.loop.counter c.loop.cursor _ c.loop-test.true
+    rw (p.1, p.2) (stops (change_at (map page_view c.args.base.now)) after_change c.loop.least c.in_err-change.field-0.0.remaining (map change_view c.loop.changes.items) c.args.count c.loop.counter c.loop.cursor _ c.loop-test.true
     (sym (change_alike (map page_view c.args.base.now) (map page_view (drop c.loop.at c.args.base.now)) c.loop.least c.loop.cursor c.loop.invariant.same) ∙ c.in_err-change.ensures.read) c.loop.invariant.read)
 
 pub loop-preserved : goal.loop-preserved

@@ -5,9 +5,9 @@ use Rattle.save_format.specs.ByteFields.Spelling.{blob_text, number_text}
 use Rattle.mem_files.specs.Lists.{ListedFile}
 use Rattle.save_format.specs.declared.state_text.parts.File.{File}
 use Rattle.save_format.specs.StateText.Seen.{file_view}
-use Rattle.save_format.specs.StateText.Spelled.{name_bytes}
+use Rattle.save_format.specs.StateText.Encoded.{name_bytes}
 use Rattle.save_format.specs.PatchText.Inside.Walking.{Rises}
-use Rattle.save_format.specs.PatchText.Spelled.{content_relative_text, patched_file_text}
+use Rattle.save_format.specs.PatchText.Encoded.{content_relative_text, patched_file_text}
 use Rattle.save_format.proofs.PatchTextLemmas.FileSteps.{flat_more, head_or_at, text_more}
 use Rattle.save_format.proofs.PatchTextLemmas.Listing.{file_number}
 use Rattle.save_format.proofs.PatchTextLemmas.Rising.{rises_lower}

@@ -4,7 +4,7 @@ use Rattle.std.specs.Int.{w32}
 use Rattle.save_format.specs.ByteFields.Spelling.{number_text}
 use Rattle.save_format.specs.StateText.Seen.{file_view}
 use Rattle.save_format.specs.PatchText.Inside.Walking.{Rises, SameFrom}
-use Rattle.save_format.specs.PatchText.Spelled.{patched_file_text}
+use Rattle.save_format.specs.PatchText.Encoded.{patched_file_text}
 use Rattle.save_format.proofs.PatchTextLemmas.Listing.{file_number}
 use Rattle.save_format.proofs.patch_text.writing.add_files.Given as goal
 

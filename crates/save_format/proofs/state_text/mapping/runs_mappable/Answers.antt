@@ -11,10 +11,10 @@ loop-init c = rw c.in_ok-count.ensures (sets_out c.in_ok-count.count _)
 pub returns-in_err-run : goal.returns-in_err-run
 returns-in_err-run c =
     let p = err_from_is_err_and c.from_residual-in_err-run.result c.from_residual-in_err-run.ensures.1 in
-    rw (p.1, p.2) (stops run_at after_run c.loop.least c.in_err-run.field-0.0.left c.loop.invariant.front c.in_ok-count.count c.loop.counter c.loop.cursor _ c.loop-test.true c.in_err-run.ensures c.loop.invariant.read)
+    rw (p.1, p.2) (stops run_at after_run c.loop.least c.in_err-run.field-0.0.remaining c.loop.invariant.prefix c.in_ok-count.count c.loop.counter c.loop.cursor _ c.loop-test.true c.in_err-run.ensures c.loop.invariant.read)
 
 pub loop-preserved : goal.loop-preserved
-loop-preserved c = went_on c.loop.left _ c.loop.least _ c.in_ok-count.count c.loop.counter c.loop.cursor _ c.in_ok-run.run' _ c.loop-test.true c.in_ok-run.ensures (sym c.least_after-least.ensures) c.left_after-left.ensures c.loop.invariant
+loop-preserved c = went_on c.loop.remaining _ c.loop.least _ c.in_ok-count.count c.loop.counter c.loop.cursor _ c.in_ok-run.run' _ c.loop-test.true c.in_ok-run.ensures (sym c.least_after-least.ensures) c.remaining_after-remaining.ensures c.loop.invariant
 
 pub returns : goal.returns
-returns c = went_past c.loop.left c.loop.least c.in_ok-count.count c.loop.counter c.loop.cursor _ c.is_some.result c.loop-test.false c.is_some.ensures c.loop.invariant
+returns c = went_past c.loop.remaining c.loop.least c.in_ok-count.count c.loop.counter c.loop.cursor _ c.is_some.result c.loop-test.false c.is_some.ensures c.loop.invariant

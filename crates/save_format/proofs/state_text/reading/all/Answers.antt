@@ -1,7 +1,7 @@
 use Rattle.std.proofs.Common.{ap, sym, ◌∙◌}
 use Rattle.save_format.specs.StateText.StateText.{parsed_state, state_at}
 use Rattle.save_format.specs.StateText.Seen.{state_view}
-use Rattle.save_format.proofs.ByteFieldsLemmas.Spells.{formed_so}
+use Rattle.save_format.proofs.ByteFieldsLemmas.Encodes.{formed_so}
 use Rattle.save_format.proofs.state_text.reading.all.Goals as goal
 
 pub returns-in-Ok : goal.returns-in-Ok

@@ -1,7 +1,7 @@
 use Rattle.std.proofs.Common.{refl}
 use Rattle.std.specs.Prelude.{option_map}
 use Rattle.save_format.specs.StateText.Seen.{reserved_view}
-use Rattle.save_format.specs.Inside.Fronts.{lists_at}
+use Rattle.save_format.specs.Inside.Headers.{lists_at}
 use Rattle.save_format.proofs.state_text.reading.pass_body.Goals as goal
 
 pub returns : goal.returns

@@ -9,7 +9,7 @@ use Rattle.save_format.proofs.state_text.reading.registers_of.Goals as goal
 pub returns-in_err-registers : goal.returns-in_err-registers
 returns-in_err-registers c =
     let p = err_from_is_err_and c.from_residual.result c.from_residual.ensures.1 in
-    rw (p.1, p.2) (stops (λ (before : Unit {0}). u64) (λ n. tt) tt c.in_err-registers.field-0.0.left (take c.loop-index.index c.loop-index.registers) 31 c.loop-index.index c.loop-index.cursor _ c.loop-index-test.true c.in_err-registers.ensures c.loop-index.invariant.read)
+    rw (p.1, p.2) (stops (λ (before : Unit {0}). u64) (λ n. tt) tt c.in_err-registers.field-0.0.remaining (take c.loop-index.index c.loop-index.registers) 31 c.loop-index.index c.loop-index.cursor _ c.loop-index-test.true c.in_err-registers.ensures c.loop-index.invariant.read)
 
 pub loop-index-preserved : goal.loop-index-preserved
 loop-index-preserved c =
@@ -26,4 +26,4 @@ pub returns : goal.returns
 returns c =
     let long = c.loop-index.invariant.long in
     let all : take c.loop-index.index c.loop-index.registers ≡ c.loop-index.registers = take_all c.loop-index.index c.loop-index.registers (omega arith) in
-    is_done (λ (before : Unit {0}). u64) (λ n. tt) tt (take c.loop-index.index c.loop-index.registers) 31 c.loop-index.index c.loop-index.cursor _ c.loop-index-test.false c.loop-index.invariant.read ∙ ap (λ front. Ok (front, c.loop-index.cursor)) all
+    is_done (λ (before : Unit {0}). u64) (λ n. tt) tt (take c.loop-index.index c.loop-index.registers) 31 c.loop-index.index c.loop-index.cursor _ c.loop-index-test.false c.loop-index.invariant.read ∙ ap (λ prefix. Ok (prefix, c.loop-index.cursor)) all

@@ -1,5 +1,5 @@
 use Rattle.std.proofs.Common.{◌≡◌, ◌++◌, take}
-use Rattle.save_format.specs.StateText.Spelled.{u64s}
+use Rattle.save_format.specs.StateText.Encoded.{u64s}
 use Rattle.save_format.proofs.state_text.writing.put_registers.Given as goal
 
 abbrev pub invariant-loop-register : goal.invariant-loop-register

@@ -1,6 +1,6 @@
 use Rattle.std.proofs.Common.{◌-◌, ◌∙◌, arith, ap}
 use Rattle.step_debug.specs.Sessions.{state_of_step}
-use Rattle.step_debug.proofs.Standing.{back}
+use Rattle.step_debug.proofs.Positions.{back}
 use Rattle.step_debug.proofs.stepping.Session.go_back.Goals as goal
 
 pub invariant_of-self : goal.invariant_of-self

@@ -1,4 +1,4 @@
-use Rattle.step_debug.proofs.Standing.{further}
+use Rattle.step_debug.proofs.Positions.{further}
 use Rattle.step_debug.proofs.stepping.Session.go_on.Goals as goal
 
 pub invariant_of-self : goal.invariant_of-self

@@ -1,4 +1,4 @@
-use Rattle.step_debug.proofs.Standing.{fresh}
+use Rattle.step_debug.proofs.Positions.{fresh}
 use Rattle.step_debug.proofs.stepping.Session.new.Goals as goal
 
 pub invariant_of-result : goal.invariant_of-result

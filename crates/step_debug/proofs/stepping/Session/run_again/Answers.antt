@@ -1,5 +1,5 @@
 use Rattle.std.proofs.Common.{◌≤◌, sym, ap, subst}
-use Rattle.step_debug.proofs.Standing.{on_the_way, steps_of}
+use Rattle.step_debug.proofs.Positions.{on_the_way, steps_of}
 use Rattle.step_debug.proofs.stepping.Session.run_again.Goals as goal
 
 pub repeated-requires-clause-goes : goal.repeated-requires-clause-goes

@@ -1,0 +1,2 @@
+-- No promise depends on these files being read.
+pub mod Programs

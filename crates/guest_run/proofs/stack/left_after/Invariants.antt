@@ -1,6 +1,0 @@
-use Rattle.std.proofs.Common.{◌≡◌, ◌+◌, drop, sum_by}
-use Rattle.guest_run.specs.Inside.Bounds.{cost}
-use Rattle.guest_run.proofs.stack.left_after.Given as goal
-
-abbrev pub invariant-loop-text : goal.invariant-loop-text
-invariant-loop-text l = l.most + sum_by cost (drop l.text-index l.texts) ≡ l.left + sum_by cost l.texts

@@ -1,6 +1,0 @@
-use Rattle.save_format.proofs.ByteFieldsLemmas.Law.{law_of_forms}
-use Rattle.save_format.proofs.StateTextLemmas.Texts.{spells_state}
-use Rattle.save_format.proofs.state_text.laws.states_are_read_as_spelled.Goals as goal
-
-pub returns : goal.returns
-returns c = law_of_forms spells_state

@@ -1,9 +1,0 @@
-use Rattle.command_plan.proofs.Obtaining.{ends_before, ends_with, goes_on_with}
-use Rattle.command_plan.proofs.Performing.{says}
-use Rattle.tool_commands.proofs.kaem_verify.replay.Goals as goal
-
-pub returns-in_err-files : goal.returns-in_err-files
-returns-in_err-files g c = ends_with c.from_residual.ensures.1 (ends_before c.in_err-files.ensures)
-
-pub returns : goal.returns
-returns g c = goes_on_with c.in_ok-files.ensures (says _ _ _ c.judge.ensures)

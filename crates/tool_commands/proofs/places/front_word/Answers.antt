@@ -1,9 +1,0 @@
-use Rattle.std.proofs.Common.{ap, sym, take}
-use Rattle.tool_commands.proofs.PlaceSteps.{blank_there, whole_before}
-use Rattle.tool_commands.proofs.places.front_word.Goals as goal
-
-pub returns-in-Some : goal.returns-in-Some
-returns-in-Some c = sym (ap (λ size. take size c.args.rest.now) (blank_there c.args.rest.now c.in-Some.size (sym c.in-Some.ensures.place)))
-
-pub returns-in-None : goal.returns-in-None
-returns-in-None c = sym (whole_before c.args.rest.now (sym c.in-None.ensures.place))

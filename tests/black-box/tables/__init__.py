@@ -1,0 +1,1 @@
+"""The cases of the built program, in tables by command."""
