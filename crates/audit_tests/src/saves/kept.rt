@@ -46,7 +46,7 @@ pub fn delta_from(
 
 /// The save of an audit.
 fn save_of(audit: &Audit) -> Result<Bytes, DeltaRefusal>
-    requires { IsOn audit.now.holds }
+    requires { IsOn audit.now.current }
 {
     Ok(audit.save()?)
 }
