@@ -3,14 +3,15 @@ use Rattle.std.proofs.Common.{◌≡◌, ℕ, Bool, true, false, Option, None, S
 use Rattle.std.specs.Prelude.{if◌then◌else◌}
 use Rattle.command_plan.specs.Plan.{Plan}
 use Rattle.command_plan.specs.Words.{are_four_files, are_three_files, are_two_files, as_steps, is_file_word, or_usage, usage}
+use Rattle.recipe_plan.specs.Inside.Words.{as_audit_words}
+use Rattle.recipe_plan.proofs.Worded.{over_report, over_two}
 use Rattle.audit_commands.specs.Audit.{audit_files, audit_plan}
 use Rattle.audit_commands.specs.Delta.{delta_resume_files, delta_resume_plan, delta_start_files, delta_start_plan}
-use Rattle.audit_commands.specs.Inside.Words.{relative_of, relative_words, report_of, report_word, report_words, whole_of, whole_words}
+use Rattle.audit_commands.specs.Inside.Words.{relative_of, relative_words, report_word, whole_of, whole_words}
 use Rattle.audit_commands.specs.Pause.{part_files, part_plan, resume_files, resume_plan}
 use Rattle.audit_commands.specs.Show.{show_file, show_plan}
 use Rattle.audit_commands.specs.declared.words.RelativeWords.{RelativeWords}
 use Rattle.audit_commands.specs.declared.words.PieceWords.{PieceWords}
-use Rattle.audit_commands.specs.declared.words.ReportWords.{ReportWords}
 
 -- ---- one file
 
@@ -24,16 +25,8 @@ shows _ = refl
 
 -- ---- two files
 
-abbrev pub over_report : (List ℕ → List ℕ → Plan) → ReportWords → Plan
-over_report files w = files w.recipe w.report
-
-two : (files : List ℕ → List ℕ → Plan) (recipe report : List ℕ) (apart : Bool)
-    → (if apart then files recipe report else usage) ≡ or_usage (report_of (if apart then Some (recipe, report) else None)) (over_report files)
-two files recipe report true = refl
-two files recipe report false = refl
-
-pub audits : (words : List (List ℕ)) → audit_plan words ≡ or_usage (report_words words) (over_report audit_files)
-audits (recipe ∷ report ∷ []) = two audit_files recipe report (are_two_files recipe report)
+pub audits : (words : List (List ℕ)) → audit_plan words ≡ or_usage (as_audit_words words) (over_report audit_files)
+audits (recipe ∷ report ∷ []) = over_two audit_files recipe report (are_two_files recipe report)
 audits _ = refl
 
 -- ---- three files and a number of steps

@@ -8,13 +8,12 @@ ghost use Rattle.recipe_plan.specs.Reports.{compared_status};
 ghost use Rattle.recipe_plan.specs.Texts.{compared_lines};
 ghost use Rattle.audit_commands.specs.Audit.{audited, audit_plan, completed};
 
-use crate::words::ReportWords;
 use audit_run::run_bench;
 use command_plan::{Answer, FileName, Stop, keep, usage};
 use ddc_base::{OutOfMemory, Shelf};
 use recipe::Recipe;
 use recipe_plan::texts::compared_lines;
-use recipe_plan::{apart, compared_status, fetch_inputs, fetch_recipe, unfinished};
+use recipe_plan::{AuditWords, apart, compared_status, fetch_inputs, fetch_recipe, unfinished};
 use report::{CompareLine, Report};
 use std::alloc::Global;
 
@@ -22,7 +21,7 @@ use std::alloc::Global;
 pub fn perform<S: Shelf>(alloc: Global, shelf: &mut S, words: &[&str]) -> Result<Answer, Stop>
     ensures { Performs (audit_plan (map (λ w. w.now) words.now)) (S.state shelf.old) (S.state shelf.new) result }
 {
-    let Some(words) = ReportWords::read(words) else {
+    let Some(words) = AuditWords::read(words) else {
         return usage(alloc);
     };
     let recipe = fetch_recipe(alloc, shelf, &words.recipe)?;

@@ -1,9 +1,9 @@
 //! The words of the audit commands, each set of them as one value.
 
 ghost use Rattle.std.specs.Prelude.{◌≡◌, map};
-ghost use Rattle.audit_commands.specs.Inside.Words.{relative_words, report_word, report_words, whole_words};
+ghost use Rattle.audit_commands.specs.Inside.Words.{relative_words, report_word, whole_words};
 
-use command_plan::{FileName, StepCount, four_files, three_files, two_files};
+use command_plan::{FileName, StepCount, four_files, three_files};
 
 /// The word `REPORT`; `None` for any others.
 pub(crate) fn report_word<'w>(words: &[&'w str]) -> Option<FileName<'w>>
@@ -13,26 +13,6 @@ pub(crate) fn report_word<'w>(words: &[&'w str]) -> Option<FileName<'w>>
         return None;
     };
     FileName::read(report)
-}
-
-/// The names of a recipe and of the report of its audit.
-#[derive(Drop)]
-pub(crate) struct ReportWords<'w> {
-    pub recipe: FileName<'w>,
-    pub report: FileName<'w>,
-}
-
-impl<'w> ReportWords<'w> {
-    /// The words `RECIPE REPORT`; `None` for any others.
-    pub(crate) fn read(words: &[&'w str]) -> Option<ReportWords<'w>>
-        ensures { result ≡ report_words (map (λ w. w.now) words.now) }
-    {
-        let [recipe, report] = words else {
-            return None;
-        };
-        let (recipe, report) = two_files(recipe, report)?;
-        Some(ReportWords { recipe, report })
-    }
 }
 
 /// A segment of an audit: at most so many steps, the name for its save or delta, and the name for its report.

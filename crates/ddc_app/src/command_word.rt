@@ -179,43 +179,50 @@ impl CommandWord {
         match self {
             CommandWord::Hex0 => "compares the hex0 value of SOURCE with BINARY, byte for byte",
             CommandWord::Asm =>
-                "saves under OUT the value of SOURCE in LANG (hex0, hex1, hex2) at the address BASE, of m1 the text of its items",
+                "assembles SOURCE in LANG (hex0, hex1, hex2, m1) at the address BASE, and saves under OUT its bytes, or for m1 the text of its items",
             CommandWord::Where =>
-                "says at which line, column and word of SOURCE a refusal of asm stands, by its number and its place",
+                "prints the line, the column and the word of SOURCE that a refusal of asm means, by its number and its place",
             CommandWord::List => "lists the words of BINARY with their values and instructions",
             CommandWord::Run =>
-                "runs PROGRAM within STEPS steps, and says how it ended and what it left",
-            CommandWord::Audit => "makes the audit of RECIPE, and saves its report under REPORT",
+                "runs PROGRAM for at most STEPS steps, and prints how it ended and what it left",
+            CommandWord::Audit =>
+                "runs the stages of RECIPE, compares their artefacts, and saves the report under REPORT",
             CommandWord::Part =>
-                "begins the audit of RECIPE by at most STEPS steps: its save is kept under SAVE, or its report under REPORT",
-            CommandWord::Resume => "goes on with the audit from where SAVE stands",
-            CommandWord::DeltaStart => "goes on from BASE, and keeps under PATCH what differs",
-            CommandWord::DeltaResume => "goes on from where BASE and PATCH stand",
-            CommandWord::Show => "prints the report in REPORT, or says at which line it is none",
-            CommandWord::Verify => "replays the stages of RECIPE, and says whether REPORT is true",
+                "runs the audit of RECIPE for at most STEPS steps, and saves its state under SAVE, or its report under REPORT if it ends",
+            CommandWord::Resume =>
+                "continues the audit from SAVE for at most STEPS steps, and saves as part does",
+            CommandWord::DeltaStart =>
+                "continues the audit from the save BASE, and saves under PATCH what differs from BASE",
+            CommandWord::DeltaResume =>
+                "continues the audit from BASE and PATCH, and saves as delta-start does",
+            CommandWord::Show =>
+                "prints the report in REPORT, or the line from which on it is no report",
+            CommandWord::Verify =>
+                "replays the stages of RECIPE, and answers whether REPORT is true",
             CommandWord::Provenance =>
                 "does as verify, and lists by length and digest what each compared artefact depends on",
             CommandWord::Chain =>
-                "replays the audits that LIST names, and says what remains to be believed of them together",
+                "replays the audits that LIST names, and prints the assumptions that are left for all of them together",
             CommandWord::Rests =>
-                "says what the artefact of STAGE rests on: texts, runs, and what has to be believed",
-            CommandWord::Step =>
-                "answers lines of standard input on what the program of STAGE does",
+                "lists what the artefact of STAGE depends on: texts, runs and assumptions",
+            CommandWord::Step => "steps through the program of STAGE by commands on standard input",
             CommandWord::Left => "runs STAGE, and saves under OUT what it left at FILE",
             CommandWord::Cut =>
                 "runs STAGE, and saves its state after every EVERY steps as PREFIX.0, PREFIX.1 and so on",
-            CommandWord::Segment => "says whether the state in TO is reached from that in FROM",
+            CommandWord::Segment =>
+                "answers whether the program reaches the state in TO from the state in FROM",
             CommandWord::Ends =>
-                "says whether PREFIX.0 is the start of STAGE, and how the run after the last of COUNT states ends",
+                "answers whether PREFIX.0 is the start of STAGE, and how the run ends after the last of COUNT states",
             CommandWord::Kaem =>
                 "runs the commands of SCRIPT over the files that LIST names, and saves their report under REPORT",
-            CommandWord::KaemVerify => "replays these commands, and says whether REPORT is true",
+            CommandWord::KaemVerify =>
+                "replays the commands of SCRIPT, and answers whether REPORT is true",
             CommandWord::KaemLeft =>
-                "runs these commands up to that of the number COMMAND, and saves under OUT what it left at FILE",
+                "runs the commands of SCRIPT up to the one of number COMMAND, and saves under OUT what that left at FILE",
             CommandWord::Demo =>
                 "makes and verifies an audit of N bytes with copy.elf and copy.hex0, and saves nothing",
             CommandWord::Help =>
-                "lists the commands, or says of COMMAND what it answers, and with which statuses",
+                "lists the commands, or prints what COMMAND does and with which statuses it ends",
             CommandWord::Version => "names this release of ddc, and the logic that proves it",
         }
     }

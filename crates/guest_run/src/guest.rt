@@ -1,5 +1,5 @@
 ghost use Rattle.guest_run.specs.Run.{Runs};
-ghost use Rattle.elf_load.specs.Image.{IsLoadable};
+ghost use Rattle.elf_load.specs.Image.{IsLoadable, image_of};
 ghost use Rattle.guest_run.specs.Setting.{files_size};
 ghost use Rattle.guest_run.specs.Stack.{start_size};
 ghost use Rattle.guest_run.specs.Start.{start_of, start_state, Starts};
@@ -8,7 +8,7 @@ ghost use Rattle.guest_run.specs.Travels.{Travels};
 ghost use Rattle.guest_run.specs.Valid.{Fits, IsValid};
 ghost use Rattle.ddc_base.specs.Limits.{most_texts, most_total};
 ghost use Rattle.paged_mem.specs.Memory.{bytes_at, maps};
-ghost use Rattle.std.specs.Prelude.{◌≡◌, ◌+◌, ◌^◌, ◌<◌, ◌≤◌, length, slice_index, unwrap_or, Ok, Err, IfErr, IfOk, OnOk};
+ghost use Rattle.std.specs.Prelude.{◌≡◌, ◌+◌, ◌^◌, ◌<◌, ◌≤◌, length, slice_index, unwrap_or, Ok, IfOk, OnOk};
 
 use crate::placing::{place_segments, place_stack};
 use crate::run::{Process, RunEnd};
@@ -53,8 +53,33 @@ impl<R: Ram> Guest<R> {
         ensures answer { Starts (start_of program.now setting.now) result }
         ensures fresh { IfOk result (λ guest. guest.steps ≡ 0) }
     {
-        let image = judged(program, setting)?;
-        match started(alloc, program, setting, &image) {
+        match read_image(program) {
+            Ok(image) => Guest::start_image(alloc, program, &image, setting),
+            Err(refusal) => Err(StartRefusal::Elf(refusal)),
+        }
+    }
+
+    /// Starts a program whose image was read before, as `start` does.
+    ///
+    /// Errors, in this order: `ArgsTooLong`, `BoxTooLarge`. `OutOfMemory` occurs only where the program would have started.
+    pub fn start_image(
+        alloc: Global,
+        program: &[u8],
+        image: &Image,
+        setting: &RunBox,
+    ) -> Result<Guest<R>, StartRefusal>
+        requires read { image_of program.now ≡ Ok image.now }
+        requires loadable { IsLoadable (length program.now) image.now }
+        ensures answer { Starts (start_of program.now setting.now) result }
+        ensures fresh { IfOk result (λ guest. guest.steps ≡ 0) }
+    {
+        if !stack::fits(setting.args(), setting.env()) {
+            return Err(StartRefusal::ArgsTooLong);
+        }
+        if setting.files().size() > MOST_TOTAL {
+            return Err(StartRefusal::BoxTooLarge);
+        }
+        match started(alloc, program, setting, image) {
             Ok(guest) => Ok(guest),
             Err(OutOfMemory) => Err(StartRefusal::OutOfMemory),
         }
@@ -176,27 +201,6 @@ pub enum StartRefusal {
     BoxTooLarge,
     /// This process is out of memory.
     OutOfMemory,
-}
-
-/// The image of a program that can start, or the first refusal.
-fn judged(program: &[u8], setting: &RunBox) -> Result<Image, StartRefusal>
-    ensures sound { IfOk result (IsLoadable (length program.now)) }
-    ensures texts { OnOk result (start_size setting.now.args setting.now.env ≤ most_texts) }
-    ensures files { OnOk result (files_size setting.now.files ≤ most_total) }
-    ensures state { IfOk result (λ image. start_of program.now setting.now ≡ Ok (start_state program.now setting.now image)) }
-    ensures refusal { IfErr result (λ refusal. Starts (start_of program.now setting.now) (Err refusal)) }
-{
-    let image = match read_image(program) {
-        Ok(image) => image,
-        Err(refusal) => return Err(StartRefusal::Elf(refusal)),
-    };
-    if !stack::fits(setting.args(), setting.env()) {
-        return Err(StartRefusal::ArgsTooLong);
-    }
-    if setting.files().size() > MOST_TOTAL {
-        return Err(StartRefusal::BoxTooLarge);
-    }
-    Ok(image)
 }
 
 /// The started guest of a program that no rule refuses. Error: out of memory.

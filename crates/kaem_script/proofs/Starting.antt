@@ -111,14 +111,13 @@ pub only-elf : (program : List ℕ) (w : World) (words : List (List ℕ)) (refus
     → start_of program (command_box w words) ≡ Err refusal → (fault : ElfRefusal) × (refusal ≡ Elf fault)
 only-elf program w words refusal sound is refused = refused-by-image program (command_box w words) refusal (box-fits w words sound is) refused
 
--- a program that can be loaded starts
-pub loaded-starts : (program : List ℕ) (words : List (List ℕ)) (refusal : Refusal) → IsCommand words → IsOk (image_of program)
+-- a program with an image starts
+pub loaded-starts : (program : List ℕ) (words : List (List ℕ)) (image : Image) (refusal : Refusal) → IsCommand words → image_of program ≡ Ok image
     → start_of program (texts_of words) ≡ Err refusal → ⊥
-loaded-starts program words refusal is loads refused = at (image_of program) loads (sym (starts-by-image program (texts_of words) (texts-of-fit words is)) ∙ refused)
-  where
-    at : (image : Result Image ElfRefusal) → IsOk image → by_image program (texts_of words) image ≡ Err refusal → ⊥
-    at (Err fault) ok here = let no = ok in absurd cc
-    at (Ok image) ok here = absurd cc
+loaded-starts program words image refusal is loads refused =
+    let here : ◌≡◌ {A = Result GuestState Refusal} (Ok (start_state program (texts_of words) image)) (Err refusal) =
+    ap (by_image program (texts_of words)) (sym loads) ∙ (sym (starts-by-image program (texts_of words) (texts-of-fit words is)) ∙ refused) in
+    absurd cc
 
 -- ---- the files are put in after the start
 

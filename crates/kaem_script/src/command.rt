@@ -1,6 +1,6 @@
 //! One command of a script.
 
-ghost use Rattle.elf_load.specs.Image.{image_of};
+ghost use Rattle.elf_load.specs.Image.{IsLoadable, image_of};
 ghost use Rattle.ddc_base.specs.Limits.{most_steps};
 ghost use Rattle.guest_run.specs.Run.{first_end};
 ghost use Rattle.guest_run.specs.Start.{start_of};
@@ -9,14 +9,14 @@ ghost use Rattle.kaem_script.specs.Inside.Commands.{Begins, BeginsLeft, Comes, E
 ghost use Rattle.kaem_script.specs.Kept.{IsCommand};
 ghost use Rattle.kaem_script.specs.Reported.{command_line};
 ghost use Rattle.kaem_script.specs.Wants.{HasProgram};
-ghost use Rattle.std.specs.Prelude.{◌≡◌, ◌+◌, ◌<◌, ◌≤◌, ◌^◌, ℕ, Ok, IfOk, IsOk};
+ghost use Rattle.std.specs.Prelude.{◌≡◌, ◌+◌, ◌<◌, ◌≤◌, ◌^◌, ℕ, Ok, IfOk, length};
 
 use crate::cause::CommandCause;
 use crate::present::{Present, files_in, renewed};
 use crate::reading::Command;
 use ddc_base::OutOfMemory;
 use ddc_base::limits::USUAL_HEAP;
-use elf_load::read_image;
+use elf_load::{Image, read_image};
 use guest_run::{Guest, RunBox, RunEnd, RunRam, StartRefusal};
 use mem_files::{Files, strip};
 use report::Mark;
@@ -66,8 +66,8 @@ pub(crate) fn begun(
         return Ok(Err(CommandCause::NoProgram));
     };
     match read_image(program) {
-        Ok(_) => {
-            let guest = start(alloc, program, words)?;
+        Ok(image) => {
+            let guest = start(alloc, program, &image, words)?;
             Ok(Ok(guest))
         }
         Err(refusal) => Ok(Err(CommandCause::Elf(refusal))),
@@ -100,10 +100,16 @@ fn program_name(words: &Command) -> &[u8]
     }
 }
 
-/// Starts a command's program, which can be loaded, without files.
-fn start(alloc: Global, program: &[u8], words: &Command) -> Result<Guest<RunRam>, OutOfMemory>
+/// Starts a command's program, whose image was read, without files.
+fn start(
+    alloc: Global,
+    program: &[u8],
+    image: &Image,
+    words: &Command,
+) -> Result<Guest<RunRam>, OutOfMemory>
     requires words { IsCommand words.now }
-    requires loads { IsOk (image_of program.now) }
+    requires read { image_of program.now ≡ Ok image.now }
+    requires loadable { IsLoadable (length program.now) image.now }
     ensures meant { IfOk result (λ guest. start_of program.now (texts_of words.now) ≡ Ok guest) }
     ensures fresh { IfOk result (λ guest. guest.steps ≡ 0) }
 {
@@ -111,7 +117,7 @@ fn start(alloc: Global, program: &[u8], words: &Command) -> Result<Guest<RunRam>
     for word in words.as_slice() {
         given.push_arg(word.as_slice())?;
     }
-    match Guest::<RunRam>::start(alloc, program, &given) {
+    match Guest::<RunRam>::start_image(alloc, program, image, &given) {
         Ok(guest) => Ok(guest),
         Err(StartRefusal::Elf(_)) => unreachable!(),
         Err(StartRefusal::ArgsTooLong) => unreachable!(),

@@ -20,14 +20,10 @@ use Rattle.verifier.specs.Inside.Holdings.{IsRecorded, OnStopWant}
 use Rattle.verifier.specs.Verdicts.{CanRun, CanWantAt}
 
 -- a file that is no program has no run
-pub no-program : (program : List ℕ) (setting : Setting) (limit step : ℕ) → is_err (image_of program) ≡ true
+pub no-program : (program : List ℕ) (setting : Setting) (limit step : ℕ) (fault : ElfRefusal) → image_of program ≡ Err fault
     → or_error part.Run (left_at (start_of program setting) limit step) ≡ Err part.Run
 unfolding start_of
-no-program program setting limit step none = by (image_of program) none
-  where
-    by : (found : Result Image ElfRefusal) → is_err found ≡ true → or_error part.Run (left_at (started program setting found) limit step) ≡ Err part.Run
-    by (Ok image) none = absurd cc
-    by (Err fault) none = refl
+no-program program setting limit step fault is = ap (λ found. or_error part.Run (left_at (started program setting found) limit step)) is
 
 pub loaded : (found : Result Image ElfRefusal) → is_err found ≡ false → IsOk found
 loaded (Ok image) some = refl

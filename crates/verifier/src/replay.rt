@@ -116,14 +116,15 @@ fn exited(
         return Err(JudgingStop::Refuted(Part::Run));
     }
     let program = held.bytes(&stage.program);
-    if read_image(program).is_err() {
-        return Err(JudgingStop::Refuted(Part::Run));
-    }
+    let image = match read_image(program) {
+        Ok(image) => image,
+        Err(_) => return Err(JudgingStop::Refuted(Part::Run)),
+    };
     let given = match box_of(alloc, held, stage) {
         Ok(given) => given,
         Err(OutOfMemory) => return Err(JudgingStop::OutOfMemory(Part::Run)),
     };
-    match Guest::<RunRam>::start(alloc, program, &given) {
+    match Guest::<RunRam>::start_image(alloc, program, &image, &given) {
         Ok(guest) => run_out(guest, step),
         Err(StartRefusal::Elf(_)) => Err(JudgingStop::Refuted(Part::Run)),
         Err(StartRefusal::ArgsTooLong) => Err(JudgingStop::Refuted(Part::Run)),

@@ -4,4 +4,5 @@ pub mod Judging
 mod Beside
 mod PrintedMarks
 mod Written
+mod Claims
 mod Worded

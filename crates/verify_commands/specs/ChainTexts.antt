@@ -1,11 +1,10 @@
 -- What `chain` prints. docs/reference/command-line.md says the same for people.
 use Rattle.std.specs.Prelude.{ℕ, List, [], ◌∷◌, ◌++◌, codes, decimal, flat_map, length}
 use Rattle.ddc_base.specs.Lines.{line}
-use Rattle.wheeler.specs.declared.assumption.Assumption.{Assumption}
-use Rattle.wheeler.specs.declared.assumption.Assumption.TheVariants.{Implements, Compiles}
 use Rattle.audit_chain.specs.declared.link.Link.{Link}
 use Rattle.audit_chain.specs.declared.link.ChainLine.{ChainLine}
 use Rattle.audit_chain.specs.Chain.{remaining}
+use Rattle.verify_commands.specs.Texts.{claim}
 
 -- the line before what is printed of the audit of this number
 unfoldable pub audit_line : ℕ → List ℕ
@@ -16,12 +15,8 @@ unfoldable pub verified_line : ℕ → List ℕ
 verified_line count = line (codes "chain" ∷ decimal count ∷ codes "yes" ∷ [])
 
 -- the line of an assumption about a program of the audit of this number
-abbrev pub line_in : ℕ → Assumption → List ℕ
-line_in number (Implements made source) = line (codes "assumes" ∷ decimal number ∷ codes "implements" ∷ made ∷ source ∷ [])
-line_in number (Compiles source stage becomes) = line (codes "assumes" ∷ decimal number ∷ codes "compiles" ∷ source ∷ stage ∷ becomes ∷ [])
-
 unfoldable pub remaining_line : ChainLine → List ℕ
-remaining_line remains = line_in remains.audit remains.line
+remaining_line remains = line (codes "assumes" ∷ decimal remains.audit ∷ claim remains.line)
 
 -- the text where all audits are true and equal: their number, and exactly the assumptions that are left
 unfoldable pub chain_text : List Link → List ℕ

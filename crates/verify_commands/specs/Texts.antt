@@ -23,15 +23,18 @@ yes_line = line (codes "yes" ∷ [])
 abbrev pub headline : List CompareLine → List ℕ
 headline lines = if all_equal lines then yes_line else []
 
+-- the words of an assumption: a program implements its source, or a source in a stage compiles another source
+abbrev pub claim : Assumption → List (List ℕ)
+claim (Implements made source) = codes "implements" ∷ made ∷ source ∷ []
+claim (Compiles source stage becomes) = codes "compiles" ∷ source ∷ stage ∷ becomes ∷ []
+
 -- the line of an assumption about a program
 unfoldable pub assumption_line : Assumption → List ℕ
-assumption_line (Implements made source) = line (codes "assumes" ∷ codes "implements" ∷ made ∷ source ∷ [])
-assumption_line (Compiles source stage becomes) = line (codes "assumes" ∷ codes "compiles" ∷ source ∷ stage ∷ becomes ∷ [])
+assumption_line assumption = line (codes "assumes" ∷ claim assumption)
 
 -- an assumption that holds
 unfoldable pub holds_line : Assumption → List ℕ
-holds_line (Implements made source) = line (codes "holds" ∷ codes "implements" ∷ made ∷ source ∷ [])
-holds_line (Compiles source stage becomes) = line (codes "holds" ∷ codes "compiles" ∷ source ∷ stage ∷ becomes ∷ [])
+holds_line assumption = line (codes "holds" ∷ claim assumption)
 
 -- a route: its compared stage, and then exactly the lines of the assumptions for that stage
 unfoldable pub route_line : List ℕ → List ℕ

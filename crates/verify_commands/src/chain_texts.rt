@@ -1,15 +1,13 @@
 //! Texts of the command `chain`.
 
 ghost use Rattle.audit_chain.specs.Chain.{remaining};
-ghost use Rattle.ddc_base.specs.Lines.{line};
-ghost use Rattle.std.specs.Prelude.{◌≡◌, ◌++◌, ◌<◌, ◌^◌, [], ◌∷◌, IfOk, OnOk, codes, decimal, flat_map, length};
+ghost use Rattle.std.specs.Prelude.{◌≡◌, ◌++◌, ◌<◌, ◌^◌, IfOk, OnOk, flat_map, length};
 ghost use Rattle.verify_commands.specs.ChainTexts.{audit_line, chain_text, remaining_line, verified_line};
 
-use crate::texts::{put_pair, put_word};
+use crate::texts::put_claim;
 use audit_chain::{ChainLine, ChainLinks, remaining};
-use ddc_base::{Bytes, Name, OutOfMemory};
+use ddc_base::{Bytes, OutOfMemory};
 use std::alloc::Global;
-use wheeler::Assumption;
 
 /// The line before what is printed of the audit of this number.
 #[tactic(auto, unfolding(crate::specs::ChainTexts::audit_line))]
@@ -50,43 +48,12 @@ fn put_remaining(alloc: Global, text: &mut Bytes, lines: &[ChainLine]) -> Result
 }
 
 /// The line of an assumption about a program of an audit.
-#[tactic(auto, unfolding(crate::specs::ChainTexts::remaining_line))]
+#[tactic(auto, using(crate::proofs::Claims::begun, crate::proofs::Written::written), unfolding(crate::specs::ChainTexts::remaining_line))]
 fn remains(alloc: Global, remains: &ChainLine) -> Result<Bytes, OutOfMemory>
     ensures { IfOk result (λ text. text ≡ remaining_line remains.now) }
 {
-    match &remains.line {
-        Assumption::Implements { made, source } => implements(alloc, remains.audit, made, source),
-        Assumption::Compiles {
-            source,
-            stage,
-            becomes,
-        } => compiles(alloc, remains.audit, source, stage, becomes),
-    }
-}
-
-/// The line of the assumption that a program implements its source.
-#[tactic(auto, using(crate::proofs::Written::written))]
-fn implements(alloc: Global, audit: u32, made: &Name, source: &Name) -> Result<Bytes, OutOfMemory>
-    ensures { IfOk result (λ text. text ≡ line (codes "assumes" ∷ decimal audit ∷ codes "implements" ∷ made.now ∷ source.now ∷ [])) }
-{
-    let mut text = Bytes::from_vec(format!(in alloc; "assumes {audit} implements ")?.into_bytes());
-    put_pair(&mut text, made, source)?;
-    Ok(text)
-}
-
-/// The line of the assumption that a source compiles another in a stage.
-#[tactic(auto, using(crate::proofs::Written::written))]
-fn compiles(
-    alloc: Global,
-    audit: u32,
-    source: &Name,
-    stage: &Name,
-    becomes: &Name,
-) -> Result<Bytes, OutOfMemory>
-    ensures { IfOk result (λ text. text ≡ line (codes "assumes" ∷ decimal audit ∷ codes "compiles" ∷ source.now ∷ stage.now ∷ becomes.now ∷ [])) }
-{
-    let mut text = Bytes::from_vec(format!(in alloc; "assumes {audit} compiles ")?.into_bytes());
-    put_word(&mut text, source)?;
-    put_pair(&mut text, stage, becomes)?;
+    let audit = remains.audit;
+    let mut text = Bytes::from_vec(format!(in alloc; "assumes {audit} ")?.into_bytes());
+    put_claim(&mut text, &remains.line)?;
     Ok(text)
 }

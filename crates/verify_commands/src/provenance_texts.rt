@@ -12,7 +12,7 @@ ghost use Rattle.verify_commands.specs.Provenance.{block_text, compared_by, sour
 ghost use Rattle.verify_commands.specs.Texts.{headline, holds_line};
 
 use crate::rests::{put_name, put_names};
-use crate::texts::{assumed, put_pair, put_word};
+use crate::texts::{assumed, put_claim, put_word};
 use audit_chain::origin::{Origin, Replayed, is_settled_line, mark_named, names_source, origin_of};
 use audit_chain::rests::{Basis, basis_of};
 use audit_rules::all_equal;
@@ -293,43 +293,12 @@ fn put_line(
 }
 
 /// An assumption that holds.
-#[tactic(auto, unfolding(crate::specs::Texts::holds_line))]
+#[tactic(auto, using(crate::proofs::Claims::begun), unfolding(crate::specs::Texts::holds_line))]
 fn held(alloc: Global, line: &Assumption) -> Result<Bytes, OutOfMemory>
     ensures { IfOk result (λ text. text ≡ holds_line line.now) }
 {
-    match line {
-        Assumption::Implements { made, source } => held_implements(alloc, made, source),
-        Assumption::Compiles {
-            source,
-            stage,
-            becomes,
-        } => held_compiles(alloc, source, stage, becomes),
-    }
-}
-
-/// A program is one of its source.
-#[tactic(auto, using(crate::proofs::Written::written))]
-fn held_implements(alloc: Global, made: &Name, source: &Name) -> Result<Bytes, OutOfMemory>
-    ensures { IfOk result (λ text. text ≡ line (codes "holds" ∷ codes "implements" ∷ made.now ∷ source.now ∷ [])) }
-{
-    let mut text = Bytes::from_slice(alloc, b"holds implements ")?;
-    put_pair(&mut text, made, source)?;
-    Ok(text)
-}
-
-/// A source compiles another source in a stage.
-#[tactic(auto, using(crate::proofs::Written::written))]
-fn held_compiles(
-    alloc: Global,
-    source: &Name,
-    stage: &Name,
-    becomes: &Name,
-) -> Result<Bytes, OutOfMemory>
-    ensures { IfOk result (λ text. text ≡ line (codes "holds" ∷ codes "compiles" ∷ source.now ∷ stage.now ∷ becomes.now ∷ [])) }
-{
-    let mut text = Bytes::from_slice(alloc, b"holds compiles ")?;
-    put_word(&mut text, source)?;
-    put_pair(&mut text, stage, becomes)?;
+    let mut text = Bytes::from_slice(alloc, b"holds ")?;
+    put_claim(&mut text, line)?;
     Ok(text)
 }
 

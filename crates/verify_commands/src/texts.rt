@@ -3,7 +3,7 @@
 ghost use Rattle.recipe_plan.specs.Texts.{compared_lines};
 ghost use Rattle.ddc_base.specs.Lines.{line};
 ghost use Rattle.std.specs.Prelude.{◌≡◌, ◌++◌, [], ◌∷◌, IfOk, IfSome, OnOk, codes, flat_map, length, ◌<◌, ◌≤◌};
-ghost use Rattle.verify_commands.specs.Texts.{assumed_text, assumption_line, headline, refuted_line, route_text, true_text, yes_line};
+ghost use Rattle.verify_commands.specs.Texts.{assumed_text, assumption_line, claim, headline, refuted_line, route_text, true_text, yes_line};
 ghost use Rattle.wheeler.specs.Routes.{assumed_named};
 ghost use Rattle.recipe.specs.Lookups.{stage_at};
 
@@ -134,44 +134,35 @@ pub(crate) fn put_assumptions(
 }
 
 /// The line of an assumption about a program.
-#[tactic(auto, unfolding(crate::specs::Texts::assumption_line))]
+#[tactic(auto, using(crate::proofs::Claims::begun), unfolding(crate::specs::Texts::assumption_line))]
 pub(crate) fn assumed(alloc: Global, assumption: &Assumption) -> Result<Bytes, OutOfMemory>
     ensures { IfOk result (λ text. text ≡ assumption_line assumption.now) }
 {
+    let mut text = Bytes::from_slice(alloc, b"assumes ")?;
+    put_claim(&mut text, assumption)?;
+    Ok(text)
+}
+
+/// Appends the words of an assumption, and the end of its line.
+#[tactic(auto, using(crate::proofs::Written::written))]
+pub(crate) fn put_claim(text: &mut Bytes, assumption: &Assumption) -> Result<(), OutOfMemory>
+    ensures { OnOk result (text.new ≡ text.old ++ line (claim assumption.now)) }
+{
     match assumption {
-        Assumption::Implements { made, source } => implements(alloc, made, source),
+        Assumption::Implements { made, source } => {
+            text.extend(b"implements ")?;
+            put_pair(text, made, source)
+        }
         Assumption::Compiles {
             source,
             stage,
             becomes,
-        } => compiles(alloc, source, stage, becomes),
+        } => {
+            text.extend(b"compiles ")?;
+            put_word(text, source)?;
+            put_pair(text, stage, becomes)
+        }
     }
-}
-
-/// The line of the assumption that a program implements its source.
-#[tactic(auto, using(crate::proofs::Written::written))]
-fn implements(alloc: Global, made: &Name, source: &Name) -> Result<Bytes, OutOfMemory>
-    ensures { IfOk result (λ text. text ≡ line (codes "assumes" ∷ codes "implements" ∷ made.now ∷ source.now ∷ [])) }
-{
-    let mut text = Bytes::from_slice(alloc, b"assumes implements ")?;
-    put_pair(&mut text, made, source)?;
-    Ok(text)
-}
-
-/// The line of the assumption that a source compiles another in a stage.
-#[tactic(auto, using(crate::proofs::Written::written))]
-fn compiles(
-    alloc: Global,
-    source: &Name,
-    stage: &Name,
-    becomes: &Name,
-) -> Result<Bytes, OutOfMemory>
-    ensures { IfOk result (λ text. text ≡ line (codes "assumes" ∷ codes "compiles" ∷ source.now ∷ stage.now ∷ becomes.now ∷ [])) }
-{
-    let mut text = Bytes::from_slice(alloc, b"assumes compiles ")?;
-    put_word(&mut text, source)?;
-    put_pair(&mut text, stage, becomes)?;
-    Ok(text)
 }
 
 /// Appends a name and a blank.

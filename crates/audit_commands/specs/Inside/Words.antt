@@ -1,7 +1,6 @@
 -- The words of the audit commands, each set of them as one value.
 use Rattle.std.specs.Prelude.{ℕ, Option, None, Some, List, [], ◌∷◌}
-use Rattle.command_plan.specs.Words.{as_file_name, as_four_files, as_steps, as_three_files, as_two_files}
-use Rattle.audit_commands.specs.declared.words.ReportWords.{ReportWords}
+use Rattle.command_plan.specs.Words.{as_file_name, as_four_files, as_steps, as_three_files}
 use Rattle.audit_commands.specs.declared.words.PieceWords.{PieceWords}
 use Rattle.audit_commands.specs.declared.words.RelativeWords.{RelativeWords}
 
@@ -9,15 +8,6 @@ use Rattle.audit_commands.specs.declared.words.RelativeWords.{RelativeWords}
 abbrev pub report_word : List (List ℕ) → Option (List ℕ)
 report_word (report ∷ []) = as_file_name report
 report_word _ = None
-
--- the words `RECIPE REPORT`
-abbrev pub report_of : Option (List ℕ × List ℕ) → Option ReportWords
-report_of None = None
-report_of (Some files) = Some (record { recipe = files.0; report = files.1 })
-
-abbrev pub report_words : List (List ℕ) → Option ReportWords
-report_words (recipe ∷ report ∷ []) = report_of (as_two_files recipe report)
-report_words _ = None
 
 -- the words `RECIPE SAVE REPORT STEPS`
 abbrev pub whole_of : Option (List ℕ × List ℕ × List ℕ) → Option ℕ → Option PieceWords

@@ -12,7 +12,7 @@ unreachable-requires c =
     let given : c.loop-word.given ≡ texts_of c.args.words.now =
     c.loop-word.invariant ∙ ap (λ texts. record { args = texts; env = []; files = fin.empty; heap = usual_heap }) all in
     let refused = rw c.in-Err-Elf.field-0-is at c.in-Err-Elf.ensures.answer in
-    absurd (loaded-starts c.args.program.now c.args.words.now _ c.requires.words c.requires.loads (ap (start_of c.args.program.now) (sym given) ∙ refused))
+    absurd (loaded-starts c.args.program.now c.args.words.now c.args.image.now _ c.requires.words c.requires.read (ap (start_of c.args.program.now) (sym given) ∙ refused))
 
 pub unreachable-requires-in-Err-ArgsTooLong : goal.unreachable-requires-in-Err-ArgsTooLong
 unreachable-requires-in-Err-ArgsTooLong c =
@@ -20,7 +20,7 @@ unreachable-requires-in-Err-ArgsTooLong c =
     let given : c.loop-word.given ≡ texts_of c.args.words.now =
     c.loop-word.invariant ∙ ap (λ texts. record { args = texts; env = []; files = fin.empty; heap = usual_heap }) all in
     let refused : start_of c.args.program.now c.loop-word.given ≡ Err ArgsTooLong = rw c.in-Err-ArgsTooLong.field-0-is at c.in-Err-ArgsTooLong.ensures.answer in
-    absurd (loaded-starts c.args.program.now c.args.words.now ArgsTooLong c.requires.words c.requires.loads (ap (start_of c.args.program.now) (sym given) ∙ refused))
+    absurd (loaded-starts c.args.program.now c.args.words.now c.args.image.now ArgsTooLong c.requires.words c.requires.read (ap (start_of c.args.program.now) (sym given) ∙ refused))
 
 pub unreachable-requires-in-Err-BoxTooLarge : goal.unreachable-requires-in-Err-BoxTooLarge
 unreachable-requires-in-Err-BoxTooLarge c =
@@ -28,4 +28,4 @@ unreachable-requires-in-Err-BoxTooLarge c =
     let given : c.loop-word.given ≡ texts_of c.args.words.now =
     c.loop-word.invariant ∙ ap (λ texts. record { args = texts; env = []; files = fin.empty; heap = usual_heap }) all in
     let refused : start_of c.args.program.now c.loop-word.given ≡ Err BoxTooLarge = rw c.in-Err-BoxTooLarge.field-0-is at c.in-Err-BoxTooLarge.ensures.answer in
-    absurd (loaded-starts c.args.program.now c.args.words.now BoxTooLarge c.requires.words c.requires.loads (ap (start_of c.args.program.now) (sym given) ∙ refused))
+    absurd (loaded-starts c.args.program.now c.args.words.now c.args.image.now BoxTooLarge c.requires.words c.requires.read (ap (start_of c.args.program.now) (sym given) ∙ refused))

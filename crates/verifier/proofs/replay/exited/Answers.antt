@@ -1,5 +1,4 @@
-use Rattle.std.proofs.Common.{◌≡◌, true, sym, arith}
-use Rattle.std.specs.Prelude.{is_err}
+use Rattle.std.proofs.Common.{◌≡◌, Err, sym, arith}
 use Rattle.elf_load.specs.Image.{image_of}
 use Rattle.audit_rules.specs.Contents.{box_of, program_of}
 use Rattle.verifier.specs.Inside.Holdings.{so_far}
@@ -12,10 +11,10 @@ run_out-requires-clause-few c =
     let few = steps-are c.args.held.now.recipe.now c.args.reported.now.stage.now c.requires.held.recipe c.requires.known in
     omega (arith, few)
 
-pub returns-then-is_err-clause-value : goal.returns-then-is_err-clause-value
-returns-then-is_err-clause-value c =
+pub returns-in-Err-clause-value : goal.returns-in-Err-clause-value
+returns-in-Err-clause-value c =
     let recipe = c.args.held.now.recipe.now in
     let before = so_far c.args.held.now in
     let stage = c.args.reported.now.stage.now in
-    let none : is_err (image_of (program_of recipe before stage)) ≡ true = rw (c.read_image.ensures.value, c.bytes-program.ensures) at (sym c.if-is_err.ensures.value) in
-    no-program (program_of recipe before stage) (box_of recipe before stage) stage.steps c.args.reported.now.line.now.steps none
+    let none : image_of (program_of recipe before stage) ≡ Err c.in-Err.refusal = rw c.bytes-program.ensures at (sym c.in-Err.ensures.value) in
+    no-program (program_of recipe before stage) (box_of recipe before stage) stage.steps c.args.reported.now.line.now.steps _ none

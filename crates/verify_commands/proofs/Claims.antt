@@ -1,0 +1,11 @@
+-- Lines of assumptions, word by word.
+use Rattle.std.proofs.Common.{◌≡◌, ℕ, List, [], ◌∷◌, ◌++◌, refl}
+use Rattle.ddc_base.specs.Lines.{line}
+use Rattle.wheeler.specs.declared.assumption.Assumption.{Assumption}
+use Rattle.wheeler.specs.declared.assumption.Assumption.TheVariants.{Implements, Compiles}
+use Rattle.verify_commands.specs.Texts.{claim}
+
+-- a line that begins with this word
+pub begun : (word : List ℕ) (assumption : Assumption) → line (word ∷ claim assumption) ≡ word ++ 32 ∷ line (claim assumption)
+begun word (Implements made source) = refl
+begun word (Compiles source stage becomes) = refl
