@@ -29,6 +29,6 @@ pub(crate) fn setting_of<'a>(
         return Ok(None);
     };
     let program = content(recipe, inputs, done, &stage.program);
-    let given = box_of(alloc, recipe, stage, inputs, done)?;
-    Ok(Some((program, given)))
+    let context = box_of(alloc, recipe, stage, inputs, done)?;
+    Ok(Some((program, context)))
 }

@@ -3,18 +3,18 @@
 //! docs/reference/audit.md has the rules.
 
 mod contents;
+mod context;
 mod done;
 mod ending;
-mod given;
 mod left;
 mod reporting;
 mod so_far;
 mod sources;
 
 pub use contents::content;
+pub use context::{box_of, start_stage};
 pub use done::Done;
 pub(crate) use ending::exited;
 pub use ending::{Exit, made_by};
-pub use given::{box_of, start_stage};
 pub use reporting::report_of;
 pub(crate) use so_far::SoFar;

@@ -189,40 +189,31 @@ impl CommandWord {
                 "runs the stages of RECIPE, compares their artefacts, and saves the report under REPORT",
             CommandWord::Part =>
                 "runs the audit of RECIPE for at most STEPS steps, and saves its state under SAVE, or its report under REPORT if it ends",
-            CommandWord::Resume =>
-                "continues the audit from SAVE for at most STEPS steps, and saves as part does",
-            CommandWord::DeltaStart =>
-                "continues the audit from the save BASE, and saves under PATCH what differs from BASE",
-            CommandWord::DeltaResume =>
-                "continues the audit from BASE and PATCH, and saves as delta-start does",
-            CommandWord::Show =>
-                "prints the report in REPORT, or the line from which on it is no report",
-            CommandWord::Verify =>
-                "replays the stages of RECIPE, and answers whether REPORT is true",
+            CommandWord::Resume => "continues from SAVE for at most STEPS steps, as part does",
+            CommandWord::DeltaStart => "continues from BASE, and saves under PATCH what differs",
+            CommandWord::DeltaResume => "continues from BASE and PATCH, as delta-start does",
+            CommandWord::Show => "prints the report in REPORT, or the line where it is wrong",
+            CommandWord::Verify => "replays RECIPE's stages, and answers whether REPORT is true",
             CommandWord::Provenance =>
                 "does as verify, and lists by length and digest what each compared artefact depends on",
             CommandWord::Chain =>
                 "replays the audits that LIST names, and prints the assumptions that are left for all of them together",
-            CommandWord::Rests =>
-                "lists what the artefact of STAGE depends on: texts, runs and assumptions",
+            CommandWord::Rests => "lists the texts, runs and assumptions behind STAGE's artefact",
             CommandWord::Step => "steps through the program of STAGE by commands on standard input",
             CommandWord::Left => "runs STAGE, and saves under OUT what it left at FILE",
             CommandWord::Cut =>
                 "runs STAGE, and saves its state after every EVERY steps as PREFIX.0, PREFIX.1 and so on",
-            CommandWord::Segment =>
-                "answers whether the program reaches the state in TO from the state in FROM",
+            CommandWord::Segment => "answers whether the state FROM runs on to the state TO",
             CommandWord::Ends =>
                 "answers whether PREFIX.0 is the start of STAGE, and how the run ends after the last of COUNT states",
             CommandWord::Kaem =>
                 "runs the commands of SCRIPT over the files that LIST names, and saves their report under REPORT",
-            CommandWord::KaemVerify =>
-                "replays the commands of SCRIPT, and answers whether REPORT is true",
+            CommandWord::KaemVerify => "replays the commands, and answers whether REPORT is true",
             CommandWord::KaemLeft =>
                 "runs the commands of SCRIPT up to the one of number COMMAND, and saves under OUT what that left at FILE",
             CommandWord::Demo =>
                 "makes and verifies an audit of N bytes with copy.elf and copy.hex0, and saves nothing",
-            CommandWord::Help =>
-                "lists the commands, or prints what COMMAND does and with which statuses it ends",
+            CommandWord::Help => "lists the commands, or what COMMAND does and its statuses",
             CommandWord::Version => "names this release of ddc, and the logic that proves it",
         }
     }

@@ -113,11 +113,11 @@ fn start(
     ensures meant { IfOk result (λ guest. start_of program.now (texts_of words.now) ≡ Ok guest) }
     ensures fresh { IfOk result (λ guest. guest.steps ≡ 0) }
 {
-    let mut given = RunBox::new(alloc, USUAL_HEAP);
+    let mut context = RunBox::new(alloc, USUAL_HEAP);
     for word in words.as_slice() {
-        given.push_arg(word.as_slice())?;
+        context.push_arg(word.as_slice())?;
     }
-    match Guest::<RunRam>::start_image(alloc, program, image, &given) {
+    match Guest::<RunRam>::start_image(alloc, program, image, &context) {
         Ok(guest) => Ok(guest),
         Err(StartRefusal::Elf(_)) => unreachable!(),
         Err(StartRefusal::ArgsTooLong) => unreachable!(),

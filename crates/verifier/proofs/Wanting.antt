@@ -1,5 +1,5 @@
 -- Where the replay of a stage may want memory.
-use Rattle.std.proofs.Common.{◌≡◌, ℕ, true, false, List, Some, Result, Ok, Err, refl, sym, subst}
+use Rattle.std.proofs.Common.{◌≡◌, ℕ, true, false, List, Some, Result, Ok, Err, refl, sym, ap, subst}
 use Rattle.std.specs.Prelude.{IsOk, is_err}
 use Rattle.ddc_base.specs.Results.{or_error}
 use Rattle.elf_load.specs.declared.Image.{Image}
@@ -20,10 +20,10 @@ use Rattle.verifier.specs.Inside.Holdings.{IsRecorded, OnStopWant}
 use Rattle.verifier.specs.Verdicts.{CanRun, CanWantAt}
 
 -- a file that is no program has no run
-pub no-program : (program : List ℕ) (setting : Setting) (limit step : ℕ) (fault : ElfRefusal) → image_of program ≡ Err fault
+pub no-program : (program : List ℕ) (setting : Setting) (limit step : ℕ) {fault : ElfRefusal} → image_of program ≡ Err fault
     → or_error part.Run (left_at (start_of program setting) limit step) ≡ Err part.Run
 unfolding start_of
-no-program program setting limit step fault is = ap (λ found. or_error part.Run (left_at (started program setting found) limit step)) is
+no-program program setting limit step is = ap (λ found. or_error part.Run (left_at (started program setting found) limit step)) is
 
 pub loaded : (found : Result Image ElfRefusal) → is_err found ≡ false → IsOk found
 loaded (Ok image) some = refl

@@ -6,7 +6,7 @@
 
 mod checking;
 pub mod conclusion;
-mod given;
+mod context;
 mod header;
 mod held;
 mod judging;

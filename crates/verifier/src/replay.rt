@@ -15,7 +15,7 @@ ghost use Rattle.audit_rules.specs.Contents.{Contents, box_of, check_of, program
 ghost use Rattle.audit_rules.specs.Stages.{output_of};
 
 use crate::checking::is_right;
-use crate::given::box_of;
+use crate::context::box_of;
 use crate::held::Held;
 use crate::left::has_left;
 use crate::part::Part;
@@ -120,11 +120,11 @@ fn exited(
         Ok(image) => image,
         Err(_) => return Err(JudgingStop::Refuted(Part::Run)),
     };
-    let given = match box_of(alloc, held, stage) {
-        Ok(given) => given,
+    let context = match box_of(alloc, held, stage) {
+        Ok(context) => context,
         Err(OutOfMemory) => return Err(JudgingStop::OutOfMemory(Part::Run)),
     };
-    match Guest::<RunRam>::start_image(alloc, program, &image, &given) {
+    match Guest::<RunRam>::start_image(alloc, program, &image, &context) {
         Ok(guest) => run_out(guest, step),
         Err(StartRefusal::Elf(_)) => Err(JudgingStop::Refuted(Part::Run)),
         Err(StartRefusal::ArgsTooLong) => Err(JudgingStop::Refuted(Part::Run)),

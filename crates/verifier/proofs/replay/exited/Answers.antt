@@ -1,5 +1,4 @@
-use Rattle.std.proofs.Common.{◌≡◌, Err, sym, arith}
-use Rattle.elf_load.specs.Image.{image_of}
+use Rattle.std.proofs.Common.{sym, arith}
 use Rattle.audit_rules.specs.Contents.{box_of, program_of}
 use Rattle.verifier.specs.Inside.Holdings.{so_far}
 use Rattle.verifier.proofs.Wanting.{no-program}
@@ -16,5 +15,5 @@ returns-in-Err-clause-value c =
     let recipe = c.args.held.now.recipe.now in
     let before = so_far c.args.held.now in
     let stage = c.args.reported.now.stage.now in
-    let none : image_of (program_of recipe before stage) ≡ Err c.in-Err.refusal = rw c.bytes-program.ensures at (sym c.in-Err.ensures.value) in
-    no-program (program_of recipe before stage) (box_of recipe before stage) stage.steps c.args.reported.now.line.now.steps _ none
+    let none = rw c.bytes-program.ensures at (sym c.in-Err.ensures.value) in
+    no-program (program_of recipe before stage) (box_of recipe before stage) stage.steps c.args.reported.now.line.now.steps none

@@ -2,10 +2,10 @@ use Rattle.std.proofs.Common.{◌≡◌, arith, ap}
 use Rattle.std.specs.FinMap as finite
 use Rattle.guest_run.specs.Setting.{Setting}
 use Rattle.verifier.proofs.StageRules.{args-are, env-is, files-can, heap-is, text-at}
-use Rattle.verifier.proofs.given.box_of.Goals as goal
+use Rattle.verifier.proofs.context.box_of.Goals as goal
 
-pub new-given-requires : goal.new-given-requires
-new-given-requires c = heap-is c.args.held.now.recipe.now c.args.stage.now c.requires.held.recipe c.requires.known
+pub new-context-requires : goal.new-context-requires
+new-context-requires c = heap-is c.args.held.now.recipe.now c.args.stage.now c.requires.held.recipe c.requires.known
 
 pub push_arg-requires : goal.push_arg-requires
 push_arg-requires c =
@@ -21,5 +21,5 @@ push_env-requires c =
 
 pub place_files-requires-clause-free : goal.place_files-requires-clause-free
 place_files-requires-clause-free c =
-    let empty : c.loop-variable.given.files ≡ finite.empty = ap (λ (s : Setting). s.files) c.loop-variable.invariant in
+    let empty : c.loop-variable.context.files ≡ finite.empty = ap (λ (s : Setting). s.files) c.loop-variable.invariant in
     rw (empty, c.as_slice-2.ensures) (files-can c.args.held.now.recipe.now c.args.stage.now c.requires.held.recipe c.requires.known)

@@ -24,44 +24,44 @@ pub(crate) fn box_of<'a>(
 ) -> Result<RunBox<'a>, OutOfMemory>
     requires held { IsHeld held.now }
     requires known { Contains held.now.recipe.now.stages stage.now }
-    ensures { IfOk result (λ given. given ≡ box_of held.now.recipe.now (so_far held.now) stage.now) }
+    ensures { IfOk result (λ context. context ≡ box_of held.now.recipe.now (so_far held.now) stage.now) }
 {
-    let mut given = RunBox::new(alloc, stage.heap);
+    let mut context = RunBox::new(alloc, stage.heap);
     for text in stage.args.as_slice() {
-        given.push_arg(text.as_slice())?;
+        context.push_arg(text.as_slice())?;
     }
     for variable in stage.env.as_slice() {
-        given.push_env(variable.as_slice())?;
+        context.push_env(variable.as_slice())?;
     }
-    place_files(&mut given, held, stage.files.as_slice())?;
-    Ok(given)
+    place_files(&mut context, held, stage.files.as_slice())?;
+    Ok(context)
 }
 
 /// Adds files, each with the bytes that its name stands for.
 fn place_files<'a>(
-    given: &mut RunBox<'a>,
+    context: &mut RunBox<'a>,
     held: &Held<'a>,
     files: &[StageFile],
 ) -> Result<(), OutOfMemory>
     requires held { IsHeld held.now }
-    requires free { CanPlace given.old.files files.now }
-    ensures { OnOk result (given.new ≡ record given.old { files = fold (with_stage_file held.now.recipe.now (so_far held.now)) given.old.files files.now }) }
+    requires free { CanPlace context.old.files files.now }
+    ensures { OnOk result (context.new ≡ record context.old { files = fold (with_stage_file held.now.recipe.now (so_far held.now)) context.old.files files.now }) }
 {
     for file in files {
-        place(given, file.path.as_slice(), held.bytes(&file.from))?;
+        place(context, file.path.as_slice(), held.bytes(&file.from))?;
     }
     Ok(())
 }
 
 /// Adds a file that no rule refuses.
-fn place<'a>(given: &mut RunBox<'a>, path: &[u8], content: &'a [u8]) -> Result<(), OutOfMemory>
+fn place<'a>(context: &mut RunBox<'a>, path: &[u8], content: &'a [u8]) -> Result<(), OutOfMemory>
     requires named { IsTrue (is_stripped_name path.now) }
-    requires absent { map.contains_key given.old.files path.now ≡ false }
+    requires absent { map.contains_key context.old.files path.now ≡ false }
     requires small { length content.now ≤ most_content }
-    requires few { map.len given.old.files < most_names }
-    ensures { OnOk result (given.new ≡ record given.old { files = map.insert given.old.files path.now content.now }) }
+    requires few { map.len context.old.files < most_names }
+    ensures { OnOk result (context.new ≡ record context.old { files = map.insert context.old.files path.now content.now }) }
 {
-    match given.place(path, content) {
+    match context.place(path, content) {
         Ok(()) => Ok(()),
         Err(PlaceRefusal::BadName) => unreachable!(),
         Err(PlaceRefusal::Twice) => unreachable!(),

@@ -8,7 +8,7 @@ use Rattle.audit_rules.specs.Contents.{box_of, with_stage_file}
 use Rattle.audit_rules.specs.Stages.{contents}
 use Rattle.audit_rules.proofs.Rules.{word-is}
 use Rattle.audit_run.proofs.StageLemmas.Placing.{each-at, file-fits, stripped-same}
-use Rattle.audit_run.proofs.stage.given.fill.Goals as goal
+use Rattle.audit_run.proofs.stage.context.fill.Goals as goal
 
 pub push_arg-requires : goal.push_arg-requires
 push_arg-requires c =

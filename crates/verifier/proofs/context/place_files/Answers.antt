@@ -7,7 +7,7 @@ use Rattle.audit_rules.specs.Contents.{with_stage_file}
 use Rattle.audit_rules.proofs.GivenBoxes.{content-is}
 use Rattle.verifier.specs.Inside.Holdings.{so_far}
 use Rattle.verifier.proofs.Placing.{turn}
-use Rattle.verifier.proofs.given.place_files.Goals as goal
+use Rattle.verifier.proofs.context.place_files.Goals as goal
 
 pub place-requires-clause-small : goal.place-requires-clause-small
 place-requires-clause-small c =
@@ -19,10 +19,10 @@ loop-file-preserved c =
     let before = c.loop-file.invariant.2 in
     let done = c.in_ok-place.ensures in
     let next =
-    turn c.args.held.now.recipe.now (so_far c.args.held.now) c.loop-file.given.files c.place.new.given.files c.args.files.now c.loop-file.file-index c.file-item.result
-    (fold (with_stage_file c.args.held.now.recipe.now (so_far c.args.held.now)) c.args.given.now.files c.args.files.now)
+    turn c.args.held.now.recipe.now (so_far c.args.held.now) c.loop-file.context.files c.place.new.context.files c.args.files.now c.loop-file.file-index c.file-item.result
+    (fold (with_stage_file c.args.held.now.recipe.now (so_far c.args.held.now)) c.args.context.now.files c.args.files.now)
     (omega arith) c.file-item.is c.loop-file.invariant.0 c.loop-file.invariant.1
-    (ap (λ (s : Setting). s.files) done ∙ (λ i. finite.insert c.loop-file.given.files (c.as_slice.ensures i) (c.bytes.ensures i))) in (
+    (ap (λ (s : Setting). s.files) done ∙ (λ i. finite.insert c.loop-file.context.files (c.as_slice.ensures i) (c.bytes.ensures i))) in (
       next.0,
       next.1,
       done

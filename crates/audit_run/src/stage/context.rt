@@ -31,47 +31,47 @@ pub fn box_of<'a>(
     requires stage { IsStageOf recipe.now stage.now }
     requires inputs { All IsContent inputs.now }
     requires done { AreMade done.now }
-    ensures { IfOk result (λ given. given ≡ box_of recipe.now (contents inputs.now done.now) stage.now) }
+    ensures { IfOk result (λ context. context ≡ box_of recipe.now (contents inputs.now done.now) stage.now) }
 {
-    let mut given = RunBox::new(alloc, stage.heap);
-    fill(&mut given, recipe, stage, inputs, done)?;
-    Ok(given)
+    let mut context = RunBox::new(alloc, stage.heap);
+    fill(&mut context, recipe, stage, inputs, done)?;
+    Ok(context)
 }
 
 /// Adds a stage's texts and files to an empty execution context.
 fn fill<'a>(
-    given: &mut RunBox<'a>,
+    context: &mut RunBox<'a>,
     recipe: &'a Recipe,
     stage: &'a Stage,
     inputs: &'a [Bytes],
     done: &'a [Done],
 ) -> Result<(), OutOfMemory>
-    requires none { given.old ≡ record { args = []; env = []; files = map.empty; heap = stage.now.heap } }
+    requires none { context.old ≡ record { args = []; env = []; files = map.empty; heap = stage.now.heap } }
     requires stage { IsStageOf recipe.now stage.now }
     requires inputs { All IsContent inputs.now }
     requires done { AreMade done.now }
-    ensures { OnOk result (given.new ≡ box_of recipe.now (contents inputs.now done.now) stage.now) }
+    ensures { OnOk result (context.new ≡ box_of recipe.now (contents inputs.now done.now) stage.now) }
 {
     for text in stage.args.as_slice() {
-        given.push_arg(text.as_slice())?;
+        context.push_arg(text.as_slice())?;
     }
     for text in stage.env.as_slice() {
-        given.push_env(text.as_slice())?;
+        context.push_env(text.as_slice())?;
     }
     for file in stage.files.as_slice() {
         let bytes = content(recipe, inputs, done, &file.from);
-        place(given, file.path.as_slice(), bytes)?;
+        place(context, file.path.as_slice(), bytes)?;
     }
     Ok(())
 }
 
 /// Adds a file that no rule refuses.
-fn place<'a>(given: &mut RunBox<'a>, path: &[u8], bytes: &'a [u8]) -> Result<(), OutOfMemory>
+fn place<'a>(context: &mut RunBox<'a>, path: &[u8], bytes: &'a [u8]) -> Result<(), OutOfMemory>
     requires stripped { stripped path.now ≡ path.now }
-    requires fits { place_refusal given.old.files path.now bytes.now ≡ None }
-    ensures { OnOk result (given.new ≡ record given.old { files = map.insert given.old.files path.now bytes.now }) }
+    requires fits { place_refusal context.old.files path.now bytes.now ≡ None }
+    ensures { OnOk result (context.new ≡ record context.old { files = map.insert context.old.files path.now bytes.now }) }
 {
-    match given.place(path, bytes) {
+    match context.place(path, bytes) {
         Ok(()) => Ok(()),
         Err(PlaceRefusal::BadName) => unreachable!(),
         Err(PlaceRefusal::Twice) => unreachable!(),
@@ -94,21 +94,21 @@ pub fn start_stage(
     ensures begins { IfOk result (λ begun. Begins (start_stage recipe.now (contents inputs.now done.now) stage.now) begun) }
     ensures fresh { IfOk result (λ begun. IfOk begun (λ guest. guest.steps ≡ 0)) }
 {
-    let given = box_of(alloc, recipe, stage, inputs, done)?;
+    let context = box_of(alloc, recipe, stage, inputs, done)?;
     let program = content(recipe, inputs, done, &stage.program);
-    start(alloc, program, &given)
+    start(alloc, program, &context)
 }
 
 /// A started program, or why it does not start.
 fn start(
     alloc: Global,
     program: &[u8],
-    given: &RunBox<'_>,
+    context: &RunBox<'_>,
 ) -> Result<Result<Guest<RunRam>, StartCause>, OutOfMemory>
-    ensures begins { IfOk result (λ begun. Begins (start_of program.now given.now) begun) }
+    ensures begins { IfOk result (λ begun. Begins (start_of program.now context.now) begun) }
     ensures fresh { IfOk result (λ begun. IfOk begun (λ guest. guest.steps ≡ 0)) }
 {
-    match Guest::<RunRam>::start(alloc, program, given) {
+    match Guest::<RunRam>::start(alloc, program, context) {
         Ok(guest) => Ok(Ok(guest)),
         Err(StartRefusal::Elf(refusal)) => Ok(Err(StartCause::Elf(refusal))),
         Err(StartRefusal::ArgsTooLong) => Ok(Err(StartCause::ArgsTooLong)),
