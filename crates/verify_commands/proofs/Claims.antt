@@ -6,6 +6,6 @@ use Rattle.wheeler.specs.declared.assumption.Assumption.TheVariants.{Implements,
 use Rattle.verify_commands.specs.Texts.{claim}
 
 -- a line that begins with this word
-pub begun : (word : List ℕ) (assumption : Assumption) → line (word ∷ claim assumption) ≡ word ++ 32 ∷ line (claim assumption)
+pub begun : (word : List ℕ) (claimed : Assumption) → line (word ∷ claim claimed) ≡ word ++ 32 ∷ line (claim claimed)
 begun word (Implements made source) = refl
 begun word (Compiles source stage becomes) = refl

@@ -30,11 +30,11 @@ claim (Compiles source stage becomes) = codes "compiles" ∷ source ∷ stage �
 
 -- the line of an assumption about a program
 unfoldable pub assumption_line : Assumption → List ℕ
-assumption_line assumption = line (codes "assumes" ∷ claim assumption)
+assumption_line claimed = line (codes "assumes" ∷ claim claimed)
 
 -- an assumption that holds
 unfoldable pub holds_line : Assumption → List ℕ
-holds_line assumption = line (codes "holds" ∷ claim assumption)
+holds_line claimed = line (codes "holds" ∷ claim claimed)
 
 -- a route: its compared stage, and then exactly the lines of the assumptions for that stage
 unfoldable pub route_line : List ℕ → List ℕ
