@@ -151,7 +151,8 @@ pub(crate) fn put_claim(text: &mut Bytes, assumption: &Assumption) -> Result<(),
     match assumption {
         Assumption::Implements { made, source } => {
             text.extend(b"implements ")?;
-            put_pair(text, made, source)
+            put_pair(text, made, source)?;
+            Ok(())
         }
         Assumption::Compiles {
             source,
@@ -160,7 +161,8 @@ pub(crate) fn put_claim(text: &mut Bytes, assumption: &Assumption) -> Result<(),
         } => {
             text.extend(b"compiles ")?;
             put_word(text, source)?;
-            put_pair(text, stage, becomes)
+            put_pair(text, stage, becomes)?;
+            Ok(())
         }
     }
 }
