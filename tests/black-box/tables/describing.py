@@ -57,8 +57,8 @@ CASES: list[AnyCase] = [
              "hex0 SOURCE BINARY\n"
              "compares the hex0 value of SOURCE with BINARY, byte for byte\nstatuses 0 3\n"),
         Case("help of help", "--help help", 0,
-             "help [COMMAND]\nlists the commands, or says of COMMAND what it answers, "
-             "and with which statuses\nstatuses 0\n"),
+             "help [COMMAND]\nlists the commands, or what COMMAND does and its statuses\n"
+             "statuses 0\n"),
         Case("help of no command", "help none", 2, "usage\n"),
         Case("help of a word with dashes", "help --help", 2, "usage\n"),
         Case("help of two commands", "help hex0 asm", 2, "usage\n"),
