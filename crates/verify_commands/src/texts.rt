@@ -144,27 +144,41 @@ pub(crate) fn assumed(alloc: Global, assumption: &Assumption) -> Result<Bytes, O
 }
 
 /// Appends the words of an assumption, and the end of its line.
-#[tactic(auto, using(crate::proofs::Written::written))]
 pub(crate) fn put_claim(text: &mut Bytes, assumption: &Assumption) -> Result<(), OutOfMemory>
     ensures { OnOk result (text.new ≡ text.old ++ line (claim assumption.now)) }
 {
     match assumption {
-        Assumption::Implements { made, source } => {
-            text.extend(b"implements ")?;
-            put_pair(text, made, source)?;
-            Ok(())
-        }
+        Assumption::Implements { made, source } => put_implements(text, made, source),
         Assumption::Compiles {
             source,
             stage,
             becomes,
-        } => {
-            text.extend(b"compiles ")?;
-            put_word(text, source)?;
-            put_pair(text, stage, becomes)?;
-            Ok(())
-        }
+        } => put_compiles(text, source, stage, becomes),
     }
+}
+
+/// Appends that a program implements its source.
+#[tactic(auto, using(crate::proofs::Written::written))]
+fn put_implements(text: &mut Bytes, made: &Name, source: &Name) -> Result<(), OutOfMemory>
+    ensures { OnOk result (text.new ≡ text.old ++ line (codes "implements" ∷ made.now ∷ source.now ∷ [])) }
+{
+    text.extend(b"implements ")?;
+    put_pair(text, made, source)
+}
+
+/// Appends that a source in a stage compiles another source.
+#[tactic(auto, using(crate::proofs::Written::written))]
+fn put_compiles(
+    text: &mut Bytes,
+    source: &Name,
+    stage: &Name,
+    becomes: &Name,
+) -> Result<(), OutOfMemory>
+    ensures { OnOk result (text.new ≡ text.old ++ line (codes "compiles" ∷ source.now ∷ stage.now ∷ becomes.now ∷ [])) }
+{
+    text.extend(b"compiles ")?;
+    put_word(text, source)?;
+    put_pair(text, stage, becomes)
 }
 
 /// Appends a name and a blank.
