@@ -1,5 +1,5 @@
 -- Lines of assumptions, word by word.
-use Rattle.std.proofs.Common.{◌≡◌, ℕ, List, [], ◌∷◌, ◌++◌, refl}
+use Rattle.std.proofs.Common.{◌≡◌, ℕ, List, ◌∷◌, ◌++◌, refl}
 use Rattle.ddc_base.specs.Lines.{line}
 use Rattle.wheeler.specs.declared.assumption.Assumption.{Assumption}
 use Rattle.wheeler.specs.declared.assumption.Assumption.TheVariants.{Implements, Compiles}
