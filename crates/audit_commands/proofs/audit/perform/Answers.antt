@@ -6,7 +6,8 @@ use Rattle.command_plan.specs.Performs.{Performs}
 use Rattle.command_plan.proofs.Obtaining.{ends_before, ends_with, goes_on_with, on_words}
 use Rattle.command_plan.proofs.Performing.{says, wants_memory}
 use Rattle.audit_commands.specs.Audit.{audit_files, audited}
-use Rattle.audit_commands.proofs.Worded.{audits, over_report}
+use Rattle.recipe_plan.proofs.Worded.{over_report}
+use Rattle.audit_commands.proofs.Worded.{audits}
 use Rattle.audit_commands.proofs.audit.perform.Goals as goal
 
 pub returns-in_default : goal.returns-in_default
