@@ -25,12 +25,20 @@ class Done:
         return (self.out + self.errors).decode(errors="replace")
 
 
-def ran(words: Sequence[Word], folder: Path | None = None, **environment: str) -> Done:
-    """Runs a command without input, in a folder, with further variables of the environment."""
-    done = subprocess.run(
-        list(words), cwd=folder, stdin=subprocess.DEVNULL, capture_output=True, check=False,
-        env={**os.environ, **environment},
-    )
+def ran(
+    words: Sequence[Word], folder: Path | None = None, given: bytes | None = None,
+    **environment: str,
+) -> Done:
+    """Runs a command in a folder, given its input or none, with further variables of the
+    environment. One that is not there ends with the status 127, as under a shell."""
+    source = {"stdin": subprocess.DEVNULL} if given is None else {"input": given}
+    try:
+        done = subprocess.run(
+            list(words), cwd=folder, capture_output=True, check=False,
+            env={**os.environ, **environment}, **source,
+        )
+    except FileNotFoundError as error:
+        return Done(127, b"", f"{error}\n".encode())
     status = done.returncode if done.returncode >= 0 else 128 - done.returncode
     return Done(status, done.stdout, done.stderr)
 

@@ -3,18 +3,15 @@
 import functools
 import os
 import re
-import subprocess
 
-from ddc_tests.cases import TOP, AnyCase, Case, Room, specials, table
+from ddc_tests.c_programs import PROGRAMS, program_cases
+from ddc_tests.cases import AnyCase, Case, Room, specials, table
 from ddc_tests.folders import FOLDER, Files, Zeros
 from tables.fixtures import A_REPORT, LONG_NAME, MOST_REPORT, REPORT_FOLDER, WORKED, edited
 from tables.settings import CLOSED, FULL, SMALL, not_root
 
 SHOWN: Files = {"a.report": A_REPORT, "folder": FOLDER, "worked": WORKED, "empty": b""}
 LINES = A_REPORT.splitlines(keepends=True)
-PROGRAMS = TOP / "tests" / "programs"
-# Prints each case of the table: how many words it has, and the words, each with a zero byte.
-PRINTS_CASES = 'program_case() { printf "%s\\0" "$#" "$@"; }; source "$1"'
 
 
 def other_digest() -> str:
@@ -46,18 +43,6 @@ def expected() -> dict[str, list[str]]:
         name, *lines = block.splitlines()
         blocks[name] = [it for it in lines if it and not it.startswith("    ")]
     return blocks
-
-
-def program_cases() -> list[list[bytes]]:
-    """The name, the program and the words of each case of tests/programs/cases.sh."""
-    words = ["bash", "-c", PRINTS_CASES, "bash", str(PROGRAMS / "cases.sh")]
-    found = subprocess.run(words, capture_output=True, check=True).stdout.split(b"\0")[:-1]
-    cases = []
-    while found:
-        count = int(found[0])
-        cases.append(found[1 : 1 + count])
-        found = found[1 + count :]
-    return cases
 
 
 def program(name: bytes, file: bytes, words: list[bytes]) -> Case:
