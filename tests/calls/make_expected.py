@@ -1,13 +1,14 @@
 #!/usr/bin/env python3
 """Asks Linux what calls in a row answer, and writes the answers to expected.txt.
 
-Run it in this folder, with qemu-riscv64 (Debian: qemu-user) and riscv64-linux-gnu-gcc (gcc-riscv64-linux-gnu):
+Run it in this folder, with qemu-riscv64 (Debian: qemu-user) and riscv64-linux-gnu-gcc
+(gcc-riscv64-linux-gnu):
 
     ./make_expected.py > expected.txt
 
-Each script starts in an empty folder, with an empty input and a pipe as output. A line of expected.txt is a call, its
-arguments and the answer. The calls are those on which this project's profile and Linux agree; the test `as_linux` of
-crates/linux_calls has the same rows.
+Each script starts in an empty folder, with an empty input and a pipe as output. A line of
+expected.txt is a call, its arguments and the answer. The calls are those on which this project's
+profile and Linux agree; the test `as_linux` of crates/linux_calls has the same rows.
 """
 import os
 import subprocess

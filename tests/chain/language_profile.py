@@ -1,8 +1,10 @@
-"""The languages hex1, hex2 and M1 as docs/reference/ has them, once more in Python, for the scripts of this folder.
+"""The languages hex1, hex2 and M1 as docs/reference/ has them, once more in Python, for the scripts
+of this folder.
 
-No table or text of it comes from ddc or from the programs of examples/chain.
-`items(language, source)` and `expand(source)` give the items of a source, `link(items, base)` the bytes of items, `write(items)` their
-text. Each raises `Refused(number, place)`, with the numbers of the language's page.
+No table or text of it comes from ddc or from the programs of examples/chain. `items(language,
+source)` and `expand(source)` give the items of a source, `link(items, base)` the bytes of items,
+`write(items)` their text. Each raises `Refused(number, place)`, with the numbers of the language's
+page.
 """
 
 BLANKS = b" \t\n\r"

@@ -1,4 +1,5 @@
-"""Random sources of the languages hex1, hex2 and M1, for the scripts of this folder: well-formed ones, and any tokens in any order."""
+"""Random sources of the languages hex1, hex2 and M1, for the scripts of this folder: well-formed
+ones, and any tokens in any order."""
 
 import re
 
@@ -152,7 +153,8 @@ def near_words(chance):
 
 
 def for_debian(text):
-    """A well-formed source of M1 as Debian's M1 takes it: digits stand in quotes, and fields are defined."""
+    """A well-formed source of M1 as Debian's M1 takes it: digits stand in quotes, and fields are
+    defined."""
     defines = []
 
     def other(match):
@@ -168,7 +170,8 @@ def for_debian(text):
 
 
 def altered(chance, language):
-    """A well-formed source with an edit: a token gone, doubled or moved, a label once more, or another byte somewhere."""
+    """A well-formed source with an edit: a token gone, doubled or moved, a label once more, or
+    another byte somewhere."""
     tokens = re.findall(r"\S+\s*", well_formed(chance, language))
     labels = [token for token in tokens if token.startswith(":")]
     place = chance.randrange(len(tokens))

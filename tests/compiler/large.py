@@ -1,5 +1,6 @@
 #!/usr/bin/env python3
-"""Prints a C program with large functions, frames, structures, numbers of arguments and of cases, and distances of jumps and calls."""
+"""Prints a C program with large functions, frames, structures, numbers of arguments and of cases,
+and distances of jumps and calls."""
 
 
 def main():

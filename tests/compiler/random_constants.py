@@ -1,6 +1,6 @@
 #!/usr/bin/env python3
-"""Prints a C program of random constant expressions: as initialisers of file level, constants of enumerations, cases, and the same
-computed as the program runs.
+"""Prints a C program of random constant expressions: as initialisers of file level, constants of
+enumerations, cases, and the same computed as the program runs.
 
     random_constants.py NUMBER
 """

@@ -3,9 +3,10 @@
 
     random_program.py NUMBER
 
-The same number gives the same program. Sums of signed types may wrap, which gcc is told by -fwrapv; shifts are masked, divisors have a bit
-set and no sign, indices are masked, loops count. An expression has no effect but where it is a whole statement; functions that are called in
-expressions touch nothing but their parameters and locals.
+The same number gives the same program. Sums of signed types may wrap, which gcc is told by -fwrapv;
+shifts are masked, divisors have a bit set and no sign, indices are masked, loops count. An
+expression has no effect but where it is a whole statement; functions that are called in expressions
+touch nothing but their parameters and locals.
 """
 
 import random

@@ -1,5 +1,6 @@
 #!/usr/bin/env python3
-"""Prints a C program of random structures: their sizes, where their members are, and all their bytes with a mark in each member.
+"""Prints a C program of random structures: their sizes, where their members are, and all their
+bytes with a mark in each member.
 
     random_structures.py NUMBER
 """

@@ -1,4 +1,5 @@
-"""What the scripts of this folder share: cc as gcc of this machine makes it, and programs made by cc and by gcc for RISC-V, run by qemu."""
+"""What the scripts of this folder share: cc as gcc of this machine makes it, and programs made by
+cc and by gcc for RISC-V, run by qemu."""
 
 import pathlib
 import shutil
@@ -15,7 +16,8 @@ GCC_WORDS = ["-march=rv64im", "-mabi=lp64", "-mno-relax", "-O0", "-w", "-funsign
 
 
 def run(words, folder=None, seconds=600):
-    """Runs a program; gives its status, output and errors. One that takes too long has the status 'time'."""
+    """Runs a program; gives its status, output and errors. One that takes too long has the status
+    'time'."""
     try:
         done = subprocess.run(
             [str(word) for word in words], cwd=folder, capture_output=True, timeout=seconds
@@ -33,7 +35,8 @@ def must(words, folder=None):
 
 
 class Box:
-    """A folder with cc, the headers, and gcc's objects of the small C library of examples/tinycc. `cc` are the words that run another cc."""
+    """A folder with cc, the headers, and gcc's objects of the small C library of examples/tinycc.
+    `cc` are the words that run another cc."""
 
     def __init__(self, folder, cc=()):
         self.folder = pathlib.Path(folder)
@@ -72,7 +75,8 @@ class Box:
         ])
 
     def same(self, sources, stem):
-        """Compiles sources by both, and runs what they made. Gives '' where both leave the same, else what is wrong."""
+        """Compiles sources by both, and runs what they made. Gives '' where both leave the same,
+        else what is wrong."""
         results = []
         for name, by in (("gcc", self.by_gcc), ("cc", self.by_cc)):
             out = self.folder / f"{stem}.{name}.elf"

@@ -16,7 +16,8 @@ def commands(root):
 
 
 def is_named(variant, word, text):
-    """A command by its variant or its arm, by its plan or its ends, or by its row or entry of a page."""
+    """A command by its variant or its arm, by its plan or its ends, or by its row or entry of a
+    page."""
     stem = word.replace("-", "_")
     entry = re.escape(word).replace(r"\-", r"\\?-")
     forms = (rf"\b(?:CommandWord::|command\.|returns-in-){variant}\b",

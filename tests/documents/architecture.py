@@ -1,4 +1,5 @@
-"""docs/ARCHITECTURE.md against crates.txt: the picture of the families, the table of families, and the table of crates."""
+"""docs/ARCHITECTURE.md against crates.txt: the picture of the families, the table of families, and
+the table of crates."""
 import re
 
 WIDEST = 110

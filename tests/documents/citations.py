@@ -1,4 +1,5 @@
-"""What the documents cite: paths, links with their headings, crates, names of definitions beside a crate or a file, and clauses after their function."""
+"""What the documents cite: paths, links with their headings, crates, names of definitions beside a
+crate or a file, and clauses after their function."""
 import re
 from functools import cache
 
@@ -81,7 +82,8 @@ def check_paths(root, text):
 
 
 def check_files(root, paragraph, crates):
-    """A file without its folder is in the one that the paragraph named last by a path, or in the crate after its name."""
+    """A file without its folder is in the one that the paragraph named last by a path, or in the
+    crate after its name."""
     for found in FILE.finditer(paragraph):
         named = re.match(r" of `(\w+)`", paragraph[found.end():])
         before = re.findall(r"crates/(\w+)/?(specs|src|proofs)?", paragraph[:found.start()])
@@ -115,7 +117,8 @@ def check_qualified(root, text, crates):
 
 
 def check_beside(root, text, crates, has_kit):
-    """Names beside a crate or a module (`name` of `crate`) or a file (`path`, `name`), and crates that are called so."""
+    """Names beside a crate or a module (`name` of `crate`) or a file (`path`, `name`), and crates
+    that are called so."""
     for cited, place in OF_CRATE.findall(text):
         parts = place.split("::")
         if has_kit and parts[0] not in crates:
@@ -135,7 +138,8 @@ def check_beside(root, text, crates, has_kit):
 
 @cache
 def words(root):
-    """Every word of the crates' sources and of what tests, examples and benchmarks are made of, and the names of their files."""
+    """Every word of the crates' sources and of what tests, examples and benchmarks are made of, and
+    the names of their files."""
     files = [path for crate in stands_on(root) for path in sources(root, crate)]
     files += [
         path for folder in ("tests", "examples", "bench") for path in (root / folder).rglob("*")
@@ -150,7 +154,8 @@ def words(root):
 
 
 def check_words(root, paragraph):
-    """A name of several words is one of this repository, but for what was seen on a day, which is told in that day's names."""
+    """A name of several words is one of this repository, but for what was seen on a day, which is
+    told in that day's names."""
     if DAY.search(paragraph) or MEASURED.match(paragraph):
         return
     for name in re.findall(r"`([a-z]\w*_\w+)`", paragraph):
@@ -192,7 +197,8 @@ def check_headings(text, crates, root):
 
 
 def paragraphs(text):
-    """The text in pieces: paragraphs, items and rows. A block that is indented is a command or what it prints."""
+    """The text in pieces: paragraphs, items and rows. A block that is indented is a command or what
+    it prints."""
     kept = "\n".join("" if line.startswith("    ") else line for line in text.splitlines())
     for piece in re.split(r"\n\s*\n|\n(?=- |\d+\. |\| )", kept):
         yield re.sub(r"\s+", " ", piece)

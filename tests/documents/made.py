@@ -1,4 +1,5 @@
-"""The pages and pictures that a script prints: each is what its script prints now, byte for byte."""
+"""The pages and pictures that a script prints: each is what its script prints now, byte for
+byte."""
 import subprocess
 import sys
 from pathlib import Path

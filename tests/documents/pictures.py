@@ -1,4 +1,5 @@
-"""Pictures of recipes: each is what tools/draw makes of its recipe now, and what draw makes of a recipe says what stands there."""
+"""Pictures of recipes: each is what tools/draw makes of its recipe now, and what draw makes of a
+recipe says what stands there."""
 import re
 import subprocess
 import sys

@@ -1,4 +1,5 @@
-"""What every document keeps: its length, a page's question in its first line, a way to it from README.md, and no day on any page."""
+"""What every document keeps: its length, a page's question in its first line, a way to it from
+README.md, and no day on any page."""
 import re
 
 MOST_WORDS = {
@@ -38,7 +39,8 @@ def linked(root):
 
 
 def axioms(root):
-    """A fault where the last build of the program counted other axioms than README.md names; none where nothing was built here."""
+    """A fault where the last build of the program counted other axioms than README.md names; none
+    where nothing was built here."""
     log = root / "crates/ddc/out/build.log"
     counted = re.findall(r"axioms=(\d+)", log.read_text(errors="replace")) if log.is_file() else []
     if counted and f"`axioms={counted[-1]}`" not in (root / "README.md").read_text():

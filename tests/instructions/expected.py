@@ -1,13 +1,15 @@
 #!/usr/bin/env python3
-"""Prints the tables of crates/machine_tests/src/instructions.rt, as the GNU assembler and objdump give them.
+"""Prints the tables of crates/machine_tests/src/instructions.rt, as the GNU assembler and objdump
+give them.
 
-It needs riscv64-linux-gnu-as, -ld, -objdump and -objcopy (Debian: binutils-riscv64-linux-gnu). Run it in this folder:
+It needs riscv64-linux-gnu-as, -ld, -objdump and -objcopy (Debian: binutils-riscv64-linux-gnu). Run
+it in this folder:
 
     ./expected.py          prints both tables
     ./expected.py check    says whether they stand in the test
 
-objdump's text is rewritten by rule into this repository's: a blank after each comma, shifts in decimal, LUI and AUIPC
-with five hexadecimal digits, targets with sixteen, FENCE without its sets.
+objdump's text is rewritten by rule into this repository's: a blank after each comma, shifts in
+decimal, LUI and AUIPC with five hexadecimal digits, targets with sixteen, FENCE without its sets.
 """
 import pathlib
 import re

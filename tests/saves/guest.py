@@ -1,7 +1,9 @@
-"""A guest as docs/reference has it, in Python: loader.md and running.md for its start, machine.md, memory.md and calls.md for its steps.
+"""A guest as docs/reference has it, in Python: loader.md and running.md for its start, machine.md,
+memory.md and calls.md for its steps.
 
-It has the instructions and the calls that the programs of examples/report and examples/audit use, on the ways that these programs take. At any
-other it stops with a message, so it says nothing of a program that it has no rule for.
+It has the instructions and the calls that the programs of examples/report and examples/audit use,
+on the ways that these programs take. At any other it stops with a message, so it says nothing of a
+program that it has no rule for.
 """
 
 PAGE = 4096

@@ -1,9 +1,11 @@
 #!/usr/bin/env python3
-"""Writes what differs between a position of an audit and an earlier or later one, its base, by docs/reference/delta.md, save.md and guest.py alone.
+"""Writes what differs between a position of an audit and an earlier or later one, its base, by
+docs/reference/delta.md, save.md and guest.py alone.
 
     tests/saves/write_delta.py RECIPE FIRST STEPS >DELTA
 
-RECIPE is read in its own folder; FIRST is after how many steps the base stands, and STEPS after how many the position does, as for write_save.py.
+RECIPE is read in its own folder; FIRST is after how many steps the base stands, and STEPS after how
+many the position does, as for write_save.py.
 """
 
 import copy
@@ -69,7 +71,8 @@ def kept_stages(base, done):
 
 
 class Place:
-    """Where an audit stands: the text of its save, the stages that are done and the present guest."""
+    """Where an audit stands: the text of its save, the stages that are done and the present
+    guest."""
 
     def __init__(self, audit):
         self.save, self.old_save, self.line = audit.save(), None, "paused {} {}\n".format(

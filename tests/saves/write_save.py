@@ -3,8 +3,9 @@
 
     tests/saves/write_save.py [--first-form] RECIPE STEPS >SAVE
 
-RECIPE is read in its own folder; STEPS is how many steps were taken, from 0. The end of a stage's run counts as a step, as it does in `part`.
-What a check would say of an artefact is not looked at. With --first-form the save has the first form, which `part` does not write any more.
+RECIPE is read in its own folder; STEPS is how many steps were taken, from 0. The end of a stage's
+run counts as a step, as it does in `part`. What a check would say of an artefact is not looked at.
+With --first-form the save has the first form, which `part` does not write any more.
 """
 
 import hashlib
