@@ -11,6 +11,7 @@ from typing import NoReturn
 
 from ddc_tests.checks import Done, Word, ran
 from ddc_tests.program import BUILT, TOP
+from ddc_tests.steps import Wrong, need
 
 PASSWORDS = ("a long password", "open sesame", "another")
 TRUE, TRUSTING = "welcome refused refused", "welcome welcome refused"
@@ -18,15 +19,8 @@ MAKE_REPORT = TOP / "tests/tinycc/make-report"
 
 
 def fail(text: str) -> NoReturn:
-    """Says what is wrong, and ends the test."""
-    print(f"FAILED: {text}", file=sys.stderr)
-    sys.exit(1)
-
-
-def need(is_right: bool, text: str) -> None:
-    """Ends the test where something is not right."""
-    if not is_right:
-        fail(text)
+    """Ends the test, which is wrong in this."""
+    raise Wrong(text)
 
 
 def tell(text: str) -> None:
@@ -45,11 +39,6 @@ def call(words: Sequence[Word], folder: Path) -> None:
     sys.stdout.flush()
     status = subprocess.run(list(words), cwd=folder, check=False).returncode
     need(status == 0, f"{words[0]}: status {status}")
-
-
-def same(one: Path, other: Path) -> None:
-    """Two files have to be the same."""
-    need(one.read_bytes() == other.read_bytes(), f"{one} and {other} differ")
 
 
 def printed(words: Sequence[Word], folder: Path) -> str:
