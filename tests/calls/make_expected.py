@@ -14,8 +14,8 @@ import os
 import subprocess
 import tempfile
 
-NUMBERS = {"unlinkat": 35, "faccessat": 48, "fchmodat": 53, "openat": 56, "close": 57, "lseek": 62, "read": 63,
-           "write": 64}
+NUMBERS = {"unlinkat": 35, "faccessat": 48, "fchmodat": 53, "openat": 56, "close": 57,
+           "lseek": 62, "read": 63, "write": 64}
 CWD = -100
 # the guest's memory: texts at TEXTS + 64 * place, a buffer, and an address that isn't mapped
 TEXTS = ["f", "g", "./f", "././g", "", "h"]
@@ -77,7 +77,8 @@ def term(argument):
 
 
 def program(script):
-    lines = ["#include <stdio.h>", "#include <unistd.h>", "#include <errno.h>", "#include <sys/syscall.h>",
+    lines = ["#include <stdio.h>", "#include <unistd.h>", "#include <errno.h>",
+             "#include <sys/syscall.h>",
              "static char buffer[4096] = \"0123456789abcdef\";", "static long out[64];",
              "static long ask(long n, long a, long b, long c, long d)",
              "{ long r = syscall(n, a, b, c, d); return r < 0 ? -(long)errno : r; }",

@@ -37,7 +37,8 @@ class Constants(random_program.Program):
         for number, text in enumerate(texts):
             self.put(f'    printf("%d %ld\\n", (int)sizeof({text}), (long)({text}));')
         for number in range(20):
-            self.put(f'    printf("%ld %d %ld\\n", (long)scalar{number}, CONSTANT{number}, choose(values[{number}]));')
+            self.put(f'    printf("%ld %d %ld\\n", (long)scalar{number}, CONSTANT{number}, '
+                     f'choose(values[{number}]));')
         self.put("    return 0;\n}")
         return "\n".join(self.lines) + "\n"
 

@@ -8,7 +8,8 @@ bytes with a mark in each member.
 import random
 import sys
 
-PLAIN = ["char", "signed char", "short", "unsigned short", "int", "unsigned", "long", "unsigned long", "char *", "float", "double", "long double",
+PLAIN = ["char", "signed char", "short", "unsigned short", "int", "unsigned", "long",
+         "unsigned long", "char *", "float", "double", "long double",
          "int (*", "char[3]", "short[5]", "long[2]"]
 FIELDS = [
     ("int", 32), ("unsigned", 32), ("short", 16), ("unsigned short", 16), ("char", 8),
@@ -66,19 +67,24 @@ class Structure:
         lines.append(f"char last{self.number};")
         kind = self.random.choice(["struct", "struct", "union"])
         name = f"{kind} s{self.number}"
-        out = [f"{name} {{ {' '.join(lines)} }};", f"struct in{self.number} {{ char before; {name} inside; char after; }};",
+        out = [f"{name} {{ {' '.join(lines)} }};",
+               f"struct in{self.number} {{ char before; {name} inside; char after; }};",
                f"static {name} v{self.number};", f"static void show{self.number}(void) {{",
                f"    {name} *at = &v{self.number}, copy;",
-               f'    printf("{self.number}: %d %d\\n", (int)sizeof({name}), (int)sizeof(struct in{self.number}));']
+               f'    printf("{self.number}: %d %d\\n", (int)sizeof({name}), '
+               f'(int)sizeof(struct in{self.number}));']
         for member, type_name in self.plain:
             out.append(f'    printf(" %d", (int)((char *)&at->{member} - (char *)at));')
         for member, width, type_name in self.fields:
             for value in (-1, 0, self.random.randrange(1 << 32)):
-                out.append(f"    clear(at, sizeof *at); at->{member} = {value}; bytes(at, sizeof *at); printf(\" %d\", (int)at->{member});")
-            out.append(f"    at->{member} += 3; at->{member}++; --at->{member}; at->{member} ^= 5; printf(\" %d %d\", (int)(at->{member} + 0), "
+                out.append(f"    clear(at, sizeof *at); at->{member} = {value}; "
+                           f"bytes(at, sizeof *at); printf(\" %d\", (int)at->{member});")
+            out.append(f"    at->{member} += 3; at->{member}++; --at->{member}; at->{member} ^= 5; "
+                       f"printf(\" %d %d\", (int)(at->{member} + 0), "
                        f"(int)(at->{member} = {self.random.randrange(1 << 16)}));")
             out.append(f"    printf(\" %d %d\", at->{member} - 200 < 0, (at->{member} << 1) > -1);")
-        out.append("    fill(at, sizeof *at); copy = *at; bytes(&copy, sizeof copy); bytes(at, sizeof *at);")
+        out.append("    fill(at, sizeof *at); copy = *at; "
+                   "bytes(&copy, sizeof copy); bytes(at, sizeof *at);")
         out.append("}")
         return "\n".join(out)
 
@@ -89,8 +95,10 @@ def main(number):
     print(
         "static void clear(void *what, int size) { char *at = what; while (size-- > 0) *at++ = 0; }"
     )
-    print("static void fill(void *what, int size) { char *at = what; while (size > 0) *at++ = 7 * size--; }")
-    print('static void bytes(void *what, int size) { char *at = what; printf("\\n"); while (size-- > 0) printf("%02x", *at++); }')
+    print("static void fill(void *what, int size) "
+          "{ char *at = what; while (size > 0) *at++ = 7 * size--; }")
+    print('static void bytes(void *what, int size) { char *at = what; printf("\\n"); '
+          'while (size-- > 0) printf("%02x", *at++); }')
     for each in range(40):
         print(Structure(random_numbers, each).text())
     print("int main(void) {")

@@ -11,8 +11,8 @@ COMPILER = TOP / "examples/compiler"
 TINYCC = TOP / "examples/tinycc"
 HEADERS = ["assert", "errno", "setjmp", "stdio", "stdlib", "string"]
 HOST_WORDS = ["-O1", "-w", "-funsigned-char", "-fwrapv", "-fno-strict-aliasing"]
-GCC_WORDS = ["-march=rv64im", "-mabi=lp64", "-mno-relax", "-O0", "-w", "-funsigned-char", "-fwrapv", "-fno-strict-aliasing", "-ffreestanding",
-             "-fno-builtin", "-nostdinc"]
+GCC_WORDS = ["-march=rv64im", "-mabi=lp64", "-mno-relax", "-O0", "-w", "-funsigned-char", "-fwrapv",
+             "-fno-strict-aliasing", "-ffreestanding", "-fno-builtin", "-nostdinc"]
 
 
 def run(words, folder=None, seconds=600):
@@ -65,8 +65,8 @@ class Box:
             self.objects.append(made)
 
     def by_gcc(self, sources, out):
-        return run(["riscv64-unknown-elf-gcc", *GCC_WORDS, "-I", self.include, "-nostdlib", "-static", "-o", out, *self.objects, *sources,
-                    "-lgcc"])
+        return run(["riscv64-unknown-elf-gcc", *GCC_WORDS, "-I", self.include, "-nostdlib",
+                    "-static", "-o", out, *self.objects, *sources, "-lgcc"])
 
     def by_cc(self, sources, out, words=()):
         return run([
@@ -85,7 +85,8 @@ class Box:
                 return f"{name} ended with {status}: {error.decode(errors='replace')[:500]}"
             results.append(run(["qemu-riscv64", "-cpu", "rv64,f=false,d=false,c=false", out])[:2])
         if results[0] != results[1]:
-            return f"gcc's ended with {results[0][0]}, cc's with {results[1][0]}; output {difference(results[0][1], results[1][1])}"
+            return (f"gcc's ended with {results[0][0]}, cc's with {results[1][0]}; "
+                    f"output {difference(results[0][1], results[1][1])}")
         return ""
 
 
@@ -96,4 +97,5 @@ def difference(one, other):
     for number, (mine, yours) in enumerate(zip(lines, others), 1):
         if mine != yours:
             return f"differs in line {number}: {mine!r} and {yours!r}"
-    return "is the same" if len(lines) == len(others) else f"has {len(lines)} and {len(others)} lines"
+    return ("is the same" if len(lines) == len(others)
+            else f"has {len(lines)} and {len(others)} lines")
