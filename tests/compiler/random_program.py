@@ -17,8 +17,8 @@ TYPES = [
     "long long", "unsigned long long"
 ]
 BITS = {"char": 8, "signed char": 8, "short": 16, "unsigned short": 16, "int": 32, "unsigned": 32}
-EDGES = [0, 1, 2, 7, 8, 127, 128, 255, 256, 32767, 32768, 65535, 65536, 2147483647, 2147483648, 4294967295, 4294967296,
-         9223372036854775807, 0x8000000000000000, 0xFFFFFFFFFFFFFFFF]
+EDGES = [0, 1, 2, 7, 8, 127, 128, 255, 256, 32767, 32768, 65535, 65536, 2147483647, 2147483648,
+         4294967295, 4294967296, 9223372036854775807, 0x8000000000000000, 0xFFFFFFFFFFFFFFFF]
 FIELDS = [
     ("int", 31), ("unsigned", 32), ("short", 15), ("unsigned short", 16), ("char", 8),
     ("unsigned char", 8), ("signed char", 7)
@@ -79,7 +79,8 @@ class Program:
         if kind == 8:
             return f"((int)({one()}) {r.choice(['<<', '>>'])} ({one()} & 31))"
         if kind == 9:
-            return f"(({r.choice(['long', 'unsigned long'])})({one()}) {r.choice(['<<', '>>'])} ({one()} & 63))"
+            return (f"(({r.choice(['long', 'unsigned long'])})({one()}) "
+                    f"{r.choice(['<<', '>>'])} ({one()} & 63))")
         if kind == 10:
             return f"((unsigned)({one()}) >> ({one()} & 31))"
         if kind == 11:
@@ -258,10 +259,12 @@ class Program:
         self.arrays = []
         for _ in range(2):
             name = self.name("row")
-            self.put(f"{r.choice(TYPES)} {name}[8] = {{ {', '.join(self.constant() for _ in range(r.randrange(1, 9)))} }};")
+            self.put(f"{r.choice(TYPES)} {name}[8] = "
+                     f"{{ {', '.join(self.constant() for _ in range(r.randrange(1, 9)))} }};")
             self.arrays.append(name)
         self.put(f"{r.choice(TYPES)} grid[4][8] = {{ {{ 1, 2, 3 }}, 4, 5, 6 }};")
-        self.put(f"struct box box, boxes[4] = {{ {{ {self.constant()}, {self.constant()} }}, 5, 6 }}, *pointer = boxes;")
+        self.put(f"struct box box, boxes[4] = {{ {{ {self.constant()}, {self.constant()} }}, "
+                 f"5, 6 }}, *pointer = boxes;")
         for member in self.members:
             self.scalars += [f"box.{member}", f"pointer->{member}"]
             self.places += [f"box.{member}", f"pointer->{member}"]
@@ -304,7 +307,8 @@ class Program:
 
     def digest(self):
         self.put("static unsigned long digest;")
-        self.put("static void add(unsigned long value) { digest = digest * 1000003 + value; digest ^= digest >> 29; }")
+        self.put("static void add(unsigned long value) "
+                 "{ digest = digest * 1000003 + value; digest ^= digest >> 29; }")
 
     def main(self):
         self.put("int main(void) {")

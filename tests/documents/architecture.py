@@ -61,7 +61,8 @@ def check_members(table, needs):
     for crate in sorted(set(held) | set(needs)):
         count = held.count(crate) if crate in needs else -1
         if count != 1:
-            yield f"{crate}: of {max(count, 0)} families" if count >= 0 else f"{crate}: no crate of crates.txt"
+            yield (f"{crate}: of {max(count, 0)} families" if count >= 0
+                   else f"{crate}: no crate of crates.txt")
 
 
 def check_families(table, needs):
@@ -72,7 +73,8 @@ def check_families(table, needs):
             family_of.get(other) for crate in crates for other in needs.get(crate, [])
         } - {family}
         if set(said) != below:
-            yield f"family {family}: stands on {sorted(map(str, below))}, and the table says {sorted(said)}"
+            yield (f"family {family}: stands on {sorted(map(str, below))}, "
+                   f"and the table says {sorted(said)}")
 
 
 def check_drawing(table, placed, lines):

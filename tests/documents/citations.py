@@ -19,7 +19,8 @@ DAY = re.compile(r"\b20\d\d-\d\d-\d\d\b")
 CLAUSED = re.compile(r"`((?:\w+::)*\w+)` \(((?:`\w+`(?:, )?)+)\)")
 IN_FILE = re.compile(rf"`(crates/[\w/]+\.(?:antt|rt))`((?:, {QUOTED}| and {QUOTED})+)")
 DEFINED = [
-    r"\b(?:fn|struct|enum|trait|const|static|mod|type|macro_rules!|record|data|ensures|requires|ghost)\s+([\w-]+)",
+    r"\b(?:fn|struct|enum|trait|const|static|mod|type|macro_rules!|record|data|ensures|requires"
+    r"|ghost)\s+([\w-]+)",
     r"^\s*(?:(?:abbrev|unfoldable|pub)\s+)*([\w-]+)\s*:",
     r"^\s+([A-Z]\w*)(?:\(.*\)| \{.*)?,$",
 ]
@@ -88,7 +89,8 @@ def check_files(root, paragraph, crates):
         named = re.match(r" of `(\w+)`", paragraph[found.end():])
         before = re.findall(r"crates/(\w+)/?(specs|src|proofs)?", paragraph[:found.start()])
         crate, folder = (named.group(1), "") if named else before[-1] if before else ("", "")
-        end = found.group(1) if "/" in found.group(1) else f"{folder}/**/{found.group(1)}" if folder else f"**/{found.group(1)}"
+        end = (found.group(1) if "/" in found.group(1)
+               else f"{folder}/**/{found.group(1)}" if folder else f"**/{found.group(1)}")
         if not any(
             list((root / "crates" / other).glob(end)) for other in ([crate] if crate else crates)
         ):

@@ -27,15 +27,18 @@ def limits():
 
 def call(folder, words, given=b""):
     """What a call comes to, with the processor's seconds and the most memory that it took."""
-    with tempfile.TemporaryFile() as stdin, tempfile.TemporaryFile() as out, tempfile.TemporaryFile() as errors:
+    with (tempfile.TemporaryFile() as stdin, tempfile.TemporaryFile() as out,
+          tempfile.TemporaryFile() as errors):
         stdin.write(given)
         stdin.seek(0)
-        running = subprocess.Popen([DDC, *words], cwd=folder, stdin=stdin, stdout=out, stderr=errors, preexec_fn=limits)
+        running = subprocess.Popen([DDC, *words], cwd=folder, stdin=stdin, stdout=out,
+                                   stderr=errors, preexec_fn=limits)
         _, status, used = os.wait4(running.pid, 0)
         running.returncode = os.waitstatus_to_exitcode(status)
         out.seek(0)
         errors.seek(0)
-        return Seen(running.returncode, out.read(), errors.read(), used.ru_utime + used.ru_stime, used.ru_maxrss << 10)
+        return Seen(running.returncode, out.read(), errors.read(), used.ru_utime + used.ru_stime,
+                    used.ru_maxrss << 10)
 
 
 class Folder:
@@ -54,7 +57,8 @@ class Folder:
         path.write_bytes(content)
 
     def held(self):
-        return {os.path.relpath(path, self.at): path.read_bytes() for path in self.root.rglob("*") if path.is_file()}
+        return {os.path.relpath(path, self.at): path.read_bytes()
+                for path in self.root.rglob("*") if path.is_file()}
 
     def case(self, one, changed):
         """The faults of one call, over files of which one is changed."""
@@ -89,7 +93,8 @@ class Folder:
             saved = len(words) - 1
         written = os.path.relpath(self.at / words[saved], self.at) if saved else None
         for it in sorted(before.keys() | after.keys()):
-            is_state = words[0] == "cut" and re.fullmatch(re.escape(words[4]) + r"\.(?:0|[1-9][0-9]{0,2})", it)
+            is_state = words[0] == "cut" and re.fullmatch(
+                re.escape(words[4]) + r"\.(?:0|[1-9][0-9]{0,2})", it)
             if it != written and not is_state and before.get(it) != after.get(it):
                 yield f"changed {it}"
         if written and written not in after:
@@ -104,9 +109,11 @@ class Folder:
             made = call(self.at, ["audit", words[1], "anew"])
             if made.status != seen.status or (self.at / "anew").read_bytes() != report:
                 yield f"{seen.status} of a report that audit, with {made.status}, does not write"
-        if command in ("audit", "part", "resume", "delta-start", "delta-resume") and seen.status in (0, 3):
+        if (command in ("audit", "part", "resume", "delta-start", "delta-resume")
+                and seen.status in (0, 3)):
             judged = call(self.at, ["verify", words[1], words[SAVES[command][seen.status]]])
-            is_altered = command in ("resume", "delta-start", "delta-resume") and one.altered in words[2:4]
+            is_altered = (command in ("resume", "delta-start", "delta-resume")
+                          and one.altered in words[2:4])
             if judged.status != seen.status and not (is_altered and judged.status == 1):
                 yield f"its report, after {seen.status}, is verified with {judged.status}"
         if command in ("kaem", "kaem-verify", "kaem-left"):
@@ -115,15 +122,19 @@ class Folder:
             yield "printed another text than the file's"
         if command == "list" and seen.status == 0:
             rows = [row.split() for row in seen.text.decode().splitlines()]
-            listed = b"".join(bytes.fromhex(row[2]) if row[1] == "rest" else bytes.fromhex(row[1])[::-1] for row in rows)
-            if listed != read(1) or any(int(row[0], 16) != 4 * place for place, row in enumerate(rows)):
+            listed = b"".join(bytes.fromhex(row[2]) if row[1] == "rest"
+                              else bytes.fromhex(row[1])[::-1] for row in rows)
+            if listed != read(1) or any(int(row[0], 16) != 4 * place
+                                        for place, row in enumerate(rows)):
                 yield "listed other words than the file's"
         if command == "asm" and seen.status == 0 and seen.text != b"made %d\n" % len(read(4)):
             yield "made another length than what was saved"
         if command == "hex0":
             ours, theirs = hex0_value(read(1)), read(2)
-            at = next((i for i, (one, other) in enumerate(zip(ours, theirs)) if one != other), min(len(ours), len(theirs)))
-            wanted = f"equal {len(ours)}\n" if ours == theirs else f"differs {at} {len(ours)} {len(theirs)}\n"
+            at = next((i for i, (one, other) in enumerate(zip(ours, theirs)) if one != other),
+                      min(len(ours), len(theirs)))
+            wanted = (f"equal {len(ours)}\n" if ours == theirs
+                      else f"differs {at} {len(ours)} {len(theirs)}\n")
             if seen.text.decode() != wanted:
                 yield f"not {wanted!r}"
 
@@ -132,7 +143,8 @@ class Folder:
         """What is wrong with a call on a script."""
         text = seen.text.decode("utf-8", "replace")
         script, listed = script_fault(read(1)), list_fault(read(2))
-        wanted = f"script refused {script[0]} {script[1]}\n" if script else f"list refused {listed}\n" if listed else None
+        wanted = (f"script refused {script[0]} {script[1]}\n" if script
+                  else f"list refused {listed}\n" if listed else None)
         too_long = any(len(read(place)) > 1 << 20 for place in (1, 2))
         if not too_long and (text != wanted if wanted else seen.status in (15, 16)):
             yield f"{text!r}, where the reader says {wanted!r}"
@@ -142,8 +154,11 @@ class Folder:
                 yield f"its report is verified with {judged.status}, {judged.text!r}"
         if words[0] == "kaem" and seen.status == 6:
             number, cause = text.removeprefix("run failed ").split(" ", 1)
-            left = call(self.at, ["kaem-left", *words[1:3], words[4], number, "1", "kept"]).text.decode("utf-8", "replace")
-            if not re.fullmatch(f"(?:run failed|left) {number} (?:1 {NUMBER} )?{re.escape(cause)}", left):
+            left = call(
+                self.at, ["kaem-left", *words[1:3], words[4], number, "1", "kept"]
+            ).text.decode("utf-8", "replace")
+            if not re.fullmatch(
+                    f"(?:run failed|left) {number} (?:1 {NUMBER} )?{re.escape(cause)}", left):
                 yield f"{text!r}, and kaem-left says {left!r}"
         if words[0] == "kaem-verify" and seen.status == 0:
             made = call(self.at, ["kaem", *words[1:3], "anew", "1000000"])
@@ -163,7 +178,8 @@ def audits(recipe, files, stages, room):
     for name in ["save"] * 6:
         yield Call(["resume", recipe, "save", "new", "100000000"], name)
     yield Call(["show", "report"], "report")
-    session = b"step 7\nwhere\nregs\nmem 10078 16\nback 3\nbreak 10080\ngo\nstep 1\nmem 0 1\nback 5\nquit\nwhere\n"
+    session = (b"step 7\nwhere\nregs\nmem 10078 16\nback 3\nbreak 10080\ngo\nstep 1\nmem 0 1\n"
+               b"back 5\nquit\nwhere\n")
     for stage in stages:
         yield Call(["step", recipe, stage], recipe, session)
         yield Call(["step", recipe, stage], None, session)
@@ -207,11 +223,16 @@ def folders(top):
     """The folders, with the good files in them and the calls on these."""
     for name in ("audit", "chain", "report", "asm", "hex0", "run"):
         shutil.copytree(TOP / "examples" / name, top / "whole" / name)
-    whole = {name: {it.name: it.read_bytes() for it in (top / "whole" / name).iterdir() if it.is_file()} for name in os.listdir(top / "whole")}
+    whole = {
+        name: {it.name: it.read_bytes() for it in (top / "whole" / name).iterdir() if it.is_file()}
+        for name in os.listdir(top / "whole")
+    }
     for name, recipe, inputs, stages, piece, weight in (
         ("report", "a.toml", ["copy.elf", "copy.hex0", "a.bin", "b.bin"], ["one", "two"], "40", 40),
-        ("audit", "audit.toml", ["seed.elf", "hex0.hex0", "hex0.elf"], ["first", "second"], "70000", 20),
-        ("chain", "chain.toml", ["hex2.hex1", "M1.hex2", "M1.M1", "M1.elf"], ["made_hex2"], "1500000", 2),
+        ("audit", "audit.toml", ["seed.elf", "hex0.hex0", "hex0.elf"], ["first", "second"],
+         "70000", 20),
+        ("chain", "chain.toml", ["hex2.hex1", "M1.hex2", "M1.M1", "M1.elf"], ["made_hex2"],
+         "1500000", 2),
         ("chain", "wheeler.toml", ["M1.M1", "riscv64.M1", "M1.elf"], ["second"], "1500000", 2),
         ("chain", "routes.toml", ["M1.M1", "M1-by-gcc.elf", "M1.elf"], ["by_gcc"], "1500000", 2),
     ):
@@ -219,7 +240,8 @@ def folders(top):
         for words in (["audit", recipe, "report"], ["part", recipe, "save", "none", piece]):
             done = call(at, words)
             if done.status not in (0, 8):
-                raise SystemExit(f"hostile: {words} over the good files ended with {done.status}: {done.text.decode()}")
+                raise SystemExit(f"hostile: {words} over the good files ended with {done.status}: "
+                                 f"{done.text.decode()}")
         made = {it: (at / it).read_bytes() for it in ("report", "save")}
         made["list"] = f"{recipe} report\n{recipe} report\n".encode()
         calls = [*audits(recipe, inputs, stages, piece)]
@@ -231,16 +253,23 @@ def folders(top):
         cut = call(at, ["cut", recipe, stages[0], every, "state"])
         if cut.status == 0:
             count = int(cut.text.split()[1])
-            made |= {f"state.{number}": (at / f"state.{number}").read_bytes() for number in range(count)}
+            made |= {f"state.{number}": (at / f"state.{number}").read_bytes()
+                     for number in range(count)}
             if count > 1:
                 calls += pieces(recipe, inputs, stages[0], every, count)
-        below = {f"../audit/{it}": content for it, content in whole["audit"].items()} if name == "chain" else {}
-        yield Folder(top / f"{name}-{recipe}", name, {**whole[name], **made, **below}, calls, weight)
-    asm = [Call(["asm", language, "65536", it, "made"], it) for language, it in (("hex2", "greet.hex2"), ("m1", "greet.m1")) for _ in range(6)]
-    asm += [Call(["asm", language, "0", "greet.hex2", "made"], "greet.hex2") for language in ("hex0", "hex1", "m1")]
+        below = ({f"../audit/{it}": content for it, content in whole["audit"].items()}
+                 if name == "chain" else {})
+        yield Folder(top / f"{name}-{recipe}", name, {**whole[name], **made, **below}, calls,
+                     weight)
+    asm = [Call(["asm", language, "65536", it, "made"], it)
+           for language, it in (("hex2", "greet.hex2"), ("m1", "greet.m1")) for _ in range(6)]
+    asm += [Call(["asm", language, "0", "greet.hex2", "made"], "greet.hex2")
+            for language in ("hex0", "hex1", "m1")]
     yield Folder(top / "asm", "asm", whole["asm"], asm, 12)
-    hex0 = [Call(["hex0", "exit42.hex0", "exit42.elf"], it) for it in ("exit42.hex0", "exit42.elf")] * 3
-    yield Folder(top / "hex0", "hex0", whole["hex0"], [*hex0, *[Call(["list", "exit42.elf"], "exit42.elf")] * 3], 6)
+    hex0 = [Call(["hex0", "exit42.hex0", "exit42.elf"], it)
+            for it in ("exit42.hex0", "exit42.elf")] * 3
+    yield Folder(top / "hex0", "hex0", whole["hex0"],
+                 [*hex0, *[Call(["list", "exit42.elf"], "exit42.elf")] * 3], 6)
     programs = {it.name: it.read_bytes() for it in (TOP / "tests" / "programs").glob("*.elf")}
     runs = [Call(["run", "greet.elf", "100000", "a", "bc"], "greet.elf")] * 6
     runs += [Call(["run", "sort.elf", "300000", "fill", "in", "30", "in", "out"], "sort.elf"),
@@ -248,13 +277,15 @@ def folders(top):
              Call(["run", "atomics.elf", "300000", "put", "in", "abc", "in"], "atomics.elf"),
              Call(["list", "sha256.elf"], "sha256.elf")] * 3
     yield Folder(top / "run", "run", {**whole["run"], **programs}, runs, 12)
-    kaem = {"copy.elf": whole["report"]["copy.elf"], "in": whole["report"]["copy.elf"], "sha256.elf": programs["sha256.elf"]}
+    kaem = {"copy.elf": whole["report"]["copy.elf"], "in": whole["report"]["copy.elf"],
+            "sha256.elf": programs["sha256.elf"]}
     kaem["script"] = b'./copy.elf\n# made\n"out" x\nsha256.elf put "a # b" "" in out "a # b"\n'
     kaem["list"] = b"copy.elf\n./in\nsha256.elf\n"
     made = Folder(top / "kaem", "kaem", kaem, [*scripts()], 15)
     done = call(made.at, ["kaem", "script", "list", "report", "1000000"])
     if done.status != 0:
-        raise SystemExit(f"hostile: kaem over the good files ended with {done.status}: {done.text.decode()}")
+        raise SystemExit(f"hostile: kaem over the good files ended with {done.status}: "
+                         f"{done.text.decode()}")
     made.files["report"] = (made.at / "report").read_bytes()
     yield made
     demo = {it: whole["report"][it] for it in ("copy.elf", "copy.hex0")}

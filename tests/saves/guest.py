@@ -57,8 +57,10 @@ class Guest:
         self.load_image(program)
         self.heap = [max(self.ends) * PAGE, max(self.ends) * PAGE, heap]
         self.lay_stack([text + b"\0" for text in args], [text + b"\0" for text in env])
-        self.files = {number: [name, bytearray(files[name])] for number, name in enumerate(sorted(files))}
-        self.slots = {0: 0, 1: 1, 2: 2}  # a kind, or of an open file its number, its cursor and its flags
+        self.files = {number: [name, bytearray(files[name])]
+                      for number, name in enumerate(sorted(files))}
+        # A kind, or of an open file its number, its cursor and its flags.
+        self.slots = {0: 0, 1: 1, 2: 2}
         self.streams = {1: bytearray(), 2: bytearray()}
         self.reserved = None  # how many bytes, and their address
         self.exited = None
@@ -68,7 +70,8 @@ class Guest:
         self.ends = []
         for number in range(little(program[56:58])):
             header = program[headers + 56 * number :][:56]
-            offset, at, in_file, in_memory = (little(header[place : place + 8]) for place in (8, 16, 32, 40))
+            offset, at, in_file, in_memory = (little(header[place : place + 8])
+                                              for place in (8, 16, 32, 40))
             if little(header[:4]) != 1 or in_memory == 0:
                 continue
             end = (at + in_memory + PAGE - 1) // PAGE
@@ -121,25 +124,29 @@ class Guest:
 
     def step(self):
         word = little(self.get(self.pc, 4))
-        funct3, funct7, a, b = word >> 12 & 7, word >> 25, self.x[word >> 15 & 31], self.x[word >> 20 & 31]
+        funct3, funct7, a, b = (word >> 12 & 7, word >> 25,
+                                self.x[word >> 15 & 31], self.x[word >> 20 & 31])
         low, target, value = signed(word >> 20, 12), self.pc + 4, None
         match word & 127:
             case 0x37 | 0x17 as opcode:
                 value = signed(word & ~0xFFF, 32) + (self.pc if opcode == 0x17 else 0)
             case 0x6F:
-                bits = (word >> 31) << 20 | (word >> 12 & 0xFF) << 12 | (word >> 20 & 1) << 11 | (word >> 21 & 0x3FF) << 1
+                bits = ((word >> 31) << 20 | (word >> 12 & 0xFF) << 12 | (word >> 20 & 1) << 11
+                        | (word >> 21 & 0x3FF) << 1)
                 value, target = target, self.pc + signed(bits, 21)
             case 0x67 if funct3 == 0:
                 value, target = target, a + low & ~1
             case 0x63 if funct3 in BRANCHES:
-                bits = (word >> 31) << 12 | (word >> 7 & 1) << 11 | (word >> 25 & 0x3F) << 5 | (word >> 8 & 15) << 1
+                bits = ((word >> 31) << 12 | (word >> 7 & 1) << 11 | (word >> 25 & 0x3F) << 5
+                        | (word >> 8 & 15) << 1)
                 if BRANCHES[funct3](a, b):
                     target = self.pc + signed(bits, 13)
             case 0x03 if funct3 != 7:
                 data = self.get(a + low & WORD, 1 << (funct3 & 3))
                 value = little(data) if funct3 & 4 else signed(little(data), 8 * len(data))
             case 0x23 if funct3 < 4:
-                self.put(a + signed(funct7 << 5 | word >> 7 & 31, 12) & WORD, (b & WORD).to_bytes(8, "little")[: 1 << funct3])
+                self.put(a + signed(funct7 << 5 | word >> 7 & 31, 12) & WORD,
+                         (b & WORD).to_bytes(8, "little")[: 1 << funct3])
             case 0x13 if funct3 in ROWS:
                 value = ROWS[funct3](a, low & WORD)
             case 0x13 if funct3 == 1 and word >> 26 == 0:
